@@ -1,0 +1,33 @@
+-- The table is answered, by computation: a test over it, and the law that turns the test into the claim.
+use mathlib.Core.Path.{_≡_, refl, sym}
+use mathlib.Core.Bool.{Bool, true, false, true≢false, _&&_}
+use mathlib.Core.List.{List, [], _∷_}
+use Rattle.leaf.specs.Generation.{newer}
+use Rattle.leaf.specs.Date.{leap, monthDays, isDate, validDate}
+use Rattle.leaf.proofs.Numbers.{both-left, both-right}
+use Rattle.examples.specs.Examples.{Question, answer, table, Answered}
+
+abbrev same : Bool → Bool → Bool
+same true b = b
+same false true = false
+same false false = true
+
+same-is : (a b : Bool) → same a b ≡ true → a ≡ b
+same-is true b e = sym e
+same-is false true e = absurd (true≢false (sym e))
+same-is false false e = refl
+
+abbrev test : List (Question × Bool) → Bool
+test [] = true
+test (row ∷ rows) = same (answer (row .0)) (row .1) && test rows
+
+answered : (rows : List (Question × Bool)) → test rows ≡ true → Answered rows
+unfolding Answered
+answered [] e = tt
+answered (row ∷ rows) e =
+    let t = same (answer (row .0)) (row .1) in
+    (same-is (answer (row .0)) (row .1) (both-left t (test rows) e), answered rows (both-right t (test rows) e))
+
+pub theorem : Answered table
+unfolding table newer validDate isDate monthDays leap
+theorem = answered table refl

@@ -1,0 +1,30 @@
+-- Numbers in a list of bytes, little-endian. A byte past the end reads 0, so every reading is total.
+use mathlib.Core.List.{List, [], _∷_, _++_}
+use Prim.Native.Nat.{ℕ, _+_, _*_, _/_, _%_, _^_}
+use lib.Dec.{leb}
+use lib.IntN.{ℤ}
+use lib.ListN.{length, take, drop, getD}
+use Rattle.leaf.specs.Number.{pick, signed, unsigned}
+
+abbrev pub byte : List ℕ → ℕ → ℕ
+byte l at = getD l at 0
+
+-- the 32-bit number at a place
+unfoldable pub word : List ℕ → ℕ → ℕ
+word l at = byte l at + byte l (at + 1) * 2 ^ 8 + byte l (at + 2) * 2 ^ 16 + byte l (at + 3) * 2 ^ 24
+
+-- the signed 64-bit number at a place
+unfoldable pub time : List ℕ → ℕ → ℤ
+time l at = signed 64 (word l at + word l (at + 4) * 2 ^ 32)
+
+-- the four bytes of a 32-bit number
+unfoldable pub le32 : ℕ → List ℕ
+le32 n = n % 256 ∷ n / 2 ^ 8 % 256 ∷ n / 2 ^ 16 % 256 ∷ n / 2 ^ 24 % 256 ∷ []
+
+-- the eight bytes of a signed 64-bit number
+unfoldable pub le64 : ℤ → List ℕ
+le64 z = le32 (unsigned 64 z % 2 ^ 32) ++ le32 (unsigned 64 z / 2 ^ 32)
+
+-- a list with bytes put at a place: they take the place of as many, and every other byte stays; bytes that don't fit change nothing
+unfoldable pub written : List ℕ → ℕ → List ℕ → List ℕ
+written l at bytes = pick (leb (at + length bytes) (length l)) (take at l ++ bytes ++ drop (at + length bytes) l) l

@@ -1,0 +1,21 @@
+use Rattle.register.proofs.Table.{byte-steps}
+use borrow.Author.Needs.{needs}
+use Rattle.register.proofs.byte.Statement.{statement}
+use Rattle.register.proofs.byte.Tie as tie
+use Rattle.register.proofs.byte.Reads as reads
+use Rattle.register.proofs.byte.Lts as lts
+use Rattle.register.proofs.look.Reads as look-reads
+
+look-requires : tie.Need-look-requires
+look-requires c κs = search needs
+
+look-requires-2 : tie.Need-look-requires-2
+look-requires-2 c κs = search needs
+
+returns : tie.Need-returns
+returns c =
+    let a = c .before .before in
+    cc (byte-steps (a .args .crc) (a .args .b) (a .fits .b .fits))
+
+pub byte-spec : {M : Type 1} → statement M
+byte-spec = tie.close (tie.spec look-requires look-requires-2 returns)

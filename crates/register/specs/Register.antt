@@ -1,0 +1,23 @@
+-- The shift register that divides by the CRC's generator, one bit a step. The leaf crate's proofs/Division.antt proves that
+-- it computes the remainder of IEEE 802.3.
+use mathlib.Core.List.{List, [], _∷_}
+use Prim.Native.Nat.{ℕ, zero, suc, _+_, _*_, _/_, _%_}
+use lib.Bits.{bitXor}
+
+-- one bit: 0xedb8_8320 is the generator without x^32, its highest term in the lowest bit
+unfoldable pub step : ℕ → ℕ
+step r = bitXor (r / 2) (r % 2 * 0xedb8_8320)
+
+unfoldable pub steps : ℕ → ℕ → ℕ
+steps zero r = r
+steps (suc n) r = steps n (step r)
+
+-- the register after some bytes, each added into its low bits and shifted out
+unfoldable pub run : ℕ → List ℕ → ℕ
+run r [] = r
+run r (b ∷ bs) = run (steps 8 (bitXor r (b % 256))) bs
+
+-- bytes as one number, the first byte the lowest
+unfoldable pub little : List ℕ → ℕ
+little [] = 0
+little (b ∷ bs) = little bs * 256 + b % 256

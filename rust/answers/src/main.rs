@@ -1,0 +1,126 @@
+//! The core's answers, for programs in other languages to check.
+use std::{
+    fs,
+    io::{self, BufRead, BufWriter, Write},
+    process::ExitCode,
+};
+
+const HELP: &str = "\
+answers < REQUESTS
+answers --dates FILE
+
+Reads requests, one a line, and prints the core's answer to each, one a line:
+
+  date N           0 or 1: whether N is a date's number
+  new Y M D        the date's number, 0 where there is none
+  newer A B        0 or 1
+  next G           the generation after G
+  crc START HEX    the CRC-32 of the bytes, continued from START; - for no bytes
+  get HEX I        the number at I; bytes past the end read 0
+  put HEX I V      the bytes after writing V at I
+  time HEX I       the signed time at I
+  puttime HEX I V  the bytes after writing the time V at I
+  rotate X         X rotated left by 13
+
+--dates FILE writes one bit for each number from 0 to 100020000 (bit N modulo 8
+of byte N / 8), set where the number is a date's. Exit status: 0 done, 1 a
+request isn't understood or the file can't be written, 2 wrong use.
+";
+
+/// The numbers that --dates covers.
+const DATES: usize = 100_020_001;
+
+fn bytes(hex: &str) -> Option<Vec<u8>> {
+    if hex == "-" {
+        return Some(Vec::new());
+    }
+    if !hex.is_ascii() || !hex.len().is_multiple_of(2) {
+        return None;
+    }
+    (0..hex.len()).step_by(2).map(|i| u8::from_str_radix(&hex[i..i + 2], 16).ok()).collect()
+}
+
+fn hex(bytes: &[u8]) -> String {
+    if bytes.is_empty() {
+        return "-".into();
+    }
+    bytes.iter().map(|b| format!("{b:02x}")).collect()
+}
+
+fn answer(request: &str) -> Option<String> {
+    let words: Vec<&str> = request.split_ascii_whitespace().collect();
+    Some(match words[..] {
+        ["date", n] => u8::from(bankcore::valid_date(n.parse().ok()?)).to_string(),
+        ["new", y, m, d] => {
+            let number = bankcore::date_new(y.parse().ok()?, m.parse().ok()?, d.parse().ok()?);
+            number.unwrap_or(0).to_string()
+        }
+        ["newer", a, b] => u8::from(bankcore::newer(a.parse().ok()?, b.parse().ok()?)).to_string(),
+        ["next", g] => bankcore::next(g.parse().ok()?).to_string(),
+        ["crc", start, text] => bankcore::crc32(start.parse().ok()?, &bytes(text)?).to_string(),
+        ["get", text, i] => bankcore::get(&bytes(text)?, i.parse().ok()?).to_string(),
+        ["put", text, i, v] => {
+            let mut b = bytes(text)?;
+            bankcore::put(&mut b, i.parse().ok()?, v.parse().ok()?);
+            hex(&b)
+        }
+        ["time", text, i] => bankcore::get_time(&bytes(text)?, i.parse().ok()?).to_string(),
+        ["puttime", text, i, v] => {
+            let mut b = bytes(text)?;
+            bankcore::put_time(&mut b, i.parse().ok()?, v.parse().ok()?);
+            hex(&b)
+        }
+        ["rotate", x] => bankcore::rotate13(x.parse().ok()?).to_string(),
+        _ => return None,
+    })
+}
+
+fn dates() -> Vec<u8> {
+    let mut bits = vec![0; DATES.div_ceil(8)];
+    for n in 0..DATES {
+        bits[n / 8] |= u8::from(bankcore::valid_date(n as u32)) << (n % 8);
+    }
+    bits
+}
+
+fn serve() -> io::Result<bool> {
+    let mut out = BufWriter::new(io::stdout().lock());
+    for line in io::stdin().lock().lines() {
+        let line = line?;
+        match answer(&line) {
+            Some(text) => writeln!(out, "{text}")?,
+            None => {
+                out.flush()?;
+                eprintln!("answers: not understood: {}", line.chars().take(80).collect::<String>());
+                return Ok(false);
+            }
+        }
+    }
+    out.flush()?;
+    Ok(true)
+}
+
+fn main() -> ExitCode {
+    let arguments: Vec<String> = std::env::args().skip(1).collect();
+    let words: Vec<&str> = arguments.iter().map(String::as_str).collect();
+    let done = match words[..] {
+        ["--help"] | ["-h"] => {
+            print!("{HELP}");
+            Ok(true)
+        }
+        ["--dates", file] => fs::write(file, dates()).map(|()| true),
+        [] => serve(),
+        _ => {
+            eprintln!("answers: wrong arguments; see answers --help");
+            return ExitCode::from(2);
+        }
+    };
+    match done {
+        Ok(true) => ExitCode::SUCCESS,
+        Ok(false) => ExitCode::FAILURE,
+        Err(error) => {
+            eprintln!("answers: {error}");
+            ExitCode::FAILURE
+        }
+    }
+}

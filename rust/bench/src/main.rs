@@ -1,0 +1,184 @@
+//! CRC-32 side by side: the core, crc32fast's table path, crc32fast, zlib.
+use common::Random;
+use std::{
+    ffi::{CStr, c_char, c_ulong},
+    hint::black_box,
+    process::ExitCode,
+    time::Instant,
+};
+
+const HELP: &str = "\
+bench [--quick]
+
+Times the core's CRC-32 beside crc32fast's table path, crc32fast with SIMD and
+zlib, in one run, and prints their speeds as ratios to the table path.
+
+  --quick   a fifth of the rounds
+  --help    this text
+
+All four take turns in short batches, so that a busy machine slows all alike. A
+time is the lower decile of its batches; the median is given beside it. A ratio
+above 1 is faster than the table path. Exit status: 0 all three reached, 1 not,
+2 wrong use.
+";
+
+#[link(name = "z")]
+unsafe extern "C" {
+    fn crc32(crc: c_ulong, bytes: *const u8, length: u32) -> c_ulong;
+    fn zlibVersion() -> *const c_char;
+}
+
+fn zlib_version() -> String {
+    unsafe { CStr::from_ptr(zlibVersion()) }.to_string_lossy().into_owned()
+}
+
+fn core(bytes: &[u8]) -> u32 {
+    bankcore::crc32(0, bytes)
+}
+fn table(bytes: &[u8]) -> u32 {
+    let mut hash = crc32fast::Hasher::internal_new_baseline(0, 0);
+    hash.update(bytes);
+    hash.finalize()
+}
+fn simd(bytes: &[u8]) -> u32 {
+    crc32fast::hash(bytes)
+}
+fn zlib(bytes: &[u8]) -> u32 {
+    unsafe { crc32(0, bytes.as_ptr(), bytes.len() as u32) as u32 }
+}
+
+type Candidate = (&'static str, fn(&[u8]) -> u32);
+const CANDIDATES: [Candidate; 4] =
+    [("core", core), ("table", table), ("SIMD", simd), ("zlib", zlib)];
+const TABLE: usize = 1;
+const SIZES: [usize; 6] = [16, 64, 256, 1500, 4096, 487_424];
+const TARGETS: [(usize, f64); 3] = [(4096, 1.0), (487_424, 1.0), (64, 0.5)];
+/// About how long a batch lasts, in nanoseconds.
+const BATCH: f64 = 20_000.0;
+const WIDTH: usize = 40;
+
+#[derive(Clone, Copy)]
+struct Times {
+    decile: f64,
+    median: f64,
+}
+
+fn batch(run: fn(&[u8]) -> u32, bytes: &[u8], times: usize) -> f64 {
+    let start = Instant::now();
+    for _ in 0..times {
+        black_box(run(black_box(bytes)));
+    }
+    start.elapsed().as_nanos() as f64 / times as f64
+}
+
+fn measure(bytes: &[u8], rounds: usize) -> [Times; CANDIDATES.len()] {
+    let repeats = CANDIDATES.map(|(_, run)| {
+        let warm = (0..5).map(|_| batch(run, bytes, 4)).fold(f64::MAX, f64::min);
+        ((BATCH / warm.max(1.0)) as usize).clamp(1, 4000)
+    });
+    let mut samples = CANDIDATES.map(|_| Vec::with_capacity(rounds));
+    for round in 0..rounds {
+        for turn in 0..CANDIDATES.len() {
+            let i = (round + turn) % CANDIDATES.len();
+            samples[i].push(batch(CANDIDATES[i].1, bytes, repeats[i]));
+        }
+    }
+    samples.map(|mut times| {
+        times.sort_unstable_by(f64::total_cmp);
+        Times { decile: times[times.len() / 10], median: times[times.len() / 2] }
+    })
+}
+
+fn main() -> ExitCode {
+    let mut rounds = 3000;
+    for argument in std::env::args().skip(1) {
+        match argument.as_str() {
+            "--help" | "-h" => {
+                print!("{HELP}");
+                return ExitCode::SUCCESS;
+            }
+            "--quick" => rounds = 600,
+            other => {
+                eprintln!("bench: there is no option {other}; see bench --help");
+                return ExitCode::from(2);
+            }
+        }
+    }
+    if cfg!(debug_assertions) {
+        eprintln!("bench: not a release build; run it with cargo run --release");
+        return ExitCode::from(2);
+    }
+
+    let version = common::crc32fast();
+    if version.contains("standin") {
+        eprintln!(
+            "bench: built with a stand-in for crc32fast: there is nothing to measure against"
+        );
+        return ExitCode::from(2);
+    }
+
+    println!("CRC-32, one run on one machine. All are release builds. The buffers are");
+    println!("warm: the same bytes are hashed again and again, caches aren't cleared.");
+    println!("core: this library. table: the table path of crc32fast {version}.");
+    println!("SIMD: crc32fast::hash. zlib: the system's zlib {}.", zlib_version());
+    println!();
+
+    let mut random = Random::new(1);
+    let mut results = Vec::new();
+    for size in SIZES {
+        let bytes = random.bytes(size);
+        let answers = CANDIDATES.map(|(_, run)| run(&bytes));
+        if answers.iter().any(|a| *a != answers[TABLE]) {
+            eprintln!("bench: the CRCs of {size} bytes differ: {answers:08x?}");
+            return ExitCode::FAILURE;
+        }
+        let rounds = if size > 100_000 { rounds / 10 } else { rounds };
+        results.push((size, measure(&bytes, rounds)));
+    }
+
+    let tabulate = |title: &str, time: fn(&Times) -> f64| {
+        println!("{title}");
+        print!("{:>8}", "");
+        println!("{:>40}{:>33}", "nanoseconds a call", "speed, the table path's as 1");
+        print!("{:>8}", "bytes");
+        CANDIDATES.iter().for_each(|(name, _)| print!("{name:>10}"));
+        print!("  ");
+        CANDIDATES.iter().for_each(|(name, _)| print!("{name:>8}"));
+        println!();
+        for (size, times) in &results {
+            print!("{size:>8}");
+            times.iter().for_each(|t| print!("{:>10.1}", time(t)));
+            print!("  ");
+            times.iter().for_each(|t| print!("{:>8.2}", time(&times[TABLE]) / time(t)));
+            println!();
+        }
+        println!();
+    };
+    tabulate("Lower decile of the batches", |t| t.decile);
+    tabulate("Median of the batches", |t| t.median);
+
+    println!("Speed in MB/s by the lower decile; each size is drawn to its fastest");
+    for (size, times) in &results {
+        println!("{size} bytes");
+        let speeds = times.map(|t| *size as f64 * 1000.0 / t.decile);
+        let fastest = speeds.iter().copied().fold(0.0, f64::max);
+        for ((name, _), speed) in CANDIDATES.iter().zip(speeds) {
+            let bar = "#".repeat(((speed / fastest * WIDTH as f64).round() as usize).max(1));
+            println!("  {name:<6}{bar:<WIDTH$} {speed:>7.0}");
+        }
+    }
+    println!();
+
+    let mut reached = true;
+    for (wanted, least) in TARGETS {
+        let (_, times) = results.iter().find(|(size, _)| *size == wanted).unwrap();
+        let ratio = times[TABLE].decile / times[0].decile;
+        let yes = ratio >= least;
+        reached &= yes;
+        println!(
+            "reach: {wanted} bytes: {ratio:.2} (at least {least:.1}): {}",
+            if yes { "yes" } else { "no" }
+        );
+    }
+    if reached { ExitCode::SUCCESS } else { ExitCode::FAILURE }
+}

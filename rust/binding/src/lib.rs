@@ -1,0 +1,72 @@
+//! Safe functions over the proved core. No call needs a check beforehand: every
+//! index, number and length has an answer.
+
+/// The core's C interface, in one place. A slice is a pointer and a length.
+mod core_interface {
+    unsafe extern "C" {
+        pub fn tt_get(b: *const u8, n: usize, i: usize) -> u32;
+        pub fn tt_put(b: *mut u8, n: usize, i: usize, v: u32);
+        pub fn tt_get_time(b: *const u8, n: usize, i: usize) -> i64;
+        pub fn tt_put_time(b: *mut u8, n: usize, i: usize, v: i64);
+        pub fn tt_crc32(start: u32, b: *const u8, n: usize) -> u32;
+        pub safe fn tt_newer(a: u32, b: u32) -> bool;
+        pub safe fn tt_next(g: u32) -> u32;
+        pub safe fn tt_date_new(year: u16, month: u8, day: u8) -> u32;
+        pub safe fn tt_valid_date(d: u32) -> bool;
+        pub safe fn tt_rotate13(x: u32) -> u32;
+    }
+}
+use core_interface::*;
+
+/// The 32-bit number at `i`, little-endian; bytes past the end read 0.
+pub fn get(b: &[u8], i: usize) -> u32 {
+    unsafe { tt_get(b.as_ptr(), b.len(), i) }
+}
+
+/// Writes the number at `i`; if its four bytes don't fit, nothing changes.
+pub fn put(b: &mut [u8], i: usize, v: u32) {
+    unsafe { tt_put(b.as_mut_ptr(), b.len(), i, v) }
+}
+
+/// The signed 64-bit time at `i`; bytes past the end read 0.
+pub fn get_time(b: &[u8], i: usize) -> i64 {
+    unsafe { tt_get_time(b.as_ptr(), b.len(), i) }
+}
+
+/// Writes the time at `i`; if its eight bytes don't fit, nothing changes.
+pub fn put_time(b: &mut [u8], i: usize, v: i64) {
+    unsafe { tt_put_time(b.as_mut_ptr(), b.len(), i, v) }
+}
+
+/// The CRC-32 of `b`, continued from an earlier CRC; 0 to begin.
+pub fn crc32(start: u32, b: &[u8]) -> u32 {
+    unsafe { tt_crc32(start, b.as_ptr(), b.len()) }
+}
+
+/// Whether generation `a` is newer than `b`, wrapping.
+pub fn newer(a: u32, b: u32) -> bool {
+    tt_newer(a, b)
+}
+
+/// The generation after `g`, wrapping.
+pub fn next(g: u32) -> u32 {
+    tt_next(g)
+}
+
+/// The date's number, or none where there is no such date.
+pub fn date_new(year: u16, month: u8, day: u8) -> Option<u32> {
+    match tt_date_new(year, month, day) {
+        0 => None,
+        number => Some(number),
+    }
+}
+
+/// Whether `d` is a date's number.
+pub fn valid_date(d: u32) -> bool {
+    tt_valid_date(d)
+}
+
+/// `x` rotated left by 13.
+pub fn rotate13(x: u32) -> u32 {
+    tt_rotate13(x)
+}

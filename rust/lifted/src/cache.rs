@@ -1,0 +1,15 @@
+//! The lifted cache.rs, and a door to its private items.
+use crate::{
+    embassy_futures,
+    embedded_io_async::{ErrorType, Read},
+    gtfs::{
+        self, Date, Error, Table,
+        csv::{Column as C, Record},
+        zip,
+    },
+    timetable_display::{self, Config, config::Pick, feed::Builder, freshness::Freshness},
+};
+
+include!(concat!(env!("LIFTED"), "/cache.rs"));
+
+pub mod door;

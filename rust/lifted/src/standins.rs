@@ -1,0 +1,10 @@
+//! What the lifted code only calls; STANDINS.md has the list.
+pub mod download;
+pub mod embassy_futures;
+pub mod embedded_io_async;
+pub mod error;
+pub mod feed;
+pub mod flash;
+pub mod heapless;
+pub mod run;
+pub mod zip;

@@ -1,0 +1,193 @@
+#!/usr/bin/env python3
+"""Checks the proved core against programs that have nothing to do with it:
+Python's zlib, datetime and struct, and the published CRC-32 check values."""
+
+import argparse
+import datetime
+import os
+import random
+import struct
+import subprocess
+import sys
+import tempfile
+import zlib
+
+ROOT = os.path.dirname(os.path.dirname(os.path.abspath(__file__)))
+ANSWERS = os.path.join(ROOT, "rust", "target", "release", "answers")
+DATES = 100_020_001
+SHOWN = 5
+
+# Catalogue of CRC algorithms, CRC-32/ISO-HDLC, and widely published values.
+PUBLISHED = [
+    (b"", 0x00000000),
+    (b"a", 0xE8B7BE43),
+    (b"abc", 0x352441C2),
+    (b"message digest", 0x20159D7F),
+    (b"abcdefghijklmnopqrstuvwxyz", 0x4C2750BD),
+    (b"123456789", 0xCBF43926),
+    (bytes(32), 0x190A55AD),
+    (b"\xff" * 32, 0xFF6CAB0B),
+    (bytes(range(32)), 0x91267E8A),
+    (b"The quick brown fox jumps over the lazy dog", 0x414FA339),
+]
+
+
+def hexadecimal(data):
+    return data.hex() or "-"
+
+
+def ask(program, requests):
+    run = subprocess.run([program], input="\n".join(requests) + "\n", text=True,
+                         stdout=subprocess.PIPE)
+    answers = run.stdout.split("\n")[:-1]
+    if run.returncode != 0 or len(answers) != len(requests):
+        sys.exit("outsiders: answers stopped after %d of %d requests" % (
+            len(answers), len(requests)))
+    return answers
+
+
+def compare(name, program, cases):
+    """Prints one line; cases are (request, expected)."""
+    answers = ask(program, [request for request, _ in cases])
+    bad = [(request, expected, got) for (request, expected), got in zip(cases, answers)
+           if str(expected) != got]
+    print("%s: %d compared, %d differ" % (name, len(cases), len(bad)))
+    for request, expected, got in sorted(bad, key=lambda b: (len(b[0]), b[0]))[:SHOWN]:
+        print("  %s: the core has %s, Python %s" % (request[:200], got, expected))
+    return bool(bad)
+
+
+def published(program, _):
+    return compare("published CRCs", program, [
+        ("crc 0 " + hexadecimal(data), crc) for data, crc in PUBLISHED])
+
+
+def crcs(program, rng):
+    cases = []
+    for length in list(range(301)) + [rng.randrange(6000) for _ in range(1000)] + [487_424]:
+        data = rng.randbytes(length)
+        start = rng.choice([0, 0xFFFFFFFF, rng.getrandbits(32)])
+        cases.append(("crc 0 " + hexadecimal(data), zlib.crc32(data)))
+        cases.append(("crc %d %s" % (start, hexadecimal(data)), zlib.crc32(data, start)))
+        # continued from the CRC of the bytes before
+        at = rng.randrange(length + 1)
+        cases.append(("crc %d %s" % (zlib.crc32(data[:at]), hexadecimal(data[at:])),
+                      zlib.crc32(data)))
+    return compare("CRCs by zlib", program, cases)
+
+
+def dates(program, _):
+    expected = bytearray((DATES + 7) // 8)
+    day = datetime.date
+    for ordinal in range(1, day.max.toordinal() + 1):
+        d = day.fromordinal(ordinal)
+        number = d.year * 10000 + d.month * 100 + d.day
+        expected[number >> 3] |= 1 << (number & 7)
+    with tempfile.TemporaryDirectory() as folder:
+        path = os.path.join(folder, "dates")
+        if subprocess.run([program, "--dates", path]).returncode != 0:
+            sys.exit("outsiders: answers didn't write its dates")
+        with open(path, "rb") as handle:
+            got = handle.read()
+    bad, first = 0, []
+    if len(got) != len(expected):
+        bad = 1
+        first.append("  %d bytes, not %d" % (len(got), len(expected)))
+    elif got != expected:
+        for i, (a, b) in enumerate(zip(got, expected)):
+            if a != b:
+                for bit in range(8):
+                    if (a ^ b) >> bit & 1:
+                        bad += 1
+                        if len(first) < SHOWN:
+                            first.append("  %d: the core has %d, Python %d" % (
+                                i * 8 + bit, a >> bit & 1, b >> bit & 1))
+    print("dates by datetime: %d compared (%d dates), %d differ" % (
+        DATES, day.max.toordinal(), bad))
+    for text in first:
+        print(text)
+    return bool(bad)
+
+
+def new_dates(program, rng):
+    cases = []
+    years = [0, 1, 4, 100, 400, 1900, 2000, 2023, 2024, 2100, 9999, 10000, 65535]
+    years += [rng.randrange(1, 10000) for _ in range(100)]
+    for year in years:
+        for month in list(range(15)) + [255]:
+            for day in list(range(34)) + [255]:
+                try:
+                    datetime.date(year, month, day)
+                    number = year * 10000 + month * 100 + day
+                except ValueError:
+                    number = 0
+                cases.append(("new %d %d %d" % (year, month, day), number))
+    return compare("new dates by datetime", program, cases)
+
+
+def large_dates(program, rng):
+    """Numbers past those of the file: none is a date's."""
+    cases = [655_380_101, (1 << 32) - 1] + [rng.randrange(DATES, 1 << 32) for _ in range(50000)]
+    # years that are in range again modulo 65536
+    cases += [(65536 + year) * 10000 + 101 for year in range(1, 10000, 7)]
+    return compare("large numbers, no dates", program, [("date %d" % n, 0) for n in cases])
+
+
+def generations(program, rng):
+    corners = sorted({(1 << bit) + near & 0xFFFFFFFF
+                      for bit in (0, 16, 30, 31, 32) for near in (-2, -1, 0, 1, 2)})
+    pairs = [(a, b) for a in corners for b in corners]
+    for _ in range(20000):
+        a = rng.getrandbits(32)
+        pairs.append((a, rng.getrandbits(32)))
+        pairs.append((a, a + (1 << 31) + rng.randrange(-3, 4) & 0xFFFFFFFF))
+    cases = [("newer %d %d" % (a, b), int(0 < (a - b) % (1 << 32) < 1 << 31)) for a, b in pairs]
+    for a in corners + [rng.getrandbits(32) for _ in range(1000)]:
+        cases.append(("next %d" % a, (a + 1) % (1 << 32)))
+        cases.append(("rotate %d" % a, (a << 13) % (1 << 32) + (a >> 19)))
+    return compare("generations and rotation by whole numbers", program, cases)
+
+
+def numbers(program, rng):
+    cases = []
+    for length in range(25):
+        for i in list(range(length + 10)) + [(1 << 64) - 1, (1 << 64) - 4, (1 << 64) - 8]:
+            data = rng.randbytes(length)
+            padded = data[i:] if i < length else b""
+            text = hexadecimal(data)
+            cases.append(("get %s %d" % (text, i), struct.unpack("<I", padded[:4].ljust(4, b"\0"))[0]))
+            cases.append(("time %s %d" % (text, i), struct.unpack("<q", padded[:8].ljust(8, b"\0"))[0]))
+            for kind, form, width, value in (
+                    ("put", "<I", 4, rng.getrandbits(32)),
+                    ("puttime", "<q", 8, rng.getrandbits(64) - (1 << 63))):
+                after = bytearray(data)
+                if i + width <= length:
+                    struct.pack_into(form, after, i, value)
+                cases.append(("%s %s %d %d" % (kind, text, i, value), hexadecimal(bytes(after))))
+    return compare("numbers and times by struct", program, cases)
+
+
+PARTS = [published, crcs, dates, large_dates, new_dates, generations, numbers]
+
+
+def main():
+    parser = argparse.ArgumentParser(
+        description="Checks the core against Python's zlib, datetime and struct, and the "
+        "published CRC-32 values.",
+        epilog="Exit status: 0 no difference, 1 differences, 3 the program answers isn't there.")
+    parser.add_argument("--answers", metavar="FILE", default=ANSWERS,
+                        help="the program answers (default: rust/target/release/answers)")
+    parser.add_argument("--seed", type=int, default=1, help="seed of the random inputs")
+    options = parser.parse_args()
+    if not os.access(options.answers, os.X_OK):
+        print("outsiders: no program at %s; build it in rust/ with "
+              "`cargo build --release --offline -p answers`" % options.answers, file=sys.stderr)
+        return 3
+    rng = random.Random(options.seed)
+    bad = [part(options.answers, rng) for part in PARTS]
+    print("%d parts, %d differ" % (len(bad), sum(bad)))
+    return 1 if any(bad) else 0
+
+
+if __name__ == "__main__":
+    sys.exit(main())
