@@ -63,7 +63,7 @@ turned z = toZ w64 (ofZ w64 (negsuc 0 -ℤ toZ w64 (ofZ w64 z)))
 pub record Down (z : ℤ) : Type 0 where
   pub fits : SFits w64 (negsuc 0 -ℤ toZ w64 (ofZ w64 z))
   pub cast : T (nonNeg (turned z)) × Fits w64 (natAbs (turned z))
-  pub top : natAbs (turned z) ≤ 18446744073709551615
+  pub top : natAbs (turned z) < 9223372036854775808
   pub is : 18446744073709551615 - natAbs (turned z) ≡ unsigned 64 z
 
 down-at : (z : ℤ) → SFits w64 z → ltZ z (pos 0) ≡ true → Down z

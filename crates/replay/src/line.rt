@@ -1,6 +1,9 @@
 // One line of the list: its kind, and whether the leaves answer as it says.
+ghost use Prim.Native.Nat.{_<_};
+use crate::text::first;
 use crate::text::number;
 use crate::text::number32;
+use crate::text::place;
 use crate::text::same;
 use crate::text::signed;
 use crate::text::unhex;
@@ -9,10 +12,16 @@ use leaf::bytes::get8;
 use leaf::date::Date;
 use leaf::date::NewDate;
 
+// A yes or no that the list has as 1 or 0.
+fn agrees(is: bool, want: u64) -> bool {
+    if is { want == 1 } else { want == 0 }
+}
+
 fn date(l: &[u8]) -> bool {
-    let is = leaf::date::valid_date(number32(l, word(l, 1)));
-    let want = number(l, word(l, 2));
-    (is && want == 1) || (!is && want == 0)
+    agrees(
+        leaf::date::valid_date(number32(l, word(l, 1))),
+        number(l, word(l, 2)),
+    )
 }
 
 fn new(l: &[u8]) -> bool {
@@ -28,8 +37,7 @@ fn new(l: &[u8]) -> bool {
 
 fn newer(l: &[u8]) -> bool {
     let is = leaf::generation::newer(number32(l, word(l, 1)), number32(l, word(l, 2)));
-    let want = number(l, word(l, 3));
-    (is && want == 1) || (!is && want == 0)
+    agrees(is, number(l, word(l, 3)))
 }
 
 fn next(l: &[u8]) -> bool {
@@ -47,10 +55,93 @@ fn crc(l: &[u8]) -> bool {
     leaf::crc::crc32(number32(l, word(l, 1)), first(bytes, n)) == number32(l, word(l, 3))
 }
 
-// The first n bytes, or all.
-fn first(s: &[u8], n: usize) -> &[u8] {
-    if n < s.len() {
-        return &s[..n];
+fn get(l: &[u8]) -> bool {
+    let mut space = io::buffer();
+    let bytes: &mut [u8] = &mut space;
+    let n = unhex(l, word(l, 1), bytes);
+    leaf::bytes::get(first(bytes, n), place(l, word(l, 2))) == number32(l, word(l, 3))
+}
+
+fn time(l: &[u8]) -> bool {
+    let mut space = io::buffer();
+    let bytes: &mut [u8] = &mut space;
+    let n = unhex(l, word(l, 1), bytes);
+    leaf::bytes::get_time(first(bytes, n), place(l, word(l, 2))) == signed(l, word(l, 3))
+}
+
+// Whether the first bytes are those that the line has last.
+fn left(l: &[u8], bytes: &[u8], n: usize) -> bool {
+    let mut space = io::buffer();
+    let want: &mut [u8] = &mut space;
+    let m = unhex(l, word(l, 4), want);
+    same(bytes, n, want, m)
+}
+
+fn put(l: &[u8]) -> bool {
+    let mut space = io::buffer();
+    let bytes: &mut [u8] = &mut space;
+    let n = unhex(l, word(l, 1), bytes);
+    leaf::bytes::put(bytes, place(l, word(l, 2)), number32(l, word(l, 3)));
+    left(l, bytes, n)
+}
+
+fn puttime(l: &[u8]) -> bool {
+    let mut space = io::buffer();
+    let bytes: &mut [u8] = &mut space;
+    let n = unhex(l, word(l, 1), bytes);
+    leaf::bytes::put_time(bytes, place(l, word(l, 2)), signed(l, word(l, 3)));
+    left(l, bytes, n)
+}
+
+// The kinds, by number; 10 is none of them.
+pub fn kind(l: &[u8]) -> usize
+    ensures { λ r. ⌜ r < 11 ⌝ }
+{
+    let a = get8(l, 0);
+    let b = get8(l, 3);
+    if a == b'd' {
+        return 0;
     }
-    s
+    if a == b'n' {
+        if b == b' ' {
+            return 1;
+        }
+        if b == b'e' {
+            return 2;
+        }
+        return 3;
+    }
+    if a == b'c' {
+        return 4;
+    }
+    if a == b'g' {
+        return 5;
+    }
+    if a == b'p' {
+        if b == b' ' {
+            return 6;
+        }
+        return 8;
+    }
+    if a == b't' {
+        return 7;
+    }
+    if a == b'r' { 9 } else { 10 }
+}
+
+// Whether the leaves answer as a line of a kind says.
+pub fn alike(kind: usize, l: &[u8]) -> bool {
+    match kind {
+        0 => date(l),
+        1 => new(l),
+        2 => newer(l),
+        3 => next(l),
+        4 => crc(l),
+        5 => get(l),
+        6 => put(l),
+        7 => time(l),
+        8 => puttime(l),
+        9 => rotate(l),
+        _ => false,
+    }
 }

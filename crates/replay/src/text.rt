@@ -1,4 +1,5 @@
 // Words of a line, numbers and bytes in them.
+ghost use Prim.Native.Nat.{_<_};
 use leaf::bytes::get8;
 
 // The place of the first byte b from a place on, or the end.
@@ -67,20 +68,37 @@ pub fn number32(s: &[u8], from: usize) -> u32 {
     (number(s, from) % 4294967296) as u32
 }
 
+// The number at a place, as a place of bytes.
+pub fn place(s: &[u8], from: usize) -> usize {
+    number(s, from) as usize
+}
+
+// The first n bytes, or all.
+pub fn first(s: &[u8], n: usize) -> &[u8] {
+    if n < s.len() {
+        return &s[..n];
+    }
+    s
+}
+
+// 64 bits read as a signed number.
+fn from_bits(x: u64) -> i64 {
+    if x < 9223372036854775808 {
+        x as i64
+    } else {
+        -1 - ((18446744073709551615 - x) as i64)
+    }
+}
+
 // The signed number at a place.
 pub fn signed(s: &[u8], from: usize) -> i64 {
     if get8(s, from) == b'-' {
-        let n = number(s, after_sign(from)) % 9223372036854775809;
-        if n == 0 {
-            return 0;
-        }
-        return -1 - ((n - 1) as i64);
+        return from_bits(std::num::wrapping_sub_u64(
+            0,
+            number(s, std::num::wrapping_add_usize(from, 1)),
+        ));
     }
-    (number(s, from) % 9223372036854775808) as i64
-}
-
-fn after_sign(from: usize) -> usize {
-    std::num::wrapping_add_usize(from, 1)
+    from_bits(number(s, from))
 }
 
 // The bytes in hexadecimal at a place, into out; how many.
@@ -93,7 +111,7 @@ pub fn unhex(s: &[u8], from: usize, out: &mut [u8]) -> usize {
         if 15 < high || 15 < low {
             return n;
         }
-        out[n] = (high * 16 + low) as u8;
+        out[n] = (high % 16 * 16 + low % 16) as u8;
         n += 1;
         at = std::num::wrapping_add_usize(at, 2);
     }
@@ -113,4 +131,16 @@ pub fn same(a: &[u8], n: usize, b: &[u8], m: usize) -> bool {
         i += 1;
     }
     true
+}
+
+// The place past an end, and past i in any case.
+pub fn past(end: usize, i: usize) -> usize
+    ensures { λ r. ⌜ (i < 18446744073709551615 → i < r) ⌝ }
+{
+    if i <= end {
+        if end < 18446744073709551615 {
+            return end + 1;
+        }
+    }
+    if i < 18446744073709551615 { i + 1 } else { i }
 }

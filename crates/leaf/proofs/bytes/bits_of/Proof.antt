@@ -1,3 +1,4 @@
+use native.Mathlib.Omega.{arith}
 use Rattle.leaf.proofs.Numbers.{down, up}
 use Rattle.leaf.proofs.bytes.bits_of.Statement.{statement}
 use Rattle.leaf.proofs.bytes.bits_of.Tie as tie
@@ -9,7 +10,7 @@ cast-result : tie.Need-cast-result
 cast-result c = (down (c .before .args .z) (c .before .fits .z) (c .if1 .taken)) .cast
 
 sub-result-2 : tie.Need-sub-result-2
-sub-result-2 c = (down (c .before .args .z) (c .before .fits .z) (c .if1 .taken)) .top
+sub-result-2 c = omega (arith, (down (c .before .args .z) (c .before .fits .z) (c .if1 .taken)) .top)
 
 cast-result-2 : tie.Need-cast-result-2
 cast-result-2 c = (up (c .before .args .z) (c .before .fits .z) (c .if1 .left)) .cast

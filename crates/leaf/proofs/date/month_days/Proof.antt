@@ -1,10 +1,11 @@
+use native.Mathlib.Omega.{arith}
 use Rattle.leaf.proofs.Steps.{no-month, leap-day, common-day}
 use borrow.Author.Needs.{needs}
 use Rattle.leaf.proofs.date.month_days.Statement.{statement}
 use Rattle.leaf.proofs.date.month_days.Tie as tie
 
 returns : tie.Need-returns
-returns c = no-month (c .before .args .year) (c .before .args .month) (c .if1 .taken)
+returns c = no-month (c .before .args .year) (c .before .args .month) (omega arith)
 
 is-leap-requires : tie.Need-is-leap-requires
 is-leap-requires c κs = search needs

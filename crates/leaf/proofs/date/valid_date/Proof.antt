@@ -1,3 +1,4 @@
+use native.Mathlib.Omega.{arith}
 use mathlib.Core.Path.{sym, _∙_}
 use Prim.Native.Nat.{_/_, _%_}
 use Rattle.leaf.specs.Date.{validDate}
@@ -10,7 +11,7 @@ returns : tie.Need-returns
 unfolding validDate
 returns c =
     let n = c .before .args .d in
-    late (n / 10000) (n / 100 % 100) (n % 100) (c .if1 .taken)
+    late (n / 10000) (n / 100 % 100) (n % 100) (omega arith)
 
 cast-new : tie.Need-cast-new
 cast-new c = search needs

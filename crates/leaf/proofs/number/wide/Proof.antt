@@ -1,0 +1,10 @@
+use mathlib.Core.Path.{refl}
+use native.Mathlib.Omega.{arith}
+use Rattle.leaf.proofs.number.wide.Statement.{statement}
+use Rattle.leaf.proofs.number.wide.Tie as tie
+
+returns : tie.Need-returns
+returns c = (refl, omega arith)
+
+pub wide-spec : {M : Type 1} → statement M
+wide-spec = tie.close (tie.spec returns)

@@ -1,0 +1,112 @@
+// Replays the Rust's answers of answers.txt, and says of each kind how many the leaves answer alike. The list's first lines say how
+// it was made.
+mod line;
+mod text;
+
+ghost use Prim.Native.Nat.{_<_};
+use libc::STDOUT_FILENO;
+
+// How many lines of each kind there were, and how many came out alike.
+struct Counts {
+    seen: [u64; 11],
+    same: [u64; 11],
+}
+
+fn counted(c: Counts, kind: usize, same: bool) -> Counts
+    requires { ⌜ kind < 11 ⌝ }
+{
+    let more: u64 = if same { 1 } else { 0 };
+    let mut r = c;
+    r.seen[kind] = std::num::wrapping_add_u64(c.seen[kind], 1);
+    r.same[kind] = std::num::wrapping_add_u64(c.same[kind], more);
+    r
+}
+
+// One line; comments and empty lines count for nothing.
+fn step(c: Counts, l: &[u8]) -> Counts {
+    let a = leaf::bytes::get8(l, 0);
+    if a == b'#' || l.len() == 0 {
+        return c;
+    }
+    let k = line::kind(l);
+    counted(c, k, line::alike(k, l))
+}
+
+// The part from a place up to another.
+fn between(s: &[u8], from: usize, to: usize) -> &[u8] {
+    if from <= to {
+        if to <= s.len() {
+            return &s[from..to];
+        }
+    }
+    &s[..0]
+}
+
+// All lines.
+fn replayed(s: &[u8]) -> Counts {
+    let mut c = Counts {
+        seen: [0; 11],
+        same: [0; 11],
+    };
+    let mut i = 0;
+    while i < s.len() {
+        let end = text::find(s, i, b'\n');
+        c = step(c, between(s, i, end));
+        i = text::past(end, i);
+    }
+    c
+}
+
+fn say(name: &[u8], seen: u64, same: u64) {
+    io::write_all(STDOUT_FILENO, name);
+    io::write_all(STDOUT_FILENO, b": ");
+    io::print_decimal(STDOUT_FILENO, seen);
+    io::write_all(STDOUT_FILENO, b" answers, ");
+    io::print_decimal(STDOUT_FILENO, same);
+    io::write_all(STDOUT_FILENO, b" alike\n");
+}
+
+fn name(kind: usize) -> [u8; 10] {
+    match kind {
+        0 => *b"valid_date",
+        1 => *b"Date::new ",
+        2 => *b"newer     ",
+        3 => *b"next      ",
+        4 => *b"crc32     ",
+        5 => *b"get       ",
+        6 => *b"put       ",
+        7 => *b"get_time  ",
+        8 => *b"put_time  ",
+        9 => *b"rotate13  ",
+        _ => *b"unknown   ",
+    }
+}
+
+fn report(c: Counts) {
+    let mut seen: u64 = 0;
+    let mut same: u64 = 0;
+    let mut k = 0;
+    while k < 11 {
+        let n = name(k);
+        let a = c.seen[k];
+        let b = c.same[k];
+        say(&n, a, b);
+        seen = std::num::wrapping_add_u64(seen, a);
+        same = std::num::wrapping_add_u64(same, b);
+        k += 1;
+    }
+    say(b"all       ", seen, same);
+}
+
+fn main() {
+    let path = b"answers.txt";
+    let fd = os::open_read(path);
+    if fd < 0 {
+        os::fail(path);
+        return;
+    }
+    let mut space = io::large_buffer();
+    let n = io::read_full(fd, &mut space);
+    libc::close(fd);
+    report(replayed(text::first(&space, n)));
+}
