@@ -5,8 +5,9 @@ ghost use Prim.Native.Nat.{_+_, _<_, _≤_, _^_};
 ghost use lib.Dec.{leb};
 ghost use lib.ListN.{drop};
 ghost use Rattle.leaf.specs.Bytes as Bytes;
-ghost use Rattle.leaf.specs.Number as Number;
-use crate::number::wide;
+ghost use Rattle.number.specs.Number as Number;
+use number::wide;
+use number::wider;
 
 // The byte at a place, 0 past the end.
 pub fn get8(b: &[u8], i: usize) -> u8
@@ -56,13 +57,6 @@ pub fn put(b: &mut [u8], i: usize, n: u32)
         b[i + 2] = (n / 65536 % 256) as u8;
         b[i + 3] = (n / 16777216 % 256) as u8;
     }
-}
-
-// A 32-bit number as a 64-bit one.
-fn wider(x: u32) -> u64
-    ensures { λ r. ⌜ (r ≡ x) × (r < 2 ^ 32) ⌝ }
-{
-    x as u64
 }
 
 // 64 bits read as a signed number.

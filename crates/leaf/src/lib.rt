@@ -3,4 +3,3 @@ pub mod bytes;
 pub mod crc;
 pub mod date;
 pub mod generation;
-pub mod number;

@@ -7,6 +7,8 @@ ghost use Prim.Native.Nat.{_+_, _*_, _%_, _^_, _≤_, _<_};
 ghost use lib.Bits.{bitXor};
 ghost use lib.ListN.{length, take, drop};
 ghost use Rattle.register.specs.Register.{steps, run, little};
+use number::wide64;
+use number::wider;
 ghost use Rattle.register.specs.Pending.{Nibbles, two, three, five};
 
 // Entry 16 j + n is the nibble n after 4 (j + 1) steps.
@@ -161,24 +163,12 @@ struct Five {
     e: u64,
 }
 
-fn wide(x: u8) -> u64
-    ensures { λ r. ⌜ (r ≡ x) × (r < 256) ⌝ }
-{
-    x as u64
-}
-
-fn wider(x: u32) -> u64
-    ensures { λ r. ⌜ (r ≡ x) × (r < 4294967296) ⌝ }
-{
-    x as u64
-}
-
 // Four bytes, the first the lowest.
 fn half(s: &[u8], i: usize) -> u64
     requires { ⌜ i + 4 ≤ length (now s) ⌝ }
     ensures { λ r. ⌜ (r ≡ little (take 4 (drop i (now (s .entry))))) × (r < 4294967296) ⌝ }
 {
-    wide(s[i]) + wide(s[i + 1]) * 256 + wide(s[i + 2]) * 65536 + wide(s[i + 3]) * 16777216
+    wide64(s[i]) + wide64(s[i + 1]) * 256 + wide64(s[i + 2]) * 65536 + wide64(s[i + 3]) * 16777216
 }
 
 // Eight bytes.

@@ -1,5 +1,5 @@
 //! The lifted Rust, in modules named as in its own source, over stand-ins for
-//! what it only calls (see STANDINS.md). The lifted text itself is written by
+//! what it only calls (see docs/DIFFERENCES.md). The lifted text itself is written by
 //! rust/lift and included here.
 #![allow(dead_code)]
 

@@ -1,4 +1,4 @@
-//! What the lifted code only calls; STANDINS.md has the list.
+//! What the lifted code only calls; docs/DIFFERENCES.md has the list.
 pub mod download;
 pub mod embassy_futures;
 pub mod embedded_io_async;

@@ -2,9 +2,6 @@ use Rattle.register.proofs.Table.{byte-steps}
 use borrow.Author.Needs.{needs}
 use Rattle.register.proofs.byte.Statement.{statement}
 use Rattle.register.proofs.byte.Tie as tie
-use Rattle.register.proofs.byte.Reads as reads
-use Rattle.register.proofs.byte.Lts as lts
-use Rattle.register.proofs.look.Reads as look-reads
 
 look-requires : tie.Need-look-requires
 look-requires c κs = search needs

@@ -2,8 +2,6 @@ use native.Mathlib.Omega.{arith}
 use Rattle.register.proofs.Fold.{far-fold}
 use Rattle.register.proofs.fold_far.Statement.{statement}
 use Rattle.register.proofs.fold_far.Tie as tie
-use Rattle.register.proofs.fold_far.Reads as reads
-use Rattle.register.proofs.fold_far.Lts as lts
 
 returns : tie.Need-returns
 returns c =

@@ -3,24 +3,21 @@ use Rattle.register.proofs.Little.{four-bytes}
 use borrow.Author.Needs.{needs}
 use Rattle.register.proofs.half.Statement.{statement}
 use Rattle.register.proofs.half.Tie as tie
-use Rattle.register.proofs.half.Reads as reads
-use Rattle.register.proofs.half.Lts as lts
-use Rattle.register.proofs.wide.Reads as wide-reads
 
-shared-slice-read-wide : tie.Need-shared-slice-read-wide
-shared-slice-read-wide c = search needs
+shared-slice-read-wide64 : tie.Need-shared-slice-read-wide64
+shared-slice-read-wide64 c = search needs
 
-wide-requires : tie.Need-wide-requires
-wide-requires c κs = search needs
+wide64-requires : tie.Need-wide64-requires
+wide64-requires c κs = search needs
 
-add-wide : tie.Need-add-wide
-add-wide c = search needs
+add-wide64 : tie.Need-add-wide64
+add-wide64 c = search needs
 
-shared-slice-read-wide-2 : tie.Need-shared-slice-read-wide-2
-shared-slice-read-wide-2 c = search needs
+shared-slice-read-wide64-2 : tie.Need-shared-slice-read-wide64-2
+shared-slice-read-wide64-2 c = search needs
 
-wide-requires-2 : tie.Need-wide-requires-2
-wide-requires-2 c κs = search needs
+wide64-requires-2 : tie.Need-wide64-requires-2
+wide64-requires-2 c κs = search needs
 
 mul-result : tie.Need-mul-result
 mul-result c = search needs
@@ -28,14 +25,14 @@ mul-result c = search needs
 add-result : tie.Need-add-result
 add-result c = search needs
 
-add-wide-2 : tie.Need-add-wide-2
-add-wide-2 c = search needs
+add-wide64-2 : tie.Need-add-wide64-2
+add-wide64-2 c = search needs
 
-shared-slice-read-wide-3 : tie.Need-shared-slice-read-wide-3
-shared-slice-read-wide-3 c = search needs
+shared-slice-read-wide64-3 : tie.Need-shared-slice-read-wide64-3
+shared-slice-read-wide64-3 c = search needs
 
-wide-requires-3 : tie.Need-wide-requires-3
-wide-requires-3 c κs = search needs
+wide64-requires-3 : tie.Need-wide64-requires-3
+wide64-requires-3 c κs = search needs
 
 mul-result-2 : tie.Need-mul-result-2
 mul-result-2 c = search needs
@@ -43,14 +40,14 @@ mul-result-2 c = search needs
 add-result-2 : tie.Need-add-result-2
 add-result-2 c = search needs
 
-add-wide-3 : tie.Need-add-wide-3
-add-wide-3 c = search needs
+add-wide64-3 : tie.Need-add-wide64-3
+add-wide64-3 c = search needs
 
-shared-slice-read-wide-4 : tie.Need-shared-slice-read-wide-4
-shared-slice-read-wide-4 c = search needs
+shared-slice-read-wide64-4 : tie.Need-shared-slice-read-wide64-4
+shared-slice-read-wide64-4 c = search needs
 
-wide-requires-4 : tie.Need-wide-requires-4
-wide-requires-4 c κs = search needs
+wide64-requires-4 : tie.Need-wide64-requires-4
+wide64-requires-4 c κs = search needs
 
 mul-result-3 : tie.Need-mul-result-3
 mul-result-3 c = search needs
@@ -68,21 +65,21 @@ pub half-spec : {M : Type 1} → statement M
 half-spec =
     tie.close
     (tie.spec
-    shared-slice-read-wide
-    wide-requires
-    add-wide
-    shared-slice-read-wide-2
-    wide-requires-2
+    shared-slice-read-wide64
+    wide64-requires
+    add-wide64
+    shared-slice-read-wide64-2
+    wide64-requires-2
     mul-result
     add-result
-    add-wide-2
-    shared-slice-read-wide-3
-    wide-requires-3
+    add-wide64-2
+    shared-slice-read-wide64-3
+    wide64-requires-3
     mul-result-2
     add-result-2
-    add-wide-3
-    shared-slice-read-wide-4
-    wide-requires-4
+    add-wide64-3
+    shared-slice-read-wide64-4
+    wide64-requires-4
     mul-result-3
     add-result-3
     returns)

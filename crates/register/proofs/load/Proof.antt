@@ -2,9 +2,6 @@ use Rattle.register.proofs.Little.{eight-bytes}
 use borrow.Author.Needs.{needs}
 use Rattle.register.proofs.load.Statement.{statement}
 use Rattle.register.proofs.load.Tie as tie
-use Rattle.register.proofs.load.Reads as reads
-use Rattle.register.proofs.load.Lts as lts
-use Rattle.register.proofs.half.Reads as half-reads
 
 half-requires : tie.Need-half-requires
 half-requires c κs = search needs

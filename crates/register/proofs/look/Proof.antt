@@ -4,8 +4,6 @@ use lib.Pow.{pow-pos}
 use borrow.Author.Needs.{needs}
 use Rattle.register.proofs.look.Statement.{statement}
 use Rattle.register.proofs.look.Tie as tie
-use Rattle.register.proofs.look.Reads as reads
-use Rattle.register.proofs.look.Lts as lts
 
 mul-result : tie.Need-mul-result
 mul-result c = search needs

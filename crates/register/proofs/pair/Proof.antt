@@ -2,9 +2,6 @@ use Rattle.register.proofs.Table.{halves}
 use borrow.Author.Needs.{needs}
 use Rattle.register.proofs.pair.Statement.{statement}
 use Rattle.register.proofs.pair.Tie as tie
-use Rattle.register.proofs.pair.Reads as reads
-use Rattle.register.proofs.pair.Lts as lts
-use Rattle.register.proofs.word.Reads as word-reads
 
 cast-low : tie.Need-cast-low
 cast-low c = search needs

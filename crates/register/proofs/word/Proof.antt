@@ -2,9 +2,6 @@ use Rattle.register.proofs.Table.{word}
 use borrow.Author.Needs.{needs}
 use Rattle.register.proofs.word.Statement.{statement}
 use Rattle.register.proofs.word.Tie as tie
-use Rattle.register.proofs.word.Reads as reads
-use Rattle.register.proofs.word.Lts as lts
-use Rattle.register.proofs.look.Reads as look-reads
 
 look-requires : tie.Need-look-requires
 look-requires c κs = search needs

@@ -1,14 +1,28 @@
-// Small operations on numbers that the language lacks, or whose contract spares callers a proof.
+// Small operations on numbers that the language lacks, or whose contract spares callers a proof. Below every other crate.
 ghost use mathlib.Core.Path.{_≡_};
 ghost use Prim.Native.Nat.{_<_};
 ghost use lib.Signed.{leZ, ltZ};
-ghost use Rattle.leaf.specs.Number.{rotateLeft32};
+ghost use Rattle.number.specs.Number.{rotateLeft32};
 
 // A byte as a 32-bit number.
 pub fn wide(x: u8) -> u32
     ensures { λ r. ⌜ (r ≡ x) × (r < 256) ⌝ }
 {
     x as u32
+}
+
+// A byte as a 64-bit number.
+pub fn wide64(x: u8) -> u64
+    ensures { λ r. ⌜ (r ≡ x) × (r < 256) ⌝ }
+{
+    x as u64
+}
+
+// A 32-bit number as a 64-bit one.
+pub fn wider(n: u32) -> u64
+    ensures { λ r. ⌜ (r ≡ n) × (r < 4294967296) ⌝ }
+{
+    n as u64
 }
 
 // a is at most b, signed.
