@@ -388,9 +388,6 @@ onto r b q s hr hb =
 
 -- the last pending words, one after the other
 module _ (s : List ℕ) (at : ℕ) where
-  rest-of : ℕ → List ℕ
-  rest-of n = drop (at + n) s
-
   next : (r n : ℕ) → run r (drop (at + n + 8) s) ≡ run r (drop (at + (n + 8)) s)
   next r n = ap (λ (k : ℕ). run r (drop k s)) (add-assoc at n 8)
 
