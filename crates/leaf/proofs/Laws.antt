@@ -125,14 +125,14 @@ digits n =
     let one : (c : ℕ) → 0 < c → n % (256 * c) ≡ n / c % 256 * c + n % c = λ c h. mod-mul n {m = 256} {c = c} (lit< tt) h in
     omega (arith, one 256 (lit< tt), one 65536 (lit< tt), one 16777216 (lit< tt))
 
-word-front : (n : ℕ) (q : List ℕ) → n < 2 ^ 32 → word (le32 n ++ q) 0 ≡ n
+pub word-front : (n : ℕ) (q : List ℕ) → n < 2 ^ 32 → word (le32 n ++ q) 0 ≡ n
 unfolding word le32
 word-front n q h = digits n ∙ omega arith
 
 halves : (n : ℕ) → n < 2 ^ 64 → n % 2 ^ 32 + n / 2 ^ 32 * 2 ^ 32 ≡ n
 halves n h = omega arith
 
-time-front : (z : ℤ) (q : List ℕ) → SFits w64 z → time (le64 z ++ q) 0 ≡ z
+pub time-front : (z : ℤ) (q : List ℕ) → SFits w64 z → time (le64 z ++ q) 0 ≡ z
 unfolding time le64
 time-front z q f =
     let b : unsigned 64 z < 2 ^ 64 = rw (bits-is z) at (ofZ-fits w64 z f .fits) in

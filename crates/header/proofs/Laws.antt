@@ -1,0 +1,106 @@
+-- Laws about a header's tests.
+use mathlib.Core.Path.{_≡_, refl, ap, _∙_, sym}
+use mathlib.Core.Bool.{Bool, true, false, _&&_, false≢true}
+use mathlib.Core.List.{List, [], _∷_, _++_}
+use Prim.Native.Nat.{ℕ, suc, _+_, _*_, _-_, _<_, _≤_}
+use native.Mathlib.Omega.{arith}
+use native.Mathlib.Numerals.{add-one}
+use lib.IntN.{ℤ, pos, negsuc}
+use lib.ListN.{length, take, drop, getD}
+use lib.Seq.{take-suc, take-all}
+use lib.Dec.{eqb, leb}
+use lib.Signed.{leZ}
+use borrow.Author.Tests.{eq-eqb, ne-eqb, eqb-true, eqb-false, leb-true}
+use mir.Syntax.{w64}
+use mir.Val.{SFits, ofZ}
+use Rattle.leaf.specs.Bytes.{word}
+use Rattle.refusal.specs.declared.Refusal.the-variants.{Mark, Seal, Span, Source as BadSource}
+use Rattle.record.specs.Runs.{many, each}
+use Rattle.record.proofs.Series.{many-more}
+use Rattle.header.specs.declared.Bank.{Bank}
+use Rattle.header.specs.declared.Validated.the-variants.{Good, Refused}
+use Rattle.header.specs.Header.{isUnknown, lengthOk, keyOk, countOk, spanOk, numbersOf, recordsOf, sourceOk, judge, marked, sealed, headerOf}
+
+-- the lowest value, by its bits
+
+lowest-by : (n : ℕ) (t : Bool) → eqb n 9223372036854775807 ≡ t → eqb (18446744073709551616 - suc n) 9223372036854775808 ≡ t
+lowest-by n true e = eq-eqb (18446744073709551616 - suc n) 9223372036854775808 (omega (arith, eqb-true n 9223372036854775807 e))
+lowest-by n false e = ne-eqb (18446744073709551616 - suc n) 9223372036854775808 (λ (k : 18446744073709551616 - suc n ≡ 9223372036854775808). eqb-false n 9223372036854775807 e (omega arith))
+
+pub unknown-bits : (t : ℤ) → SFits w64 t → eqb (ofZ w64 t) 9223372036854775808 ≡ isUnknown t
+unknown-bits (pos n) f = ne-eqb n 9223372036854775808 (λ e. omega (arith, f .sfits))
+unknown-bits (negsuc n) f = lowest-by n (eqb n 9223372036854775807) refl
+
+-- a test of each, one by one
+
+and-true : (a : Bool) → (a && true) ≡ a
+and-true true = refl
+and-true false = refl
+
+and-assoc : (a b c : Bool) → ((a && b) && c) ≡ (a && (b && c))
+and-assoc true b c = refl
+and-assoc false b c = refl
+
+each-last : {A : Type 0} (p : A → Bool) (xs : List A) (x : A) → each p (xs ++ (x ∷ [])) ≡ (each p xs && p x)
+unfolding each
+each-last p [] x = and-true (p x)
+each-last p (y ∷ xs) x = ap (λ t. p y && t) (each-last p xs x) ∙ sym (and-assoc (p y) (each p xs) (p x))
+
+pub each-take : {A : Type 0} (p : A → Bool) (xs : List A) (j : ℕ) (z : A) → j < length xs → (each p (take j xs) && p (getD xs j z)) ≡ each p (take (j + 1) xs)
+each-take p xs j z h = rw (add-one, take-suc xs j z h) (sym (each-last p (take j xs) (getD xs j z)))
+
+pub each-many : {A : Type 0} (p : A → Bool) (f : List ℕ → ℕ → A) (step : ℕ) (l : List ℕ) (at n : ℕ) → (each p (many f step l at n) && p (f l (at + n * step))) ≡ each p (many f step l at (n + 1))
+each-many p f step l at n = rw (add-one, many-more f step l at n) (sym (each-last p (many f step l at n) (f l (at + n * step))))
+
+-- what passes 5 has a count of at most three
+
+and-left : (a b : Bool) → (a && b) ≡ true → a ≡ true
+and-left true b e = refl
+and-left false b e = absurd (false≢true e)
+
+and-right : (a b : Bool) → (a && b) ≡ true → b ≡ true
+and-right true b e = e
+and-right false b e = absurd (false≢true e)
+
+pub span-length : (b : Bank) → spanOk b ≡ true → (1 ≤ b .length) × (b .length ≤ 487424)
+unfolding spanOk
+span-length b e =
+    let l = and-left (lengthOk b) (keyOk b && (countOk b && leZ (pos 0) (b .checked))) e in
+    (leb-true 1 (b .length) (and-left (leb 1 (b .length)) (leb (b .length) 487424) l), leb-true (b .length) 487424 (and-right (leb 1 (b .length)) (leb (b .length) 487424) l))
+
+pub span-key : (b : Bank) → spanOk b ≡ true → b .key ≤ b .length
+unfolding spanOk
+span-key b e =
+    let r = and-left (keyOk b) (countOk b && leZ (pos 0) (b .checked)) (and-right (lengthOk b) (keyOk b && (countOk b && leZ (pos 0) (b .checked))) e) in
+    leb-true (b .key) (b .length) (and-right (leb 1 (b .key)) (leb (b .key) (b .length)) r)
+
+pub span-count : (b : Bank) → spanOk b ≡ true → b .count ≤ 3
+unfolding spanOk
+span-count b e =
+    let t = leZ (pos 0) (b .checked) in
+    let r = and-right (keyOk b) (countOk b && t) (and-right (lengthOk b) (keyOk b && (countOk b && t)) e) in
+    leb-true (b .count) 3 (and-right (leb 1 (b .count)) (leb (b .count) 3) (and-left (countOk b) t r))
+
+-- 3 to 6, case by case
+module _ (n : ℕ) (l : List ℕ) where
+  pub not-marked : marked l ≡ false → Refused Mark ≡ headerOf n l
+  unfolding headerOf
+  not-marked m = rw m
+
+  pub not-sealed : marked l ≡ true → sealed l ≡ false → Refused Seal ≡ headerOf n l
+  unfolding headerOf
+  not-sealed m s = rw (m, s)
+
+  pub not-spanned : marked l ≡ true → sealed l ≡ true → spanOk (numbersOf n l) ≡ false → Refused Span ≡ headerOf n l
+  unfolding headerOf judge
+  not-spanned m s e = rw (m, s, e)
+
+  pub bad-source : marked l ≡ true → sealed l ≡ true → spanOk (numbersOf n l) ≡ true → each (sourceOk (numbersOf n l)) (recordsOf (word l 4) l (word l 20)) ≡ false
+    → Refused BadSource ≡ headerOf n l
+  unfolding headerOf judge
+  bad-source m s e f = rw (m, s, e, f)
+
+  pub all-good : marked l ≡ true → sealed l ≡ true → spanOk (numbersOf n l) ≡ true → each (sourceOk (numbersOf n l)) (recordsOf (word l 4) l (word l 20)) ≡ true
+    → Good (numbersOf n l) ≡ headerOf n l
+  unfolding headerOf judge
+  all-good m s e f = rw (m, s, e, f)

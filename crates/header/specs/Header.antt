@@ -1,0 +1,106 @@
+-- A bank's header, and its tests: refusals 3 to 6.
+use mathlib.Core.Bool.{Bool, true, false, _&&_, _||_}
+use mathlib.Core.List.{List, [], _∷_, _++_}
+use Prim.Native.Nat.{ℕ, _+_, _*_}
+use lib.Dec.{leb, eqb}
+use lib.IntN.{ℤ, pos, negsuc}
+use lib.ListN.{length, take, drop}
+use lib.Signed.{leZ}
+use Rattle.number.specs.Number.{pick}
+use Rattle.leaf.specs.Bytes.{word, time}
+use Rattle.leaf.specs.Crc.{crc32}
+use Rattle.leaf.specs.Date.{validDate}
+use Rattle.refusal.specs.declared.Refusal.the-variants.{Mark, Seal, Span, Source as BadSource}
+use Rattle.record.specs.declared.Block.{Block}
+use Rattle.record.specs.declared.Source.{Source}
+use Rattle.record.specs.Record.{sourceSize, decoded}
+use Rattle.record.specs.Runs.{many, fill, each}
+use Rattle.header.specs.declared.Bank.{Bank}
+use Rattle.header.specs.declared.Validated.{Validated}
+use Rattle.header.specs.declared.Validated.the-variants.{Good, Refused}
+use Rattle.header.specs.Region.{capacity}
+
+-- the header's numbers, of bank n
+unfoldable pub numbersOf : ℕ → List ℕ → Bank
+numbersOf n l =
+    record {
+      number = n;
+      version = word l 4;
+      generation = word l 8;
+      length = word l 12;
+      crc = word l 16;
+      count = word l 20;
+      key = word l 24;
+      checked = time l 32
+    }
+
+-- a header has three records, from byte 48 on
+abbrev pub sources : ℕ
+sources = 3
+
+-- the record of a version at a place, and the first n records
+unfoldable pub recordAt : ℕ → List ℕ → ℕ → Source
+recordAt v l at = decoded v (drop at l)
+
+abbrev pub recordsOf : ℕ → List ℕ → ℕ → List Source
+recordsOf v l n = many (recordAt v) (sourceSize v) l 48 n
+
+-- 3: "TTFC", a version from 1 to 3, and the commit word
+abbrev pub magic : ℕ
+magic = word (84 ∷ 84 ∷ 70 ∷ 67 ∷ []) 0
+
+abbrev pub commitWord : ℕ
+commitWord = 1129270612
+
+unfoldable pub marked : List ℕ → Bool
+marked l = eqb (word l 0) magic && (leb 1 (word l 4) && (leb (word l 4) 3 && eqb (word l 44) commitWord))
+
+-- 4: the CRC over 48 bytes and all three records, bytes 40 to 47 as zero
+unfoldable pub headerCrc : List ℕ → ℕ → ℕ
+headerCrc l size = crc32 0 (take 40 l ++ (fill 0 8 ++ take (size * sources) (drop 48 l)))
+
+unfoldable pub sealed : List ℕ → Bool
+sealed l = eqb (word l 40) (headerCrc l (sourceSize (word l 4)))
+
+-- 5: lengths, count and checked time
+abbrev pub lengthOk : Bank → Bool
+lengthOk b = leb 1 (b .length) && leb (b .length) capacity
+
+abbrev pub keyOk : Bank → Bool
+keyOk b = leb 1 (b .key) && leb (b .key) (b .length)
+
+abbrev pub countOk : Bank → Bool
+countOk b = leb 1 (b .count) && leb (b .count) sources
+
+unfoldable pub spanOk : Bank → Bool
+spanOk b = lengthOk b && (keyOk b && (countOk b && leZ (pos 0) (b .checked)))
+
+-- 6: dates, present bits, updated time and blocks of a source
+abbrev pub datesOk : Source → Bool
+datesOk s = validDate (s .start) && (validDate (s .end) && leb (s .start) (s .end))
+
+-- the lowest signed value, -2^63, means unknown
+abbrev pub isUnknown : ℤ → Bool
+isUnknown (pos n) = false
+isUnknown (negsuc n) = eqb n 9223372036854775807
+
+abbrev pub updatedOk : ℤ → ℤ → Bool
+updatedOk checked u = isUnknown u || (leZ (pos 0) u && leZ u checked)
+
+-- an empty block passes; another starts at or past the key's end and ends within the data
+abbrev pub blockOk : Bank → Block → Bool
+blockOk b t = eqb (t .length) 0 || (leb (b .key) (t .offset) && leb (t .offset + t .length) (b .length))
+
+unfoldable pub sourceOk : Bank → Source → Bool
+sourceOk b s = datesOk s && (leb (s .present) 255 && (updatedOk (b .checked) (s .updated) && each (blockOk b) (s .tables)))
+
+-- 5 and 6, on a bank's numbers and its records below the count
+unfoldable pub judge : Bank → List Source → Validated
+judge b ss = pick (spanOk b) (pick (each (sourceOk b) ss) (Good b) (Refused BadSource)) (Refused Span)
+
+-- 3 to 6: what a bank's bytes say before the data are looked at
+unfoldable pub headerOf : ℕ → List ℕ → Validated
+headerOf n l =
+    pick (marked l)
+      (pick (sealed l) (judge (numbersOf n l) (recordsOf (word l 4) l (word l 20))) (Refused Seal))
+      (Refused Mark)

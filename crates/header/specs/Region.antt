@@ -1,0 +1,25 @@
+-- The region: two banks, each a header sector and data.
+use mathlib.Core.List.{List}
+use Prim.Native.Nat.{ℕ, _*_}
+use lib.ListN.{take, drop}
+
+abbrev pub regionSize : ℕ
+regionSize = 983040
+
+abbrev pub bankSize : ℕ
+bankSize = 491520
+
+abbrev pub sectorSize : ℕ
+sectorSize = 4096
+
+-- the most data bytes of a bank
+abbrev pub capacity : ℕ
+capacity = 487424
+
+-- bank n of a region
+unfoldable pub bankOf : List ℕ → ℕ → List ℕ
+bankOf region n = take bankSize (drop (n * bankSize) region)
+
+-- n data bytes of a bank
+unfoldable pub dataOf : List ℕ → ℕ → List ℕ
+dataOf bank n = take n (drop sectorSize bank)

@@ -1,0 +1,174 @@
+// A bank's header: its numbers and records, and the tests that need no data.
+ghost use mathlib.Core.Path.{_≡_};
+ghost use mathlib.Core.Bool.{Bool};
+ghost use Prim.Native.Nat.{_+_, _*_, _≤_};
+ghost use lib.ListN.{length, drop};
+ghost use Rattle.record.specs.Runs.{each};
+ghost use Rattle.header.specs.Header.{
+    numbersOf, recordAt, recordsOf, marked, headerCrc, sealed, spanOk, isUnknown, updatedOk, blockOk, sourceOk, headerOf,
+};
+use leaf::bytes::get;
+use leaf::bytes::get_time;
+use leaf::crc::crc32;
+use leaf::date::valid_date;
+use number::le;
+use number::wider;
+use record::decode;
+use record::source_size;
+use record::Block;
+use record::Source;
+use refusal::Refusal;
+use slice::part;
+
+// A bank's numbers; `key` is the key's length.
+pub struct Bank {
+    pub number: u32,
+    pub version: u32,
+    pub generation: u32,
+    pub length: u32,
+    pub crc: u32,
+    pub count: u32,
+    pub key: u32,
+    pub checked: i64,
+}
+
+pub enum Validated {
+    Good(Bank),
+    Refused(Refusal),
+}
+
+// The header's numbers.
+fn numbers_of(b: &[u8], number: u32) -> Bank
+    ensures { λ r. ⌜ r ≡ numbersOf number (now (b .entry)) ⌝ }
+{
+    Bank {
+        number,
+        version: get(b, 4),
+        generation: get(b, 8),
+        length: get(b, 12),
+        crc: get(b, 16),
+        count: get(b, 20),
+        key: get(b, 24),
+        checked: get_time(b, 32),
+    }
+}
+
+fn is_marked(b: &[u8]) -> bool
+    ensures { λ r. ⌜ r ≡ marked (now (b .entry)) ⌝ }
+{
+    let v = get(b, 4);
+    (get(b, 0) == 0x43465454) & ((1 <= v) & ((v <= 3) & (get(b, 44) == 0x434f4d54)))
+}
+
+fn header_crc(b: &[u8], size: usize) -> u32
+    requires { ⌜ size ≤ 384 ⌝ }
+    ensures { λ r. ⌜ r ≡ headerCrc (now (b .entry)) size ⌝ }
+{
+    let zeros = [0u8; 8];
+    let front = part(b, 0, 40);
+    let x = crc32(0, front);
+    let y = crc32(x, &zeros);
+    let records = part(b, 48, size * 3);
+    crc32(y, records)
+}
+
+fn is_sealed(b: &[u8]) -> bool
+    ensures { λ r. ⌜ r ≡ sealed (now (b .entry)) ⌝ }
+{
+    let size = source_size(get(b, 4));
+    get(b, 40) == header_crc(b, size)
+}
+
+// Lengths, count and checked time.
+pub fn span_ok(b: Bank) -> bool
+    ensures { λ r. ⌜ r ≡ spanOk b ⌝ }
+{
+    ((1 <= b.length) & (b.length <= 487424))
+        & (((1 <= b.key) & (b.key <= b.length)) & (((1 <= b.count) & (b.count <= 3)) & le(0, b.checked)))
+}
+
+fn is_unknown(t: i64) -> bool
+    ensures { λ r. ⌜ r ≡ isUnknown t ⌝ }
+{
+    t == i64::MIN
+}
+
+fn updated_ok(checked: i64, u: i64) -> bool
+    ensures { λ r. ⌜ r ≡ updatedOk checked u ⌝ }
+{
+    is_unknown(u) | (le(0, u) & le(u, checked))
+}
+
+fn block_ok(b: Bank, t: Block) -> bool
+    ensures { λ r. ⌜ r ≡ blockOk b t ⌝ }
+{
+    (t.length == 0) | ((b.key <= t.offset) & (wider(t.offset) + wider(t.length) <= wider(b.length)))
+}
+
+fn blocks_ok(b: Bank, ts: [Block; 8]) -> bool
+    ensures { λ r. ⌜ r ≡ each (blockOk b) ts ⌝ }
+{
+    let mut ok = true;
+    let mut j = 0;
+    while j < 8 {
+        let x = ts[j];
+        ok = ok & block_ok(b, x);
+        j += 1;
+    }
+    ok
+}
+
+// Dates, present bits, updated time and blocks of a source.
+pub fn source_ok(b: Bank, s: Source) -> bool
+    ensures { λ r. ⌜ r ≡ sourceOk b s ⌝ }
+{
+    let ts = s.tables;
+    (valid_date(s.start) & (valid_date(s.end) & (s.start <= s.end)))
+        & ((s.present <= 255) & (updated_ok(b.checked, s.updated) & blocks_ok(b, ts)))
+}
+
+// The record of a version at a place of a bank.
+pub fn record_at(b: &[u8], version: u32, at: usize) -> Source
+    ensures { λ r. ⌜ r ≡ recordAt version (now (b .entry)) at ⌝ }
+{
+    let rest = part(b, at, b.len());
+    decode(rest, version)
+}
+
+// The first n records.
+fn records_ok(l: &[u8], b: Bank, n: usize) -> bool
+    requires { ⌜ n ≤ 3 ⌝ }
+    ensures { λ r. ⌜ r ≡ each (sourceOk b) (recordsOf (b .version) (now (l .entry)) n) ⌝ }
+{
+    let size = source_size(b.version);
+    let mut ok = true;
+    let mut at = 48;
+    let mut i = 0;
+    while i < n {
+        let s = record_at(l, b.version, at);
+        ok = ok & source_ok(b, s);
+        at += size;
+        i += 1;
+    }
+    ok
+}
+
+// What a bank's bytes say before the data are looked at.
+pub fn header_of(l: &[u8], number: u32) -> Validated
+    ensures { λ r. ⌜ r ≡ headerOf number (now (l .entry)) ⌝ }
+{
+    if !is_marked(l) {
+        return Validated::Refused(Refusal::Mark);
+    }
+    if !is_sealed(l) {
+        return Validated::Refused(Refusal::Seal);
+    }
+    let b = numbers_of(l, number);
+    if !span_ok(b) {
+        return Validated::Refused(Refusal::Span);
+    }
+    if !records_ok(l, b, b.count as usize) {
+        return Validated::Refused(Refusal::Source);
+    }
+    Validated::Good(b)
+}

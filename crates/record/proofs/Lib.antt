@@ -1,0 +1,4 @@
+pub mod Series
+pub mod Reading
+pub mod Laws
+pub mod Back

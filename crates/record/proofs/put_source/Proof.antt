@@ -1,0 +1,82 @@
+use mathlib.Core.Path.{_≡_, refl, sym, ap, _∙_}
+use mathlib.Core.List.{List, [], _∷_, _++_, append-nil}
+use Prim.Native.Nat.{ℕ, suc, _≤_, _-_, _+_, _*_, _/_, _%_}
+use native.Mathlib.Omega.{arith}
+use lib.ListN.{length, drop, take, length-set, getD, replicate}
+use lib.Seq.{sets, take-length, take-all, length-sets, drop-length}
+use Rattle.leaf.specs.Bytes.{byte, word, le32, le64, time}
+use Rattle.record.specs.Runs.{many, fill, puts}
+use Rattle.record.specs.Record.{noBlock, blockAt, blockBytes, sourceOf, headBytes, tableBytes, tailBytes, sourceBytes}
+use Rattle.record.proofs.Laws.{block-is, head-is, tables-are, tail-is, source-is}
+use Rattle.record.proofs.Laws.{length-source}
+use Rattle.record.specs.Types.{Sized}
+use borrow.Author.Needs.{needs}
+use Rattle.record.proofs.put_source.Statement.{statement}
+use Rattle.record.proofs.put_source.Tie as tie
+use Rattle.record.proofs.put_source.Reads as reads
+use Rattle.record.proofs.put_source.Lts as lts
+use Rattle.record.proofs.put_bytes.Reads as put-bytes-reads
+use Rattle.record.proofs.put_head.Reads as put-head-reads
+use Rattle.record.proofs.put_tables.Reads as put-tables-reads
+use Rattle.record.proofs.put_tail.Reads as put-tail-reads
+
+-- src/lib.rt:193:5
+put-head-requires : tie.Need-put-head-requires
+put-head-requires c κs = search needs
+
+-- src/lib.rt:194:21
+add-put-tables : tie.Need-add-put-tables
+add-put-tables c = search needs
+
+-- src/lib.rt:194:5
+put-tables-requires : tie.Need-put-tables-requires
+put-tables-requires c κs = search needs
+
+-- src/lib.rt:195:19
+add-put-tail : tie.Need-add-put-tail
+add-put-tail c = search needs
+
+-- src/lib.rt:195:5
+put-tail-requires : tie.Need-put-tail-requires
+put-tail-requires c κs = search needs
+
+-- src/lib.rt:197:20
+add-put-bytes : tie.Need-add-put-bytes
+add-put-bytes c = search needs
+
+-- src/lib.rt:197:30
+slice-aggregate-put-bytes : tie.Need-slice-aggregate-put-bytes
+slice-aggregate-put-bytes c = search needs
+
+-- src/lib.rt:197:5
+put-bytes-requires : tie.Need-put-bytes-requires
+put-bytes-requires c κs = search needs
+
+-- src/lib.rt:189:1
+same-length : tie.Need-same-length
+same-length c = search needs
+
+-- src/lib.rt:189:1
+returns : tie.Need-returns
+unfolding fill
+returns c = 
+    let a = c .before .before .before .before .before .before .before .before .before .before .before .before .before .before .before .before .before .before .args in
+    let t = c .before .before .before .before .before .before .before .before .before .before .before .put-tables .ensures in
+    let e = c .before .before .before .before .before .before .before .put-tail .ensures in
+    let z : Sized (a .s) = record { original = t .1; tables = t .2; stamp = e .1; id = e .2; validator = e .3 } in
+    (c .before .before .put-bytes .ensures ∙ rw (e .0, t .0, c .before .before .before .before .before .before .before .before .before .before .before .before .before .before .before .put-head .ensures) (source-is (a .out .now) (a .at) (a .s) z), length-source (a .s) z)
+
+pub put-source-spec : {M : Type 1} → statement M
+put-source-spec =
+    tie.close
+    (tie.spec
+    put-head-requires
+    add-put-tables
+    put-tables-requires
+    add-put-tail
+    put-tail-requires
+    add-put-bytes
+    slice-aggregate-put-bytes
+    put-bytes-requires
+    same-length
+    returns)

@@ -1,0 +1,44 @@
+use mathlib.Core.Path.{_≡_, refl, sym, ap, _∙_}
+use mathlib.Core.List.{List, [], _∷_, _++_, append-nil}
+use Prim.Native.Nat.{ℕ, suc, _≤_, _-_, _+_, _*_, _/_, _%_}
+use native.Mathlib.Omega.{arith}
+use lib.ListN.{length, drop, take, length-set, getD, replicate}
+use lib.Seq.{sets, take-length, take-all, length-sets, drop-length}
+use Rattle.leaf.specs.Bytes.{byte, word, le32, le64, time}
+use Rattle.record.specs.Runs.{many, fill, puts}
+use Rattle.record.specs.Record.{noBlock, blockAt, blockBytes, sourceOf, headBytes, tableBytes, tailBytes, sourceBytes}
+use Rattle.record.proofs.Laws.{block-is, head-is, tables-are, tail-is, source-is}
+use borrow.Author.Needs.{needs}
+use Rattle.record.proofs.put_tables.Statement.{statement}
+use Rattle.record.proofs.put_tables.Tie as tie
+use Rattle.record.proofs.put_tables.Reads as reads
+use Rattle.record.proofs.put_tables.Lts as lts
+use Rattle.record.proofs.put_blocks.Reads as put-blocks-reads
+use Rattle.record.proofs.put_words.Reads as put-words-reads
+
+-- src/lib.rt:149:5
+put-words-requires : tie.Need-put-words-requires
+put-words-requires c κs = search needs
+
+-- src/lib.rt:151:21
+add-put-blocks : tie.Need-add-put-blocks
+add-put-blocks c = search needs
+
+-- src/lib.rt:151:5
+put-blocks-requires : tie.Need-put-blocks-requires
+put-blocks-requires c κs = search needs
+
+-- src/lib.rt:144:1
+same-length : tie.Need-same-length
+same-length c = search needs
+
+-- src/lib.rt:144:1
+returns : tie.Need-returns
+returns c = 
+    let a = c .before .before .before .before .before .before .before .before .before .before .before .args in
+    let n = c .before .before .before .before .before .before .before .put-words .ensures .1 in
+    (c .before .before .put-blocks .ensures .0 ∙ rw (c .before .before .before .before .before .before .before .put-words .ensures .0) (tables-are (a .out .now) (a .at) (a .s) n), n, c .before .before .put-blocks .ensures .1)
+
+pub put-tables-spec : {M : Type 1} → statement M
+put-tables-spec =
+    tie.close (tie.spec put-words-requires add-put-blocks put-blocks-requires same-length returns)

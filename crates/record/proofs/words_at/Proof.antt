@@ -1,0 +1,77 @@
+use Rattle.record.proofs.words_at.Statement.{statement}
+use Rattle.record.proofs.words_at.Tie as tie
+use Rattle.record.proofs.words_at.Reads as reads
+use Rattle.record.proofs.words_at.Lts as lts
+use Rattle.leaf.proofs.bytes.get.Reads as get-reads
+use borrow.Author.Needs.{needs}
+use mathlib.Core.Path.{_≡_, refl, sym, ap, _∙_}
+use mathlib.Core.List.{List, [], _∷_, _++_, append-nil}
+use Prim.Native.Nat.{ℕ, suc, _≤_, _-_, _+_, _*_, _/_, _%_}
+use native.Mathlib.Omega.{arith}
+use lib.ListN.{length, drop, take, length-set, getD, replicate}
+use lib.Seq.{sets, take-length, take-all, length-sets, drop-length}
+use Rattle.leaf.specs.Bytes.{byte, word, le32, le64, time}
+use Rattle.record.specs.Runs.{many, fill, puts}
+use Rattle.record.specs.Record.{noBlock, blockAt, blockBytes, sourceOf, headBytes, tableBytes, tailBytes, sourceBytes}
+use Rattle.record.proofs.Series.{many-set, drop-new}
+
+abbrev Inv-loop : tie.InvT-loop
+Inv-loop r at n t₀ j₀ t j = (j ≤ n) × (t ≡ many word 4 r at j ++ drop j t₀)
+
+abbrev μ-loop : tie.MeasureT-loop
+μ-loop r at n t₀ j₀ t j = n - j
+
+loop-holds : tie.Need-loop-holds Inv-loop μ-loop
+unfolding many
+loop-holds c = (omega arith, refl)
+
+mul-get : tie.Need-mul-get Inv-loop μ-loop
+mul-get c = search needs
+
+add-get : tie.Need-add-get Inv-loop μ-loop
+add-get c = search needs
+
+get-requires : tie.Need-get-requires Inv-loop μ-loop
+get-requires c κs = search needs
+
+mul-t : tie.Need-mul-t Inv-loop μ-loop
+mul-t c = search needs
+
+array-write-t : tie.Need-array-write-t Inv-loop μ-loop
+array-write-t c = search needs
+
+add-j : tie.Need-add-j Inv-loop μ-loop
+add-j c = search needs
+
+loop-less : tie.Need-loop-less Inv-loop μ-loop
+loop-less c = search needs
+
+loop-again : tie.Need-loop-again Inv-loop μ-loop
+loop-again c = 
+    let a = c .before .before .before .before .args in
+    let l = c .before .before .loop in
+    (omega arith, rw (l .inv .1) (many-set word 4 (a .r .now) (a .at) (l .j) (replicate 16 0) 0 (c .get .result) (omega arith) (c .get .ensures)))
+
+returns : tie.Need-returns Inv-loop μ-loop
+returns c = 
+    let a = c .before .before .before .args in
+    let l = c .before .loop in
+    let e : l .j ≡ a .n = omega arith in
+    rw e at (l .inv .1) ∙ ap (λ t. many word 4 (a .r .now) (a .at) (a .n) ++ t) (drop-new 0 16 (a .n))
+
+pub words-at-spec : {M : Type 1} → statement M
+words-at-spec =
+    tie.close
+    (tie.spec
+    Inv-loop
+    μ-loop
+    loop-holds
+    mul-get
+    add-get
+    get-requires
+    mul-t
+    array-write-t
+    add-j
+    loop-less
+    loop-again
+    returns)

@@ -1,0 +1,4 @@
+pub mod Runs
+pub mod Record
+pub mod Types
+pub mod Claims

@@ -1,0 +1,62 @@
+-- A source's record: 01's 'Versions 1, 2, 3 have three records ..'.
+use mathlib.Core.List.{List, [], _∷_, _++_}
+use Prim.Native.Nat.{ℕ, _+_, _*_, _-_}
+use lib.Dec.{ltb}
+use lib.ListN.{take}
+use Rattle.number.specs.Number.{pick}
+use Rattle.leaf.specs.Bytes.{byte, word, time, le32, le64}
+use Rattle.record.specs.Runs.{many, puts, fill}
+use Rattle.record.specs.declared.Block.{Block}
+use Rattle.record.specs.declared.Source.{Source}
+
+-- the table of versions: bytes of a record, and tables
+abbrev pub sourceSize : ℕ → ℕ
+sourceSize v = pick (ltb v 2) 160 (pick (ltb v 3) 352 384)
+
+abbrev pub tableCount : ℕ → ℕ
+tableCount v = pick (ltb v 3) 7 8
+
+-- a table's block: offset, length, CRC
+abbrev pub blockAt : List ℕ → ℕ → Block
+blockAt l at = record { offset = word l at; length = word l (at + 4); crc = word l (at + 8) }
+
+-- the block of an absent table
+abbrev pub noBlock : Block
+noBlock = record { offset = 0; length = 0; crc = 0 }
+
+-- The record l with n tables. l is the record alone: version 1 ends before the stamp, and a byte past the end reads 0.
+unfoldable pub sourceOf : ℕ → List ℕ → Source
+sourceOf n l =
+    record {
+      start = word l 0;
+      end = word l 4;
+      present = word l 8;
+      updated = time l 12;
+      original = many word 4 l 20 (n * 2) ++ fill 0 (16 - n * 2);
+      tables = many blockAt 12 l (n * 8 + 20) n ++ fill noBlock (8 - n);
+      stamp = many byte 1 l (n * 20 + 20) 12;
+      idlen = byte l (n * 20 + 32);
+      id = many byte 1 l (n * 20 + 33) 80;
+      validator = many byte 1 l (n * 20 + 113) 66
+    }
+
+-- the record of a version that stands first in l
+unfoldable pub decoded : ℕ → List ℕ → Source
+decoded v l = sourceOf (tableCount v) (take (sourceSize v) l)
+
+-- a record as written: the bytes before the tables, the tables, what is after them, and zeros
+unfoldable pub headBytes : Source → List ℕ
+headBytes s = le32 (s .start) ++ (le32 (s .end) ++ (le32 (s .present) ++ le64 (s .updated)))
+
+unfoldable pub blockBytes : Block → List ℕ
+blockBytes b = le32 (b .offset) ++ (le32 (b .length) ++ le32 (b .crc))
+
+unfoldable pub tableBytes : Source → List ℕ
+tableBytes s = puts le32 (s .original) ++ puts blockBytes (s .tables)
+
+unfoldable pub tailBytes : Source → List ℕ
+tailBytes s = s .stamp ++ (s .idlen ∷ (s .id ++ s .validator))
+
+-- the record of version 3, 384 bytes
+unfoldable pub sourceBytes : Source → List ℕ
+sourceBytes s = headBytes s ++ (tableBytes s ++ (tailBytes s ++ fill 0 45))

@@ -1,0 +1,39 @@
+-- What the types of a record's fields say of its values: every record that a program holds is so.
+use mathlib.Core.Path.{_≡_}
+use mathlib.Core.List.{List, [], _∷_}
+use Prim.Native.Nat.{ℕ, _<_, _^_}
+use lib.ListN.{length}
+use mir.Syntax.{w64}
+use mir.Val.{SFits}
+use Rattle.record.specs.declared.Block.{Block}
+use Rattle.record.specs.declared.Source.{Source}
+
+-- P of each
+unfoldable pub All : {A : Type 0} → (A → Type 0) → List A → Type 0
+All P [] = Unit {0}
+All P (x ∷ xs) = P x × All P xs
+
+abbrev pub U32 : ℕ → Type 0
+U32 n = n < 2 ^ 32
+
+pub record Block32 (b : Block) : Type 0 where
+  pub offset : U32 (b .offset)
+  pub length : U32 (b .length)
+  pub crc : U32 (b .crc)
+
+-- its arrays have their lengths
+pub record Sized (s : Source) : Type 0 where
+  pub original : length (s .original) ≡ 16
+  pub tables : length (s .tables) ≡ 8
+  pub stamp : length (s .stamp) ≡ 12
+  pub id : length (s .id) ≡ 80
+  pub validator : length (s .validator) ≡ 66
+
+-- its numbers are in range
+pub record Ranged (s : Source) : Type 0 where
+  pub start : U32 (s .start)
+  pub end : U32 (s .end)
+  pub present : U32 (s .present)
+  pub updated : SFits w64 (s .updated)
+  pub original : All U32 (s .original)
+  pub tables : All Block32 (s .tables)

@@ -1,0 +1,339 @@
+// A source's record in a bank's header: read for every version, written for version 3.
+ghost use mathlib.Core.Path.{_≡_};
+ghost use mathlib.Core.List.{_++_};
+ghost use Prim.Native.Nat.{_+_, _-_, _*_, _≤_};
+ghost use lib.ListN.{length, drop, take, set};
+ghost use lib.Seq.{sets};
+ghost use Rattle.leaf.specs.Bytes.{byte, word, le32, le64, written};
+ghost use Rattle.record.specs.Runs.{many, puts, fill};
+ghost use Rattle.record.specs.Record.{
+    sourceSize, tableCount, noBlock, blockAt, blockBytes, sourceOf, decoded, headBytes, tableBytes, tailBytes, sourceBytes,
+};
+use leaf::bytes::get;
+use leaf::bytes::get8;
+use leaf::bytes::get_time;
+use leaf::bytes::put;
+use leaf::bytes::put_time;
+
+// Where a table's bytes stand in the data, and their CRC.
+pub struct Block {
+    pub offset: u32,
+    pub length: u32,
+    pub crc: u32,
+}
+
+// A record. Stamp, id and validator are carried raw.
+pub struct Source {
+    pub start: u32,
+    pub end: u32,
+    pub present: u32,
+    pub updated: i64,
+    pub original: [u32; 16],
+    pub tables: [Block; 8],
+    pub stamp: [u8; 12],
+    pub idlen: u8,
+    pub id: [u8; 80],
+    pub validator: [u8; 66],
+}
+
+// How many bytes a record of a version has.
+pub fn source_size(version: u32) -> usize
+    ensures { λ r. ⌜ (r ≡ sourceSize version) × (r ≤ 384) ⌝ }
+{
+    if version < 2 {
+        160
+    } else if version < 3 {
+        352
+    } else {
+        384
+    }
+}
+
+// How many tables a record of a version has.
+fn table_count(version: u32) -> usize
+    ensures { λ r. ⌜ (r ≡ tableCount version) × (r ≤ 8) ⌝ }
+{
+    if version < 3 { 7 } else { 8 }
+}
+
+// The first n bytes, all where there are fewer.
+fn first(b: &[u8], n: usize) -> &[u8]
+    ensures { λ r. ⌜ now r ≡ take n (now (b .entry)) ⌝ }
+{
+    if n < b.len() {
+        return &b[0..n];
+    }
+    &b[0..b.len()]
+}
+
+fn block_at(r: &[u8], at: usize) -> Block
+    requires { ⌜ at ≤ 10000 ⌝ }
+    ensures { λ x. ⌜ x ≡ blockAt (now (r .entry)) at ⌝ }
+{
+    Block {
+        offset: get(r, at),
+        length: get(r, at + 4),
+        crc: get(r, at + 8),
+    }
+}
+
+fn words_at(r: &[u8], at: usize, n: usize) -> [u32; 16]
+    requires { ⌜ (n ≤ 16) × (at ≤ 1000) ⌝ }
+    ensures { λ x. ⌜ x ≡ many word 4 (now (r .entry)) at n ++ fill 0 (16 - n) ⌝ }
+{
+    let mut t = [0u32; 16];
+    let mut j = 0;
+    while j < n {
+        let x = get(r, at + j * 4);
+        t[j] = x;
+        j += 1;
+    }
+    t
+}
+
+fn blocks_at(r: &[u8], at: usize, n: usize) -> [Block; 8]
+    requires { ⌜ (n ≤ 8) × (at ≤ 1000) ⌝ }
+    ensures { λ x. ⌜ x ≡ many blockAt 12 (now (r .entry)) at n ++ fill noBlock (8 - n) ⌝ }
+{
+    let b = Block { offset: 0, length: 0, crc: 0 };
+    let mut t = [b; 8];
+    let mut j = 0;
+    while j < n {
+        let x = block_at(r, at + j * 12);
+        t[j] = x;
+        j += 1;
+    }
+    t
+}
+
+// The first n bytes of out become those of s from a place on.
+fn copy_in(out: &mut [u8], s: &[u8], at: usize, n: usize)
+    requires { ⌜ (n ≤ length (now out)) × (at ≤ 1000000) × (n ≤ 1000000) ⌝ }
+    ensures { λ _. ⌜ now (out .exit) ≡ many byte 1 (now (s .entry)) at n ++ drop n (now (out .entry)) ⌝ }
+{
+    let mut j = 0;
+    while j < n {
+        let x = get8(s, at + j);
+        out[j] = x;
+        j += 1;
+    }
+}
+
+// The record with n tables that r is.
+fn read(r: &[u8], n: usize) -> Source
+    requires { ⌜ n ≤ 8 ⌝ }
+    ensures { λ x. ⌜ x ≡ sourceOf n (now (r .entry)) ⌝ }
+{
+    let original = words_at(r, 20, n * 2);
+    let tables = blocks_at(r, n * 8 + 20, n);
+    let mut stamp = [0u8; 12];
+    copy_in(&mut stamp, r, n * 20 + 20, 12);
+    let mut id = [0u8; 80];
+    copy_in(&mut id, r, n * 20 + 33, 80);
+    let mut validator = [0u8; 66];
+    copy_in(&mut validator, r, n * 20 + 113, 66);
+    Source {
+        start: get(r, 0),
+        end: get(r, 4),
+        present: get(r, 8),
+        updated: get_time(r, 12),
+        original,
+        tables,
+        stamp,
+        idlen: get8(r, n * 20 + 32),
+        id,
+        validator,
+    }
+}
+
+// The record of a version that stands first in bytes.
+pub fn decode(bytes: &[u8], version: u32) -> Source
+    ensures { λ r. ⌜ r ≡ decoded version (now (bytes .entry)) ⌝ }
+{
+    let size = source_size(version);
+    let tables = table_count(version);
+    let r = first(bytes, size);
+    read(r, tables)
+}
+
+fn put8(out: &mut [u8], at: usize, v: u8)
+    requires { ⌜ at + 1 ≤ length (now out) ⌝ }
+    ensures { λ _. ⌜ now (out .exit) ≡ set (now (out .entry)) at v ⌝ }
+{
+    out[at] = v;
+}
+
+fn put32(out: &mut [u8], at: usize, v: u32)
+    requires { ⌜ at + 4 ≤ length (now out) ⌝ }
+    ensures { λ _. ⌜ now (out .exit) ≡ sets (now (out .entry)) at (le32 v) ⌝ }
+{
+    put(out, at, v);
+}
+
+fn put64(out: &mut [u8], at: usize, z: i64)
+    requires { ⌜ at + 8 ≤ length (now out) ⌝ }
+    ensures { λ _. ⌜ now (out .exit) ≡ sets (now (out .entry)) at (le64 z) ⌝ }
+{
+    put_time(out, at, z);
+}
+
+fn put_bytes(out: &mut [u8], at: usize, s: &[u8])
+    requires { ⌜ at + length (now s) ≤ length (now out) ⌝ }
+    ensures { λ _. ⌜ now (out .exit) ≡ sets (now (out .entry)) at (now (s .entry)) ⌝ }
+{
+    let mut j = 0;
+    while j < s.len() {
+        out[at + j] = s[j];
+        j += 1;
+    }
+}
+
+fn put_block(out: &mut [u8], at: usize, b: Block)
+    requires { ⌜ at + 12 ≤ length (now out) ⌝ }
+    ensures { λ _. ⌜ now (out .exit) ≡ sets (now (out .entry)) at (blockBytes b) ⌝ }
+{
+    put32(out, at, b.offset);
+    put32(out, at + 4, b.length);
+    put32(out, at + 8, b.crc);
+}
+
+fn put_words(out: &mut [u8], at: usize, ws: [u32; 16])
+    requires { ⌜ at + 64 ≤ length (now out) ⌝ }
+    ensures { λ _. ⌜ (now (out .exit) ≡ sets (now (out .entry)) at (puts le32 ws)) × (length ws ≡ 16) ⌝ }
+{
+    let mut j = 0;
+    while j < 16 {
+        put32(out, at + j * 4, ws[j]);
+        j += 1;
+    }
+}
+
+fn put_blocks(out: &mut [u8], at: usize, bs: [Block; 8])
+    requires { ⌜ at + 96 ≤ length (now out) ⌝ }
+    ensures { λ _. ⌜ (now (out .exit) ≡ sets (now (out .entry)) at (puts blockBytes bs)) × (length bs ≡ 8) ⌝ }
+{
+    let mut j = 0;
+    while j < 8 {
+        put_block(out, at + j * 12, bs[j]);
+        j += 1;
+    }
+}
+
+fn put_head(out: &mut [u8], at: usize, s: Source)
+    requires { ⌜ at + 20 ≤ length (now out) ⌝ }
+    ensures { λ _. ⌜ now (out .exit) ≡ sets (now (out .entry)) at (headBytes s) ⌝ }
+{
+    put32(out, at, s.start);
+    put32(out, at + 4, s.end);
+    put32(out, at + 8, s.present);
+    put64(out, at + 12, s.updated);
+}
+
+fn put_tables(out: &mut [u8], at: usize, s: Source)
+    requires { ⌜ at + 160 ≤ length (now out) ⌝ }
+    ensures { λ _. ⌜ (now (out .exit) ≡ sets (now (out .entry)) at (tableBytes s)) × (length (s .original) ≡ 16) × (length (s .tables) ≡ 8) ⌝ }
+{
+    let ws = s.original;
+    put_words(out, at, ws);
+    let bs = s.tables;
+    put_blocks(out, at + 64, bs);
+}
+
+fn put_stamp(out: &mut [u8], at: usize, x: [u8; 12])
+    requires { ⌜ at + 12 ≤ length (now out) ⌝ }
+    ensures { λ _. ⌜ (now (out .exit) ≡ sets (now (out .entry)) at x) × (length x ≡ 12) ⌝ }
+{
+    put_bytes(out, at, &x);
+}
+
+fn put_id(out: &mut [u8], at: usize, x: [u8; 80])
+    requires { ⌜ at + 80 ≤ length (now out) ⌝ }
+    ensures { λ _. ⌜ (now (out .exit) ≡ sets (now (out .entry)) at x) × (length x ≡ 80) ⌝ }
+{
+    put_bytes(out, at, &x);
+}
+
+fn put_validator(out: &mut [u8], at: usize, x: [u8; 66])
+    requires { ⌜ at + 66 ≤ length (now out) ⌝ }
+    ensures { λ _. ⌜ (now (out .exit) ≡ sets (now (out .entry)) at x) × (length x ≡ 66) ⌝ }
+{
+    put_bytes(out, at, &x);
+}
+
+fn put_tail(out: &mut [u8], at: usize, s: Source)
+    requires { ⌜ at + 159 ≤ length (now out) ⌝ }
+    ensures { λ _. ⌜ (now (out .exit) ≡ sets (now (out .entry)) at (tailBytes s)) × (length (s .stamp) ≡ 12) × (length (s .id) ≡ 80) × (length (s .validator) ≡ 66) ⌝ }
+{
+    let stamp = s.stamp;
+    put_stamp(out, at, stamp);
+    put8(out, at + 12, s.idlen);
+    let id = s.id;
+    put_id(out, at + 13, id);
+    let validator = s.validator;
+    put_validator(out, at + 93, validator);
+}
+
+// The record of version 3 at a place where it fits.
+fn put_source(out: &mut [u8], at: usize, s: Source)
+    requires { ⌜ at + 384 ≤ length (now out) ⌝ }
+    ensures { λ _. ⌜ (now (out .exit) ≡ sets (now (out .entry)) at (sourceBytes s)) × (length (sourceBytes s) ≡ 384) ⌝ }
+{
+    put_head(out, at, s);
+    put_tables(out, at + 20, s);
+    put_tail(out, at + 180, s);
+    let zeros = [0u8; 45];
+    put_bytes(out, at + 339, &zeros);
+}
+
+// The arrays of a record have their lengths.
+fn has_words(ws: [u32; 16])
+    ensures { λ _. ⌜ length ws ≡ 16 ⌝ }
+{
+}
+
+fn has_blocks(bs: [Block; 8])
+    ensures { λ _. ⌜ length bs ≡ 8 ⌝ }
+{
+}
+
+fn has_stamp(x: [u8; 12])
+    ensures { λ _. ⌜ length x ≡ 12 ⌝ }
+{
+}
+
+fn has_id(x: [u8; 80])
+    ensures { λ _. ⌜ length x ≡ 80 ⌝ }
+{
+}
+
+fn has_validator(x: [u8; 66])
+    ensures { λ _. ⌜ length x ≡ 66 ⌝ }
+{
+}
+
+fn has_size(s: Source)
+    ensures { λ _. ⌜ length (sourceBytes s) ≡ 384 ⌝ }
+{
+    let original = s.original;
+    has_words(original);
+    let tables = s.tables;
+    has_blocks(tables);
+    let stamp = s.stamp;
+    has_stamp(stamp);
+    let id = s.id;
+    has_id(id);
+    let validator = s.validator;
+    has_validator(validator);
+}
+
+// Puts the record of version 3 at a place, where it fits; else nothing changes.
+pub fn encode(s: Source, out: &mut [u8], at: usize)
+    ensures { λ _. ⌜ now (out .exit) ≡ written (now (out .entry)) at (sourceBytes s) ⌝ }
+{
+    has_size(s);
+    if 384 <= out.len() {
+        if at <= out.len() - 384 {
+            put_source(out, at, s);
+        }
+    }
+}
