@@ -14,10 +14,12 @@ use borrow.Author.Tests.{eq-eqb, ne-eqb, eqb-true, eqb-false, leb-true}
 use mir.Syntax.{w64}
 use mir.Val.{SFits, ofZ}
 use Rattle.leaf.specs.Bytes.{word}
+use Rattle.refusal.specs.declared.Refusal.{Refusal}
 use Rattle.refusal.specs.declared.Refusal.the-variants.{Mark, Seal, Span, Source as BadSource}
 use Rattle.record.specs.Runs.{many, each}
 use Rattle.record.proofs.Series.{many-more}
 use Rattle.header.specs.declared.Bank.{Bank}
+use Rattle.header.specs.declared.Validated.{Validated}
 use Rattle.header.specs.declared.Validated.the-variants.{Good, Refused}
 use Rattle.header.specs.Header.{isUnknown, lengthOk, keyOk, countOk, spanOk, numbersOf, recordsOf, sourceOk, judge, marked, sealed, headerOf}
 
@@ -104,3 +106,39 @@ module _ (n : ℕ) (l : List ℕ) where
     → Good (numbersOf n l) ≡ headerOf n l
   unfolding headerOf judge
   all-good m s e f = rw (m, s, e, f)
+
+-- what passes 3 to 6: the numbers are the header's, and both tests of the judge hold
+abbrev isGood : Validated → Bool
+isGood (Good b) = true
+isGood (Refused r) = false
+
+abbrev bankIn : Bank → Validated → Bank
+bankIn d (Good b) = b
+bankIn d (Refused r) = d
+
+pub no-refusal : {A : Type 0} (r : Refusal) (b : Bank) → Refused r ≡ Good b → A
+no-refusal r b e = absurd (false≢true (ap isGood e))
+
+pub record Passed (n : ℕ) (l : List ℕ) (b : Bank) : Type 0 where
+  pub numbers : b ≡ numbersOf n l
+  pub span : spanOk b ≡ true
+  pub sources : each (sourceOk b) (recordsOf (b .version) l (b .count)) ≡ true
+
+module _ (n : ℕ) (l : List ℕ) (b : Bank) where
+  passed-by : (m s p q : Bool) → marked l ≡ m → sealed l ≡ s → spanOk (numbersOf n l) ≡ p → each (sourceOk (numbersOf n l)) (recordsOf (word l 4) l (word l 20)) ≡ q
+    → headerOf n l ≡ Good b → Passed n l b
+  unfolding numbersOf
+  passed-by false s p q em es ep eq e = no-refusal Mark b (not-marked n l em ∙ e)
+  passed-by true false p q em es ep eq e = no-refusal Seal b (not-sealed n l em es ∙ e)
+  passed-by true true false q em es ep eq e = no-refusal Span b (not-spanned n l em es ep ∙ e)
+  passed-by true true true false em es ep eq e = no-refusal BadSource b (bad-source n l em es ep eq ∙ e)
+  passed-by true true true true em es ep eq e =
+      let k : numbersOf n l ≡ b = ap (bankIn b) (all-good n l em es ep eq ∙ e) in
+      record {
+        numbers = sym k;
+        span = ap spanOk (sym k) ∙ ep;
+        sources = ap (λ (x : Bank). each (sourceOk x) (recordsOf (x .version) l (x .count))) (sym k) ∙ eq
+      }
+
+  pub passed : headerOf n l ≡ Good b → Passed n l b
+  passed e = passed-by (marked l) (sealed l) (spanOk (numbersOf n l)) (each (sourceOk (numbersOf n l)) (recordsOf (word l 4) l (word l 20))) refl refl refl refl e
