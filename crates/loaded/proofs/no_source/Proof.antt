@@ -1,0 +1,12 @@
+use Rattle.record.specs.Runs.{fill}
+use Rattle.loaded.specs.Source.{noSource}
+use mathlib.Core.Path.{_≡_, refl, sym, ap, _∙_}
+use Rattle.loaded.proofs.no_source.Statement.{statement}
+use Rattle.loaded.proofs.no_source.Tie as tie
+
+returns : tie.Need-returns
+unfolding noSource fill
+returns c = refl
+
+pub no-source-spec : {M : Type 1} → statement M
+no-source-spec = tie.close (tie.spec returns)

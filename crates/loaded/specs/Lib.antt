@@ -1,0 +1,3 @@
+pub mod Source
+pub mod Freshness
+pub mod Steps

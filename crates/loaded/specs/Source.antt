@@ -1,0 +1,52 @@
+-- A source of a loaded bank.
+use mathlib.Core.Bool.{Bool, true, false}
+use mathlib.Core.List.{List}
+use Prim.Native.Nat.{ℕ, _+_, _*_}
+use lib.Dec.{ltb}
+use lib.IntN.{pos}
+use Rattle.number.specs.Number.{pick}
+use Rattle.refusal.specs.declared.Refusal.{Refusal}
+use Rattle.refusal.specs.declared.Refusal.the-variants.{Source as NoSuchSource}
+use Rattle.record.specs.declared.Source.{Source}
+use Rattle.record.specs.Record.{sourceSize, noBlock}
+use Rattle.record.specs.Runs.{fill}
+use Rattle.header.specs.declared.Bank.{Bank}
+use Rattle.header.specs.declared.Validated.{Validated}
+use Rattle.header.specs.declared.Validated.the-variants.{Good, Refused as Bad}
+use Rattle.header.specs.Region.{bankOf}
+use Rattle.header.specs.Header.{recordAt}
+use Rattle.bank.specs.Bank.{named}
+use Rattle.loaded.specs.declared.Outcome.{Outcome}
+use Rattle.loaded.specs.declared.Outcome.the-variants.{Done, Refused}
+use Rattle.loaded.specs.declared.Asked.{Asked}
+
+-- zeros: what stands beside a refusal
+unfoldable pub noSource : Source
+noSource =
+    record {
+      start = 0;
+      end = 0;
+      present = 0;
+      updated = pos 0;
+      original = fill 0 16;
+      tables = fill noBlock 8;
+      stamp = fill 0 12;
+      idlen = 0;
+      id = fill 0 80;
+      validator = fill 0 66
+    }
+
+-- the record at an index of a bank
+unfoldable pub sourceIn : List ℕ → Bank → ℕ → Source
+sourceIn region b i = recordAt (b .version) (bankOf region (b .number)) (48 + i * sourceSize (b .version))
+
+abbrev pub refuse : Refusal → Asked
+refuse r = record { outcome = Refused r; source = noSource }
+
+abbrev pub thenSource : List ℕ → ℕ → Validated → Asked
+thenSource region i (Good b) = pick (ltb i (b .count)) (record { outcome = Done; source = sourceIn region b i }) (refuse NoSuchSource)
+thenSource region i (Bad r) = refuse r
+
+-- 1, 2, 3 to 6, and 6 at or past the count
+unfoldable pub askedSource : List ℕ → ℕ → ℕ → Asked
+askedSource region n i = thenSource region i (named region n)
