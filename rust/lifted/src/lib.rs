@@ -8,6 +8,7 @@ use standins::{download, embassy_futures, embedded_io_async, heapless};
 
 pub mod cache;
 pub mod gtfs;
+pub mod numbered;
 pub mod smoke;
 
 pub mod cooperative {

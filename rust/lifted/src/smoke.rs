@@ -6,53 +6,19 @@ use crate::{
         door::{self, BankFields, SourceFields, Update},
     },
     gtfs::{Date, Error, Table, csv::values::Values, mobility::Snapshot},
-    heapless,
-    standins::flash::{Flash, Operation},
-    timetable_display::{
-        Config,
-        config::{Group, Pick},
-        feed::Builder,
-        freshness::Freshness,
+    standins::{
+        flash::{Flash, Operation},
+        settings,
     },
+    timetable_display::{Config, feed::Builder, freshness::Freshness},
 };
 
 const NOW: i64 = 1_790_000_000;
 const ROUTES: [[&str; 3]; 3] = [["r1", "7", "0"], ["r\"2", "8, 9", "3"], ["r3", "", "700"]];
 
-fn pick([line, route, code, stop, name]: [&str; 5]) -> Pick {
-    Pick {
-        route: route.try_into().unwrap(),
-        line: line.try_into().unwrap(),
-        stop: stop.try_into().unwrap(),
-        stop_name: name.try_into().unwrap(),
-        stop_code: code.try_into().unwrap(),
-        headsign: heapless::String::default(),
-        direction: -1,
-        walk: 0,
-        spread: 0,
-        margin: 0,
-    }
-}
-
-/// Settings with these picks (line, route, stop code, stop, stop name), four to
-/// a group.
+/// Settings with these picks (line, route, stop code, stop, stop name).
 fn config(picks: &[[&str; 5]]) -> Config {
-    let mut config = Config::default();
-    for four in picks.chunks(4) {
-        let mut group = Group {
-            name: heapless::String::default(),
-            days: 0,
-            start: 0,
-            end: 0,
-            picks: heapless::Vec::default(),
-            journey: None,
-        };
-        for fields in four {
-            group.picks.push(pick(*fields)).unwrap();
-        }
-        config.groups.push(group).unwrap();
-    }
-    config
+    settings::config(picks).unwrap()
 }
 
 /// The appends of one update, up to the commit.

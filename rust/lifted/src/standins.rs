@@ -7,4 +7,6 @@ pub mod feed;
 pub mod flash;
 pub mod heapless;
 pub mod run;
+pub mod settings;
+pub mod view;
 pub mod zip;

@@ -1,0 +1,435 @@
+#!/usr/bin/env python3
+"""Makes the sample images of samples/: flash regions of 983,040 bytes, always the same.
+
+The header, the records, the key and the rows are laid out here from document 01,
+apart from the core and from the Rust."""
+
+import argparse
+import os
+import struct
+import subprocess
+import sys
+import zlib
+
+ROOT = os.path.dirname(os.path.dirname(os.path.abspath(__file__)))
+FOLDER = os.path.join(ROOT, "samples")
+BANK = 491_520
+SECTOR = 4096
+CAPACITY = BANK - SECTOR
+REGION = 2 * BANK
+DUMP = 4_194_304
+AT = 0x300000
+COMMIT = 0x434F4D54
+UNKNOWN = -(1 << 63)
+SIZES = {1: 160, 2: 352, 3: 384}
+TABLES = ["routes", "stops", "trips", "stop_times", "calendar", "calendar_dates", "feed_info",
+          "transfers"]
+COLUMNS = [
+    "route_id,route_short_name,route_type",
+    "stop_id,stop_code,stop_name",
+    "route_id,service_id,trip_id,trip_headsign,direction_id",
+    "trip_id,stop_id,stop_sequence,arrival_time,departure_time,pickup_type,drop_off_type,"
+    "stop_headsign",
+    "service_id,monday,tuesday,wednesday,thursday,friday,saturday,sunday,start_date,end_date",
+    "service_id,date,exception_type",
+    "feed_start_date,feed_end_date",
+    "from_stop_id,to_stop_id,transfer_type,min_transfer_time,from_route_id,to_route_id,"
+    "from_trip_id,to_trip_id",
+]
+CHECKED = 1_790_000_000
+
+# The selection that most images are for; tools/compare-images can ask for it.
+IDENTITY = b"mdb-1078 Europe/Oslo"
+PICKS = [(b"7", b"r7", b"", b"s1", b"Central Station"), (b"12", b"r12", b"4102", b"s2", b"Harbour")]
+
+
+def key(identity, picks):
+    distinct = sorted({(line, route, code, stop, b"" if code else name)
+                       for line, route, code, stop, name in picks})
+    out = b"" if not identity else b"\xff" + struct.pack("<H", len(identity)) + identity
+    out += bytes([len(distinct)])
+    for pick in distinct:
+        for field in pick:
+            out += bytes([len(field)]) + field
+    return out
+
+
+def row(values):
+    def quoted(value):
+        if any(c in value for c in '",\r\n'):
+            return '"%s"' % value.replace('"', '""')
+        return value
+    return (",".join(map(quoted, values)) + "\n").encode()
+
+
+def table(t, rows):
+    return (COLUMNS[t] + "\n").encode() + b"".join(map(row, rows))
+
+
+def rows(t, city, trips):
+    """Some rows of a table."""
+    if t == 0:
+        return [("r7", "7", "0"), ("r12", "12", "3")]
+    if t == 1:
+        return [("s1", "", "Central Station"), ("s2", "4102", "Harbour"),
+                ("s3", "4103", 'The "Old" Bridge, %s' % city)]
+    if t == 2:
+        return [("r7" if i % 2 else "r12", "wk", "t%d" % i, "%s, north" % city, str(i % 2))
+                for i in range(trips)]
+    if t == 3:
+        return [("t%d" % i, "s1" if i % 2 else "s2", "1",
+                 "%02d:%02d:00" % (5 + i // 60 % 20, i % 60),
+                 "%02d:%02d:30" % (5 + i // 60 % 20, i % 60), "", "", "") for i in range(trips)]
+    if t == 4:
+        return [("wk", "1", "1", "1", "1", "1", "0", "0", "20260101", "20261231")]
+    if t == 5:
+        return [("wk", "20260501", "2"), ("wk", "20260517", "2")]
+    if t == 6:
+        return [("20260101", "20261231")]
+    return [("s1", "s2", "2", "180", "", "", "", "")]
+
+
+class Source:
+    """A record; blocks are set when its tables are laid out."""
+
+    def __init__(self, start=20260101, end=20261231, updated=CHECKED - 90_000, tables=range(7),
+                 city="Oslo", trips=12, identity=b"mdb-1078", stamp=b"202601020304",
+                 validator=b'\x12\x01"5f3e-61a2b3c4d5"'):
+        self.start, self.end, self.updated = start, end, updated
+        self.tables, self.city, self.trips = list(tables), city, trips
+        self.present = sum(1 << t for t in self.tables)
+        self.original = [(0, 0)] * 8
+        self.blocks = [(0, 0, 0)] * 8
+        self.stamp, self.identity, self.validator = stamp, identity, validator
+
+    def lay(self, data):
+        data += struct.pack("<II", self.start, self.end)
+        for t in self.tables:
+            text = table(t, rows(t, self.city, self.trips))
+            self.blocks[t] = (len(data), len(text), zlib.crc32(text))
+            whole = text + b"more rows of the whole feed\n" * (t + 1)
+            self.original[t] = (zlib.crc32(whole), len(whole) * 100)
+            data += text
+
+    def record(self, version):
+        tables = 8 if version == 3 else 7
+        out = struct.pack("<IIIq", self.start, self.end, self.present, self.updated)
+        for crc, size in self.original[:tables]:
+            out += struct.pack("<II", crc, size)
+        for block in self.blocks[:tables]:
+            out += struct.pack("<III", *block)
+        if version > 1:
+            out += self.stamp + bytes([len(self.identity)]) + self.identity.ljust(80, b"\0")
+            out += self.validator.ljust(66, b"\0")
+        return out.ljust(SIZES[version], b"\0")
+
+
+class Bank:
+    """One bank; any field can be set to something wrong before it is made."""
+
+    def __init__(self, generation, sources=None, version=3, words=None, **fields):
+        self.sources = sources if sources is not None else [Source()]
+        self.version, self.generation = version, generation
+        words = key(IDENTITY, PICKS) if words is None else words
+        data = bytearray(words)
+        for source in self.sources:
+            source.lay(data)
+        self.data = data
+        self.magic, self.commit = b"TTFC", COMMIT
+        self.length, self.crc = len(data), zlib.crc32(data)
+        self.count, self.key_length = len(self.sources), len(words)
+        self.checked, self.spare, self.seal = CHECKED, 0, None
+        self.past = {}
+        for name, value in fields.items():
+            setattr(self, name, value)
+
+    def header(self):
+        records = b""
+        for i in range(3):
+            size = SIZES.get(self.version, 384)
+            if i in self.past:
+                records += self.past[i].ljust(size, b"\0")[:size]
+            elif i < len(self.sources):
+                records += self.sources[i].record(self.version if self.version in SIZES else 3)
+            else:
+                records += bytes(size)
+        out = self.magic + struct.pack(
+            "<IIIIIIIq", self.version, self.generation, self.length, self.crc, self.count,
+            self.key_length, self.spare, self.checked)
+        seal = zlib.crc32(out + bytes(8) + records) if self.seal is None else self.seal
+        return out + struct.pack("<II", seal, self.commit) + records
+
+    def bytes(self):
+        return self.header().ljust(SECTOR, b"\xff") + bytes(self.data).ljust(CAPACITY, b"\xff")
+
+
+ERASED = b"\xff" * BANK
+
+
+def good(generation, version=3, trips=12, **fields):
+    second = Source(20260601, 20270331, city="Bergen", trips=8, identity=b"mdb-2031",
+                    tables=range(8 if version >= 3 else 7))
+    return Bank(generation, [Source(trips=trips), second], version, **fields)
+
+
+def with_source(generation, **fields):
+    """A bank whose first record has these fields, its header CRC right."""
+    bank = Bank(generation)
+    for name, value in fields.items():
+        setattr(bank.sources[0], name, value)
+    return bank
+
+
+def block(generation, offset, length):
+    bank = Bank(generation)
+    bank.sources[0].blocks[7] = (offset, length, 0)
+    return bank
+
+
+def flipped(bank, place, bit=0):
+    out = bytearray(bank.bytes())
+    out[place] ^= 1 << bit
+    return bytes(out)
+
+
+def cut(generation, data):
+    """A bank whose update was cut: header sector erased, some pages written."""
+    return b"\xff" * SECTOR + bytes(data).ljust(CAPACITY, b"\xff")
+
+
+def ticket():
+    """A good header over rows of two timetables: the new one's to a page's end, then the one before."""
+    new, before = Bank(12, [Source(trips=40)]), Bank(10, [Source(trips=40, city="Bergen")])
+    length = 768
+    new.data[length:] = before.data[length:new.length]
+    return Bank(11, [Source(trips=24)]), new
+
+
+def full():
+    bank = Bank(21, [Source(trips=12)])
+    text = bytearray(table(3, []))
+    i = 0
+    while True:
+        line = row(("t%d" % i, "s1", "1", "%02d:%02d:00" % (5 + i // 60 % 20, i % 60), "", "", "", ""))
+        if len(bank.data) + len(text) + len(line) > CAPACITY:
+            break
+        text += line
+        i += 1
+    spare = CAPACITY - len(bank.data) - len(text)
+    text = text[:-1] + b"x" * spare + b"\n"
+    bank.sources[0].blocks[3] = (len(bank.data), len(text), zlib.crc32(text))
+    bank.data += text
+    bank.length, bank.crc = len(bank.data), zlib.crc32(bank.data)
+    assert bank.length == CAPACITY
+    return bank
+
+
+def three_sources():
+    return [Source(20260101, 20260630, updated=CHECKED - 500),
+            Source(20260615, 20260815, updated=UNKNOWN, city="Bergen"),
+            Source(20260101, 20261231, updated=0, city="Hamar", tables=[0, 1, 2, 3])]
+
+
+def noise(length):
+    return b"".join(struct.pack("<I", zlib.crc32(b"%d" % i)) for i in range(length // 4))
+
+
+def longest():
+    picks = [(b"line%04d" % i, b"r" * 32, b"", b"s" * 32, b"n" * 64) for i in range(16)]
+    return key(b"identity " * 7281 + b"ending", picks)
+
+
+OK = "passes"
+
+
+def images():
+    """Name, what it shows, both banks, what is meant of each, the bank that load gives."""
+    refuse = {n: "refusal %d %s" % (n, w) for n, w in
+              zip(range(3, 8), ["mark", "seal", "span", "source", "data"])}
+    last = (1 << 32) - 1
+    half = 1 << 31
+    bad = {
+        3: [good(9, magic=b"TTFB"), good(8, version=4)],
+        4: [good(9, seal=0), flipped(Bank(8), 48 + 2 * 384 + 7)],
+        5: [good(9, checked=-1), good(8, count=4)],
+        6: [with_source(9, start=20260229), block(8, last, 2)],
+        7: [flipped(good(9), SECTOR + 200), flipped(Bank(8), SECTOR + Bank(8).length - 1, 7)],
+    }
+    out = [
+        ("fresh", "a region never written: all bytes 255", ERASED, ERASED, refuse[3], refuse[3], None),
+        ("two-good", "two good banks, two sources each, a key of an identity and two picks",
+         good(7, trips=9), good(8), OK, OK, 1),
+        ("one-good", "one good bank, the other never written", Bank(0), ERASED, OK, refuse[3], 0),
+    ]
+    why = {3: "magic wrong", 4: "header CRC wrong", 5: "checked time below 0",
+           6: "start date 20260229", 7: "one bit of the data flipped"}
+    both = {3: "magic wrong; version 4", 4: "header CRC wrong; a bit flipped in a record past the count",
+            5: "checked time below 0; four sources", 6: "start date 20260229; block at 4294967295 of length 2",
+            7: "a bit flipped in the data; the last data bit flipped"}
+    for n in range(3, 8):
+        out.append(("refusal-%d" % n, why[n] + "; the other bank good and older",
+                    bad[n][0], good(8), refuse[n], OK, 1))
+    for n in range(3, 8):
+        out.append(("both-%d" % n, both[n], bad[n][0], bad[n][1], refuse[n], refuse[n], None))
+    out += [
+        ("generation-0-after-last", "0 is newer than 4294967295", good(last), Bank(0), OK, OK, 1),
+        ("generation-last-before-0", "0 is newer than 4294967295, banks the other way round",
+         Bank(0), good(last), OK, OK, 0),
+        ("generation-equal", "equal generations: bank 0", good(5), Bank(5), OK, OK, 0),
+        ("generation-half-above", "generations 2147483648 apart: bank 0", good(0), Bank(half), OK, OK, 0),
+        ("generation-half-below", "generations 2147483648 apart, the other way round: bank 0",
+         good(half), Bank(0), OK, OK, 0),
+        ("generation-of-bad", "the newer word stands in a bad bank", good(3),
+         good(4, crc=0), OK, refuse[7], 0),
+        ("cut-in-data", "an update cut after two pages of data", good(3),
+         cut(4, Bank(4).data[:512]), OK, refuse[3], 0),
+        ("cut-before-commit", "an update cut before its commit word", good(3),
+         Bank(4, commit=last), OK, refuse[3], 0),
+        ("version-1", "a bank of version 1", good(1, version=1), ERASED, OK, refuse[3], 0),
+        ("version-2", "a bank of version 2", good(1, version=2), ERASED, OK, refuse[3], 0),
+        ("version-3", "a bank of version 3", good(1), ERASED, OK, refuse[3], 0),
+        ("versions-1-and-2", "a bank of version 2 after one of version 1", good(1, version=1),
+         good(2, version=2), OK, OK, 1),
+        ("three-sources", "three sources; days in common, one updated time unknown, one 0",
+         Bank(2, three_sources()), ERASED, OK, refuse[3], 0),
+        ("record-past-count", "garbage in the records past the count, header CRC right",
+         Bank(2, past={1: noise(384), 2: noise(384)[::-1]}), ERASED, OK, refuse[3], 0),
+        ("present-bit-7", "present bit 7 in version 1, which has no table 7", None, ERASED, OK,
+         refuse[3], 0),
+        ("empty-block-anywhere", "an empty table at offset 4294967295", block(2, last, 0), ERASED,
+         OK, refuse[3], 0),
+        ("bytes-28-31", "header bytes 28 to 31 not zero, header CRC right", good(2, spare=0xDEADBEEF),
+         ERASED, OK, refuse[3], 0),
+        ("id-length-200", "an id length over 80 in a stored record", None, ERASED, OK, refuse[3], 0),
+        ("ticket-41", "a good header over mixed rows: reading the header alone takes bank 1, load turns "
+         "it down; bank 0 holds the timetable last committed", *ticket(), OK, refuse[7], 0),
+        ("full-bank", "487424 bytes of data", full(), ERASED, OK, refuse[3], 0),
+        ("longest-key", "a key of 67795 bytes", Bank(2, words=longest()), ERASED, OK, refuse[3], 0),
+    ]
+    special = {}
+    bit7 = Bank(2, version=1)
+    bit7.sources[0].present = 255
+    special["present-bit-7"] = bit7
+    odd = Bank(2)
+    odd.past = {0: bytearray(odd.sources[0].record(3))}
+    odd.past[0][192] = 200
+    odd.past[0] = bytes(odd.past[0])
+    special["id-length-200"] = odd
+    return [(name, what, special.get(name, a), b, *rest) for name, what, a, b, *rest in out]
+
+
+def region(a, b):
+    out = b"".join(part if isinstance(part, bytes) else part.bytes() for part in (a, b))
+    assert len(out) == REGION
+    return out
+
+
+def readme(listed):
+    lines = [
+        "# Sample images",
+        "",
+        "Flash regions of 983,040 bytes, for `inspect` and for comparing it with the Rust (docs/INSPECT.md).",
+        "`tools/samples.py` makes them and this table; `tools/samples.py --check` says whether they are what it",
+        "makes, and `tools/samples.py --ask PROGRAM` whether an inspect program finds in them what the table says.",
+        "`tools/samples.py --dump FILE` writes a whole flash dump, with two-good in it.",
+        "",
+        "| image | what it shows | bank 0 | bank 1 | load |",
+        "|---|---|---|---|---|",
+    ]
+    for name, what, _, _, a, b, load in listed:
+        lines.append("| `%s.img` | %s | %s | %s | %s |" % (
+            name, what, a, b, "none" if load is None else "bank %d" % load))
+    picks = " ".join("--pick " + " ".join("'%s'" % f.decode() for f in pick) for pick in PICKS)
+    lines += [
+        "",
+        "All but longest-key hold the key of this selection, which `inspect` matches with",
+        "",
+        "    --identity '%s' %s" % (IDENTITY.decode(), picks),
+        "",
+        "The checked time of good banks is %d, so freshness can be asked for with" % CHECKED,
+        "",
+        "    --now %d --days 20260601,20260602,20270101" % CHECKED,
+        "",
+    ]
+    return "\n".join(lines).encode()
+
+
+def made():
+    listed = images()
+    files = {name + ".img": region(a, b) for name, _, a, b, *_ in listed}
+    files["README.md"] = readme(listed)
+    return files
+
+
+def check(folder):
+    files, bad = made(), 0
+    there = set(os.listdir(folder)) if os.path.isdir(folder) else set()
+    for name in sorted(there | set(files)):
+        if name not in files:
+            why = "isn't made here"
+        elif name not in there:
+            why = "is missing"
+        else:
+            with open(os.path.join(folder, name), "rb") as handle:
+                why = None if handle.read() == files[name] else "differs"
+        if why:
+            print("%s %s" % (name, why))
+            bad += 1
+    print("%d files, %d not as made" % (len(files), bad))
+    return 1 if bad else 0
+
+
+def ask(folder, program):
+    """Whether the program says of each image what was meant."""
+    bad = 0
+    listed = images()
+    for name, _, _, _, *expected in listed:
+        run = subprocess.run([program, os.path.join(folder, name + ".img")], text=True,
+                             stdout=subprocess.PIPE)
+        lines = run.stdout.split("\n")
+        got = [line.split(": ", 1)[1] if ": " in line else line for line in lines[1:4]]
+        got[:2] = [OK if text.startswith("version ") else text for text in got[:2]]
+        want = expected[:2] + ["none" if expected[2] is None else "bank %d" % expected[2]]
+        if run.returncode != 0 or got != want:
+            print("%s: meant %s, but the program says %s" % (name, want, got))
+            bad += 1
+    print("%d images, %d not found as meant" % (len(listed), bad))
+    return 1 if bad else 0
+
+
+def write(path, data):
+    os.makedirs(os.path.dirname(os.path.abspath(path)), exist_ok=True)
+    with open(path, "wb") as handle:
+        handle.write(data)
+
+
+def main():
+    parser = argparse.ArgumentParser(
+        prog="tools/samples.py", description="Makes the sample images of samples/ and their table.",
+        epilog="Without an option all images are written. Exit status: 0 done, 1 a file isn't as made or "
+        "a program says another thing.")
+    parser.add_argument("--folder", metavar="DIR", default=FOLDER, help="default: samples/")
+    what = parser.add_mutually_exclusive_group()
+    what.add_argument("--check", action="store_true", help="say whether the files are what is made here")
+    what.add_argument("--ask", metavar="PROGRAM",
+                      help="run an inspect program over the images and see that it finds what is meant")
+    what.add_argument("--dump", metavar="FILE",
+                      help="write a whole flash dump of 4194304 bytes, with two-good at 0x300000")
+    options = parser.parse_args()
+    if options.check:
+        return check(options.folder)
+    if options.ask:
+        return ask(options.folder, options.ask)
+    if options.dump:
+        inside = made()["two-good.img"]
+        write(options.dump, b"\xff" * AT + inside + b"\xff" * (DUMP - AT - REGION))
+        return 0
+    files = made()
+    for name, data in files.items():
+        write(os.path.join(options.folder, name), data)
+    print("%d files written" % len(files))
+    return 0
+
+
+if __name__ == "__main__":
+    sys.exit(main())
