@@ -3,6 +3,8 @@
 
 /// The core's C interface, in one place. A slice is a pointer and a length.
 mod core_interface {
+    use crate::answers::*;
+
     unsafe extern "C" {
         pub fn tt_get(b: *const u8, n: usize, i: usize) -> u32;
         pub fn tt_put(b: *mut u8, n: usize, i: usize, v: u32);
@@ -14,9 +16,65 @@ mod core_interface {
         pub safe fn tt_date_new(year: u16, month: u8, day: u8) -> u32;
         pub safe fn tt_valid_date(d: u32) -> bool;
         pub safe fn tt_rotate13(x: u32) -> u32;
+        pub fn tt_validate(region: *const u8, n: usize, bank: u32) -> BankAnswer;
+        pub fn tt_header(region: *const u8, n: usize, bank: u32) -> BankAnswer;
+        pub fn tt_load(region: *const u8, n: usize) -> BankAnswer;
+        pub fn tt_source(
+            region: *const u8,
+            n: usize,
+            bank: u32,
+            index: u32,
+            out: *mut u8,
+            room: usize,
+        ) -> u32;
+        pub fn tt_fresh(
+            region: *const u8,
+            n: usize,
+            bank: u32,
+            day0: u32,
+            day1: u32,
+            day2: u32,
+            wanted0: bool,
+            wanted1: bool,
+            wanted2: bool,
+            now: i64,
+        ) -> FreshAnswer;
+        pub fn tt_key(
+            identity: *const u8,
+            identity_length: usize,
+            texts: *const u8,
+            texts_length: usize,
+            lengths: *const u32,
+            lengths_length: usize,
+            out: *mut u8,
+            room: usize,
+        ) -> KeyAnswer;
+        pub fn tt_same_key(
+            region: *const u8,
+            n: usize,
+            bank: u32,
+            identity: *const u8,
+            identity_length: usize,
+            texts: *const u8,
+            texts_length: usize,
+            lengths: *const u32,
+            lengths_length: usize,
+        ) -> SameKeyAnswer;
+        pub fn tt_check_start(region: *const u8, n: usize, bank: u32) -> TurnAnswer;
+        pub fn tt_check_turn(
+            region: *const u8,
+            n: usize,
+            bank: u32,
+            position: u32,
+            crc: u32,
+            count: u32,
+        ) -> TurnAnswer;
     }
 }
 use core_interface::*;
+
+pub mod answers;
+pub mod banks;
 
 /// The 32-bit number at `i`, little-endian; bytes past the end read 0.
 pub fn get(b: &[u8], i: usize) -> u32 {

@@ -32,6 +32,14 @@ impl Random {
     pub fn below(&mut self, limit: usize) -> usize {
         (self.u64() % limit as u64) as usize
     }
+    /// One of several.
+    pub fn pick<T: Copy>(&mut self, of: &[T]) -> T {
+        of[self.below(of.len())]
+    }
+    /// True once in `n` times.
+    pub fn once_in(&mut self, n: usize) -> bool {
+        self.below(n) == 0
+    }
     pub fn bytes(&mut self, length: usize) -> Vec<u8> {
         (0..length).map(|_| (self.u64() >> 56) as u8).collect()
     }

@@ -1,5 +1,9 @@
 //! Runs the core beside the lifted Rust and counts where they differ.
+mod banks;
+mod keys;
 mod leaves;
+mod made;
+mod pairs;
 
 use std::{collections::BTreeMap, fmt::Debug, process::ExitCode};
 
@@ -31,6 +35,8 @@ pub struct Tally {
     compared: u64,
     differ: u64,
     smallest: BTreeMap<(Vec<u64>, u64), String>,
+    /// What the inputs were, where the number of answers doesn't say it.
+    pub note: String,
 }
 
 impl Tally {
@@ -89,6 +95,22 @@ const PARTS: &[Part] = &[
     Part { name: "put", about: "put, in range and past it, every byte", run: leaves::put },
     Part { name: "times", about: "signed 64-bit times, read and written", run: leaves::times },
     Part { name: "rotate", about: "rotation left by 13", run: leaves::rotate },
+    Part { name: "keys", about: "key, every output byte", run: keys::key },
+    Part {
+        name: "banks",
+        about: "validate, header, load, source, freshness, key match, turns",
+        run: banks::banks,
+    },
+    Part {
+        name: "records",
+        about: "records of all versions, each byte against the image's own",
+        run: banks::records,
+    },
+    Part {
+        name: "pairs",
+        about: "refusals that are true at once: the earlier one is given",
+        run: pairs::pairs,
+    },
     Part { name: "smoke", about: "the lifted Rust alone, through an update", run: smoke },
 ];
 
@@ -144,7 +166,11 @@ fn main() -> ExitCode {
         let part = &PARTS[i];
         let mut tally = Tally::default();
         (part.run)(&plan, &mut tally);
-        println!("{}: {} compared, {} differ", part.name, tally.compared, tally.differ);
+        let note = if tally.note.is_empty() { "" } else { " of " };
+        println!(
+            "{}: {} compared{note}{}, {} differ",
+            part.name, tally.compared, tally.note, tally.differ
+        );
         for text in tally.smallest.values() {
             println!("  {text}");
         }

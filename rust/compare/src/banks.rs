@@ -1,0 +1,535 @@
+//! Banks: validate, load, sources, freshness, key match, checking in turns.
+use crate::{
+    Plan, Tally,
+    keys::{self, Selection},
+    made::{self, BANK, CAPACITY, DAYS, NO_DAYS, REGION, SECTOR, UNKNOWN},
+};
+use bankcore::{
+    answers::{BankAnswer, FreshAnswer, SameKeyAnswer, TurnAnswer},
+    banks,
+};
+use common::Random;
+use lifted::{
+    cache::{
+        Bank, OFFSET,
+        door::{self, BankFields, SourceFields, get},
+    },
+    gtfs::{Date, Error},
+    numbered::{self, Refusal},
+    standins::view::View,
+    timetable_display::feed::Builder,
+};
+
+/// What is in a region, by the lifted Rust.
+struct Expected<'a> {
+    region: &'a [u8],
+    /// The header's outcome: a bank, or the refusal from 3 to 6.
+    header: [Result<Bank, u32>; 2],
+    /// Whether the data's CRC is right too.
+    whole: [bool; 2],
+}
+
+fn answer(region: &[u8], bank: Bank) -> BankAnswer {
+    let b = BankFields::from(bank);
+    let at = (b.offset - OFFSET) as usize;
+    BankAnswer {
+        refusal: 0,
+        found: 1,
+        number: (at / BANK) as u32,
+        version: b.version,
+        generation: b.generation,
+        length: b.length,
+        crc: get(region, at + 16),
+        count: b.count,
+        key: b.key_length,
+        checked: b.checked,
+    }
+}
+
+fn refused(refusal: u32) -> BankAnswer {
+    BankAnswer { refusal, ..BankAnswer::default() }
+}
+
+/// The lifted `validate`, and where only the data's CRC is wrong, what it says
+/// with the right one in its place and the header sealed again.
+fn header(region: &[u8], bank: usize) -> (Result<Bank, u32>, bool) {
+    match numbered::validate(&View::new(region), bank as u32) {
+        Ok(found) => (Ok(found), true),
+        Err(Refusal::Number(7)) => {
+            let at = bank * BANK;
+            let length = get(region, at + 12) as usize;
+            let crc = crc32fast::hash(&region[at + SECTOR..][..length]);
+            let (size, _) = made::layout(get(region, at + 4));
+            let mut header = region[at..][..48 + 3 * size].to_vec();
+            header[16..20].copy_from_slice(&crc.to_le_bytes());
+            header[40..48].fill(0);
+            let instead = [(at + 16, crc), (at + 40, crc32fast::hash(&header))];
+            let view = View { instead: &instead, ..View::new(region) };
+            match numbered::validate(&view, bank as u32) {
+                Ok(found) => (Ok(found), false),
+                Err(error) => panic!("the Rust refuses a repaired bank: {error:?}"),
+            }
+        }
+        Err(Refusal::Number(number)) => (Err(number), false),
+        Err(Refusal::Other(error)) => panic!("the Rust's validate says {error:?}"),
+    }
+}
+
+impl<'a> Expected<'a> {
+    fn of(region: &'a [u8]) -> Self {
+        let [(a, first), (b, second)] = [header(region, 0), header(region, 1)];
+        Self { region, header: [a, b], whole: [first, second] }
+    }
+    fn describe(&self, round: usize, bank: usize, what: String) -> (Vec<u64>, String) {
+        let at = bank * BANK;
+        let header = &self.region[at..at + 48];
+        let hex: String = header.iter().map(|b| format!("{b:02x}")).collect();
+        let length = get(header, 12).into();
+        (vec![length, round as u64], format!("region {round}, bank {bank}, {what}, header {hex}"))
+    }
+    fn header(&self, bank: usize) -> BankAnswer {
+        match self.header[bank] {
+            Ok(found) => answer(self.region, found),
+            Err(number) => refused(number),
+        }
+    }
+    fn validate(&self, bank: usize) -> BankAnswer {
+        match self.header[bank] {
+            Ok(_) if !self.whole[bank] => refused(7),
+            _ => self.header(bank),
+        }
+    }
+    fn load(&self) -> BankAnswer {
+        match door::load(&View::new(self.region)) {
+            Ok(Some(found)) => answer(self.region, found),
+            Ok(None) => refused(0),
+            Err(error) => panic!("the Rust's load says {error:?}"),
+        }
+    }
+    fn fresh(&self, bank: usize, days: [u32; 3], wanted: [bool; 3], now: i64) -> FreshAnswer {
+        let refused = |refusal| FreshAnswer { refusal, checked: UNKNOWN, updated: UNKNOWN };
+        let date = |d: u32| {
+            let date = Date::new((d / 10000) as u16, (d / 100 % 100) as u8, (d % 100) as u8);
+            date.ok().filter(|_| door::valid_date(d))
+        };
+        let [Some(a), Some(b), Some(c)] = days.map(date) else {
+            return refused(2);
+        };
+        let found = match self.header[bank] {
+            Ok(found) => found,
+            Err(number) => return refused(number),
+        };
+        let wanted = (0..3).map(|i| u8::from(wanted[i]) << i).sum();
+        let builder = Builder { dates: [a, b, c], wanted };
+        let fresh = door::fresh(found, &View::new(self.region), &builder, now).unwrap();
+        FreshAnswer {
+            refusal: 0,
+            checked: fresh.checked_at.unwrap_or(UNKNOWN),
+            updated: fresh.source_updated_at.unwrap_or(UNKNOWN),
+        }
+    }
+    fn same_key(&self, bank: usize, selection: &Selection) -> SameKeyAnswer {
+        let refused = |refusal| SameKeyAnswer { refusal, same: 0 };
+        let config = match selection.config() {
+            Ok(config) => config,
+            Err(number) => return refused(number),
+        };
+        let found = match self.header[bank] {
+            Ok(found) => found,
+            Err(number) => return refused(number),
+        };
+        let view = View { identity: &selection.identity, ..View::new(self.region) };
+        match door::same_key(found, &view, &config) {
+            Ok(same) => SameKeyAnswer { refusal: 0, same: same.into() },
+            Err(Error::BufferTooSmall) => refused(8),
+            Err(error) => panic!("the Rust's same_key says {error:?}"),
+        }
+    }
+    /// A turn, from the header's numbers and crc32fast.
+    fn turn(&self, bank: u32, position: u32, crc: u32, n: u32) -> TurnAnswer {
+        let same = TurnAnswer { refusal: 0, verdict: 0, count: 0, bank, position, crc };
+        let refused = |refusal| TurnAnswer { refusal, ..same };
+        if bank > 1 || position > CAPACITY as u32 {
+            return refused(11);
+        }
+        let header = self.header(bank as usize);
+        if header.refusal != 0 {
+            return refused(header.refusal);
+        }
+        let Some(left) = header.length.checked_sub(position) else {
+            return refused(11);
+        };
+        if left == 0 {
+            return match crc == header.crc {
+                true => TurnAnswer { verdict: 1, ..same },
+                false => refused(7),
+            };
+        }
+        let count = n.min(left);
+        let data = &self.region[bank as usize * BANK + SECTOR + position as usize..];
+        let mut hash = crc32fast::Hasher::new_with_initial(crc);
+        hash.update(&data[..count as usize]);
+        TurnAnswer { count, position: position + count, crc: hash.finalize(), ..same }
+    }
+}
+
+fn ask_headers(tally: &mut Tally, expected: &Expected, round: usize) {
+    for bank in 0..2 {
+        let input = |what: &str| expected.describe(round, bank, what.into());
+        let core = banks::validate(expected.region, bank as u32);
+        tally.same(core, expected.validate(bank), || input("validate"));
+        let core = banks::header(expected.region, bank as u32);
+        tally.same(core, expected.header(bank), || input("header"));
+    }
+    let core = banks::load(expected.region);
+    tally.same(core, expected.load(), || expected.describe(round, 0, "load".into()));
+}
+
+/// A record in version 3's form: numbers as the lifted `Source` has them, stamp,
+/// id and validator as the image has them.
+fn written(region: &[u8], found: Bank, i: u32) -> Vec<u8> {
+    let b = BankFields::from(found);
+    let source = door::source(found, &View::new(region), i as usize).unwrap();
+    let mut out = vec![0; 384];
+    SourceFields { snapshot: None, ..source }.encode(&mut out);
+    let (size, tables) = made::layout(b.version);
+    let stored = &region[(b.offset - OFFSET) as usize + 48 + i as usize * size..][..size];
+    out[180..].fill(0);
+    if b.version > 1 {
+        out[180..339].copy_from_slice(&stored[20 + tables * 20..][..159]);
+    }
+    out
+}
+
+/// Where the Rust finds stamp and id sensible: its own against those given.
+fn sensible(tally: &mut Tally, region: &[u8], found: Bank, i: u32, out: &[u8]) -> bool {
+    let source = door::source(found, &View::new(region), i as usize).unwrap();
+    let Some(snapshot) = source.snapshot else {
+        return false;
+    };
+    let id = snapshot.feed_id().as_bytes();
+    let core = (&out[180..192], out[192] as usize, &out[193..193 + id.len()], &out[273..339]);
+    let rust = (snapshot.timestamp().as_bytes(), id.len(), id, &source.validator.0[..]);
+    tally.same(core, rust, || {
+        (vec![u64::from(i)], format!("stamp, id and validator of source {i}"))
+    });
+    true
+}
+
+fn ask_sources(tally: &mut Tally, expected: &Expected, round: usize, random: &mut Random) -> usize {
+    let mut found_sensible = 0;
+    for bank in 0..2 {
+        let count = expected.header[bank].map_or(0, |b| BankFields::from(b).count);
+        let far = count + 2 + random.u32() % 1000;
+        let far = random.pick(&[u32::MAX, far]);
+        for index in (0..=count + 1).chain([far]) {
+            let short = random.once_in(8);
+            let room = random.pick(if short { &[383, 0, 1] } else { &[384, 385, 400] });
+            let before: Vec<u8> =
+                (0..room).map(|i| (i as u8).wrapping_mul(7) ^ round as u8).collect();
+            let mut out = before.clone();
+            let core = banks::source(expected.region, bank as u32, index, &mut out);
+            let mut after = before;
+            let rust = match expected.header[bank] {
+                Err(number) => number,
+                Ok(found) if index >= count => {
+                    let rust = door::source(found, &View::new(expected.region), index as usize);
+                    assert_eq!(rust, Err(Error::InvalidZip));
+                    6
+                }
+                Ok(_) if room < 384 => 9,
+                Ok(found) => {
+                    after[..384].copy_from_slice(&written(expected.region, found, index));
+                    found_sensible +=
+                        usize::from(sensible(tally, expected.region, found, index, &out));
+                    0
+                }
+            };
+            let what = || format!("source {index} into {room} bytes");
+            tally.same(core, rust, || expected.describe(round, bank, what()));
+            tally.same(&out, &after, || expected.describe(round, bank, what()));
+        }
+    }
+    found_sensible
+}
+
+fn ask_fresh(tally: &mut Tally, expected: &Expected, round: usize, random: &mut Random) {
+    let bank = random.below(2);
+    let mut dates = DAYS.to_vec();
+    let mut times = vec![-1, 0, i64::MIN, i64::MAX, random.u64() as i64];
+    if let Ok(found) = expected.header[bank] {
+        let b = BankFields::from(found);
+        times.extend([b.checked, b.checked.wrapping_add(1), b.checked.wrapping_sub(1)]);
+        for i in 0..b.count as usize {
+            let source = door::source(found, &View::new(expected.region), i).unwrap();
+            for date in [source.start, source.end] {
+                dates.extend([date, date, date - 1, date + 1]);
+            }
+            times.extend([source.updated, source.updated.wrapping_sub(1)]);
+        }
+    }
+    for masks in [0..8, 7..8] {
+        let mut days = [0; 3].map(|_| random.pick(&dates));
+        if random.once_in(30) {
+            days[random.below(3)] = random.pick(&NO_DAYS);
+        }
+        let now = random.pick(&times);
+        for mask in masks {
+            let wanted = [mask & 1 != 0, mask & 2 != 0, mask & 4 != 0];
+            let core = banks::fresh(expected.region, bank as u32, days, wanted, now);
+            tally.same(core, expected.fresh(bank, days, wanted, now), || {
+                expected.describe(round, bank, format!("fresh {days:?} {wanted:?} now {now}"))
+            });
+        }
+    }
+}
+
+/// A selection near another: the same, with one pick more or less, or with
+/// something else changed.
+fn near(random: &mut Random, selection: &Selection) -> Selection {
+    let mut other = selection.clone();
+    match random.below(9) {
+        0 => {
+            other.identity.pop();
+        }
+        1 => other.identity.push(random.u32() as u8),
+        2 if !other.identity.is_empty() => {
+            let at = random.below(other.identity.len());
+            other.identity[at] ^= 1 << random.below(8);
+        }
+        3 => {
+            let fewer = other.lengths.len().saturating_sub(5);
+            other.lengths.truncate(fewer);
+        }
+        4 => {
+            other.texts.push(b'z');
+            let used: usize = other.lengths.iter().map(|n| *n as usize).sum();
+            other.texts.truncate(used + 1);
+            other.lengths.extend([1, 0, 0, 0, 0]);
+        }
+        5 if random.once_in(20) => other.identity = vec![7; keys::LONGEST + 1],
+        6 => {
+            let at = random.below(other.texts.len().max(1));
+            if let Some(letter) = other.texts.get_mut(at).filter(|b| b.is_ascii()) {
+                *letter ^= 1;
+            }
+        }
+        _ => {}
+    }
+    other
+}
+
+fn ask_keys(
+    tally: &mut Tally,
+    expected: &Expected,
+    round: usize,
+    random: &mut Random,
+    selections: &[Selection; 2],
+) {
+    for bank in 0..2 {
+        let other = &selections[random.below(2)];
+        for selection in [selections[bank].clone(), near(random, other)] {
+            let (identity, picks) = (&selection.identity, selection.picks());
+            let core = banks::same_key(expected.region, bank as u32, identity, picks);
+            tally.same(core, expected.same_key(bank, &selection), || {
+                let (_, text) = selection.describe();
+                expected.describe(round, bank, format!("same_key of {text}"))
+            });
+        }
+    }
+}
+
+fn ask_turns(tally: &mut Tally, expected: &Expected, round: usize, random: &mut Random) {
+    let bank = random.below(2);
+    let region = expected.region;
+    let header = expected.header(bank);
+    let started = banks::check_start(region, bank as u32);
+    let zero =
+        TurnAnswer { refusal: 0, verdict: 0, count: 0, bank: bank as u32, position: 0, crc: 0 };
+    let rust = match header.refusal {
+        0 => zero,
+        refusal => TurnAnswer { refusal, bank: 255, ..zero },
+    };
+    tally.same(started, rust, || expected.describe(round, bank, "check_start".into()));
+    if header.refusal == 0 {
+        let mut state = zero;
+        let mut sum = 0_u64;
+        let largest = header.length / 4 + 2;
+        let last = loop {
+            let n = match random.below(12) {
+                0 => 0,
+                1 => 1,
+                2 => 255,
+                3 => 256,
+                4 => u32::MAX,
+                5 => header.length - state.position,
+                6 => (header.length - state.position).saturating_sub(1),
+                _ => random.below(largest as usize) as u32,
+            };
+            let core = banks::check_turn(region, state.bank, state.position, state.crc, n);
+            let rust = expected.turn(state.bank, state.position, state.crc, n);
+            tally.same(core, rust, || {
+                let (place, crc) = (state.position, state.crc);
+                expected.describe(round, bank, format!("turn of {n} at {place} with crc {crc:08x}"))
+            });
+            sum += u64::from(core.count);
+            if core != rust || core.refusal != 0 || core.verdict != 0 {
+                break core;
+            }
+            state = core;
+        };
+        let input = |what: &str| expected.describe(round, bank, what.into());
+        tally.same(sum, header.length.into(), || input("sum of the turns"));
+        let whole = expected.validate(bank).refusal;
+        tally.same(last.refusal, whole, || input("the turns' verdict"));
+        tally.same(last.verdict == 1, whole == 0, || input("the turns' yes"));
+    }
+    // states that no turn gave
+    for _ in 0..3 {
+        let length = header.length;
+        let near = [0, length, length + 1, length.wrapping_sub(1), CAPACITY as u32];
+        let state = (
+            if random.once_in(4) {
+                random.pick(&[2, 7, 255, u32::MAX])
+            } else {
+                random.below(2) as u32
+            },
+            if random.once_in(5) {
+                random.pick(&[CAPACITY as u32 + 1, u32::MAX])
+            } else {
+                random.pick(&near)
+            },
+            [0, header.crc, random.u32()][random.below(3)],
+        );
+        let n = random.pick(&[0, 1, 100, u32::MAX]);
+        let core = banks::check_turn(region, state.0, state.1, state.2, n);
+        tally.same(core, expected.turn(state.0, state.1, state.2, n), || {
+            expected.describe(round, bank, format!("turn of {n} from the state {state:?}"))
+        });
+    }
+}
+
+/// Writes one bank and gives the selection that its key may be of.
+fn fill(random: &mut Random, pool: &[u8], region: &mut [u8], bank: usize) -> Selection {
+    let other = get(region, (1 - bank) * BANK + 8);
+    let header = &mut region[bank * BANK..][..SECTOR];
+    match random.below(60) {
+        0 => header.fill(255),
+        1 => header[..1200].copy_from_slice(&random.bytes(1200)),
+        _ => {}
+    }
+    if header[0] == 255 && random.once_in(2) {
+        return Selection::default();
+    }
+    let count = if random.once_in(10) { 16 } else { random.below(4) };
+    let identity =
+        if random.once_in(400) { keys::identity(random) } else { vec![b'I'; random.below(90)] };
+    let selection = Selection::of(&identity, &keys::picks(random, count, false));
+    let key = selection.key().unwrap_or(vec![0]);
+    let data = match random.below(700) {
+        0 => CAPACITY,
+        1 => CAPACITY - random.below(300),
+        2 => random.below(CAPACITY),
+        3..90 => random.below(3),
+        _ => random.below(600),
+    };
+    let length = (key.len() + data).min(CAPACITY);
+    let stored = &mut region[bank * BANK + SECTOR..][..length];
+    let from = random.below(CAPACITY - length + 1);
+    stored.copy_from_slice(&pool[from..from + length]);
+    stored[..key.len()].copy_from_slice(&key);
+    let key_length = match random.below(12) {
+        0 => 1 + random.below(length),
+        1 => (key.len() + 1).min(length),
+        2 => (key.len() - 1).max(1),
+        3 => length,
+        _ => key.len(),
+    };
+    let mut made = made::good(random, key_length as u32, length as u32);
+    made.generation = match random.below(9) {
+        0 => other,
+        1 => other.wrapping_add(1),
+        2 => other.wrapping_sub(1),
+        3 => other.wrapping_add(1 << 31),
+        4 => other.wrapping_add((1 << 31) + 1),
+        5 => other.wrapping_add((1 << 31) - 1),
+        6 => 0,
+        7 => u32::MAX,
+        _ => made.generation,
+    };
+    for _ in 0..random.pick(&[0, 0, 0, 0, 1, 1, 1, 1, 1, 2]) {
+        made.damage(random);
+    }
+    made.write(region, bank);
+    if random.once_in(8) {
+        made::flip(random, region, bank, made.length);
+    }
+    selection
+}
+
+pub fn banks(plan: &Plan, tally: &mut Tally) {
+    let mut random = Random::new(plan.seed);
+    let pool = random.bytes(CAPACITY);
+    let mut region = vec![255; REGION];
+    let mut selections: [Selection; 2] = Default::default();
+    let mut seen = [0_usize; 8];
+    let rounds = if plan.quick { 1_000 } else { 50_000 };
+    for round in 0..rounds {
+        for bank in 0..2 {
+            if round == 0 || random.below(4) != 0 {
+                selections[bank] = fill(&mut random, &pool, &mut region, bank);
+            }
+        }
+        let expected = Expected::of(&region);
+        for bank in 0..2 {
+            seen[expected.validate(bank).refusal as usize] += 1;
+        }
+        ask_headers(tally, &expected, round);
+        ask_sources(tally, &expected, round, &mut random);
+        ask_fresh(tally, &expected, round, &mut random);
+        ask_keys(tally, &expected, round, &mut random, &selections);
+        ask_turns(tally, &expected, round, &mut random);
+    }
+    tally.note = format!(
+        "{rounds} regions (banks: {} good, {} by 3, {} by 4, {} by 5, {} by 6, {} by 7)",
+        seen[0], seen[3], seen[4], seen[5], seen[6], seen[7]
+    );
+}
+
+/// Records with anything in them that passes, each byte given back held against
+/// the image's own.
+pub fn records(plan: &Plan, tally: &mut Tally) {
+    let mut random = Random::new(plan.seed);
+    let mut region = vec![255; REGION];
+    let mut sensible_ones = 0;
+    let rounds = if plan.quick { 300 } else { 10_000 };
+    for round in 0..rounds {
+        let bank = random.below(2);
+        let mut made = made::good(&mut random, 1, 300);
+        made.version = 1 + (round % 3) as u32;
+        made.count = 3;
+        made.write(&mut region, bank);
+        let (size, tables) = made::layout(made.version);
+        let expected = Expected::of(&region);
+        sensible_ones += ask_sources(tally, &expected, round, &mut random);
+        for index in 0..3 {
+            let stored = &region[bank * BANK + 48 + index * size..][..size];
+            let mut out = [0xa5; 400];
+            let core = banks::source(&region, bank as u32, index as u32, &mut out);
+            let mut whole = [0; 400];
+            whole[..20 + 8 * tables].copy_from_slice(&stored[..20 + 8 * tables]);
+            whole[84..84 + 12 * tables].copy_from_slice(&stored[20 + 8 * tables..20 + 20 * tables]);
+            if made.version > 1 {
+                whole[180..339].copy_from_slice(&stored[20 + 20 * tables..][..159]);
+            }
+            whole[384..].fill(0xa5);
+            let input = || {
+                let version = made.version;
+                (vec![round as u64], format!("source {index} of version {version}: {stored:02x?}"))
+            };
+            tally.same(core, 0, input);
+            tally.same(out, whole, input);
+        }
+    }
+    tally.note = format!("{} records, {sensible_ones} with a sensible stamp and id", rounds * 3);
+}

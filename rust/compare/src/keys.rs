@@ -1,0 +1,260 @@
+//! Keys: `key`, from identity and picks.
+use crate::{Plan, Tally};
+use bankcore::{answers::KeyAnswer, banks::Picks};
+use common::Random;
+use lifted::{
+    cache::door,
+    gtfs::Error,
+    standins::settings::{self, SIZES},
+};
+
+/// The longest identity.
+pub const LONGEST: usize = 65_535;
+pub const LONGEST_KEY: usize = 67_795;
+
+/// A selection as it is handed over.
+#[derive(Clone, Debug, Default)]
+pub struct Selection {
+    pub identity: Vec<u8>,
+    pub texts: Vec<u8>,
+    pub lengths: Vec<u32>,
+}
+
+impl Selection {
+    pub fn picks(&self) -> Picks<'_> {
+        Picks { texts: &self.texts, lengths: &self.lengths }
+    }
+    /// The picks that texts and lengths mean: a length past the end is what is
+    /// left, a missing one 0.
+    pub fn fields(&self) -> Vec<[&[u8]; 5]> {
+        let mut rest = &self.texts[..];
+        let mut field = |k: usize| {
+            let length = self.lengths.get(k).map_or(0, |n| *n as usize).min(rest.len());
+            let (taken, after) = rest.split_at(length);
+            rest = after;
+            taken
+        };
+        let count = self.lengths.len().div_ceil(5);
+        (0..count).map(|i| [0, 1, 2, 3, 4].map(|k| field(i * 5 + k))).collect()
+    }
+    /// From picks, exactly.
+    pub fn of(identity: &[u8], picks: &[[String; 5]]) -> Self {
+        let texts = picks.iter().flatten().flat_map(|f| f.bytes()).collect();
+        let lengths = picks.iter().flatten().map(|f| f.len() as u32).collect();
+        Self { identity: identity.into(), texts, lengths }
+    }
+    /// The lifted settings; refusal 2 where they can't be made.
+    pub fn config(&self) -> Result<lifted::timetable_display::Config, u32> {
+        let fields = self.fields();
+        let texts: Vec<[&str; 5]> =
+            fields.iter().map(|p| p.map(|f| str::from_utf8(f).expect("texts are UTF-8"))).collect();
+        settings::config(&texts).ok_or(2)
+    }
+    /// The lifted key, or the refusal's number.
+    pub fn key(&self) -> Result<Vec<u8>, u32> {
+        door::key(&self.config()?, &self.identity).map_err(|error| {
+            assert_eq!(error, Error::BufferTooSmall);
+            8
+        })
+    }
+    pub fn describe(&self) -> (Vec<u64>, String) {
+        let fields = self.fields();
+        let shown: Vec<String> = fields
+            .iter()
+            .map(|p| p.map(|f| String::from_utf8_lossy(f).into_owned()).join("|"))
+            .collect();
+        let identity = &self.identity[..self.identity.len().min(20)];
+        (
+            vec![(self.identity.len() + self.texts.len() + self.lengths.len()) as u64],
+            format!(
+                "identity of {} bytes {identity:02x?}, {} lengths {:?}, picks {shown:?}",
+                self.identity.len(),
+                self.lengths.len(),
+                self.lengths
+            ),
+        )
+    }
+}
+
+const LETTERS: [&str; 12] =
+    ["a", "b", "a", "b", "c", "7", "\u{0}", "\u{7f}", "\u{80}", "é", "€", "\u{10000}"];
+
+/// Bytes of text, as near to `length` as whole letters go.
+fn text(random: &mut Random, length: usize) -> String {
+    let mut text = String::new();
+    while text.len() < length {
+        let odd = random.once_in(4);
+        let letter = random.pick(if odd { &LETTERS } else { &LETTERS[..4] });
+        if text.len() + letter.len() <= length {
+            text.push_str(letter);
+        }
+    }
+    text
+}
+
+fn field(random: &mut Random, k: usize, over: bool) -> String {
+    let size = SIZES[k];
+    let length = match random.below(24) {
+        0 => size,
+        1 => size - 1,
+        2 if over => size + 1,
+        3 if over => size + random.below(200),
+        4 => random.below(size + 1),
+        n if n < 14 => 0,
+        n if n < 20 => 1,
+        _ => 2,
+    };
+    text(random, length)
+}
+
+/// Picks with equal ones among them, and ones that differ in a name alone.
+pub fn picks(random: &mut Random, count: usize, over: bool) -> Vec<[String; 5]> {
+    let mut picks: Vec<[String; 5]> = Vec::new();
+    for _ in 0..count {
+        let mut pick = [0, 1, 2, 3, 4].map(|k| {
+            let over = over && random.once_in(20);
+            field(random, k, over)
+        });
+        if !picks.is_empty() && random.once_in(3) {
+            pick = picks[random.below(picks.len())].clone();
+            match random.below(4) {
+                0 => pick[4] = text(random, 3),
+                1 => pick[2] = text(random, 1),
+                2 => {
+                    let k = random.below(5);
+                    pick[k] = field(random, k, false);
+                }
+                _ => {}
+            }
+        }
+        picks.push(pick);
+    }
+    picks
+}
+
+pub fn identity(random: &mut Random) -> Vec<u8> {
+    let length = match random.below(1000) {
+        0 => LONGEST,
+        1 => LONGEST + 1,
+        2 => LONGEST - 1,
+        3..10 => 255,
+        10..17 => 256,
+        17..300 => 0,
+        300..500 => 1,
+        _ => random.below(70),
+    };
+    random.bytes(length)
+}
+
+fn selection(random: &mut Random) -> Selection {
+    let identity = identity(random);
+    let count = match random.below(20) {
+        0 => 16,
+        1 => 17,
+        2 => random.below(18),
+        _ => random.below(6),
+    };
+    let over = random.once_in(4);
+    let mut made = Selection::of(&identity, &picks(random, count, over));
+    match random.below(8) {
+        // missing lengths, which are 0
+        0 => {
+            while made.lengths.last() == Some(&0) {
+                made.lengths.pop();
+            }
+        }
+        // a length past the end, which is what is left
+        1 => {
+            if let Some(at) = made.lengths.iter().rposition(|n| *n != 0) {
+                made.lengths[at] = match random.below(3) {
+                    0 => u32::MAX,
+                    1 => made.lengths[at] + 1,
+                    _ => u32::MAX - random.below(100) as u32,
+                };
+            }
+        }
+        // texts left over
+        2 => made.texts.extend(text(random, 5).bytes()),
+        // any lengths over letters of one byte
+        3 => {
+            let n = random.below(90);
+            made.texts = (0..random.below(60)).map(|_| random.pick(b"ab\x00\x7f")).collect();
+            made.lengths = (0..n)
+                .map(|_| match random.below(12) {
+                    0 => u32::MAX,
+                    1 => u32::MAX - 1,
+                    2 => 1 << 31,
+                    3 => random.below(60) as u32,
+                    _ => random.below(3) as u32,
+                })
+                .collect();
+        }
+        _ => {}
+    }
+    made
+}
+
+fn one(tally: &mut Tally, selection: &Selection, room: usize, pattern: u8) {
+    let expected = selection.key();
+    let before: Vec<u8> = (0..room).map(|i| pattern.wrapping_add(i as u8)).collect();
+    let mut out = before.clone();
+    let core = bankcore::banks::key(&selection.identity, selection.picks(), &mut out);
+    let mut after = before;
+    let answer = match expected {
+        Err(refusal) => KeyAnswer { refusal, length: 0 },
+        Ok(key) if key.len() > room => KeyAnswer { refusal: 9, length: 0 },
+        Ok(key) => {
+            after[..key.len()].copy_from_slice(&key);
+            KeyAnswer { refusal: 0, length: key.len() }
+        }
+    };
+    let input = || {
+        let (order, text) = selection.describe();
+        (order, format!("key into {room} bytes, {text}"))
+    };
+    tally.same(core, answer, input);
+    tally.same(out == after, true, || {
+        let (order, text) = input();
+        (order, format!("{text}, bytes as the Rust's"))
+    });
+}
+
+pub fn key(plan: &Plan, tally: &mut Tally) {
+    let mut random = Random::new(plan.seed);
+    // document 01's worked examples, then the longest key
+    let pick = |fields: [&str; 5]| fields.map(String::from);
+    let named = pick(["7", "r", "", "s", "n"]);
+    let coded = pick(["7", "r", "c", "s", "n"]);
+    let long: Vec<[String; 5]> = (0..16_usize)
+        .map(|i| SIZES.map(|n| if n == 16 { String::new() } else { format!("{i:0n$}") }))
+        .collect();
+    let longest = Selection::of(&vec![65; LONGEST], &long);
+    tally.same(longest.key().map(|k| k.len()), Ok(LONGEST_KEY), || longest.describe());
+    for (selection, key) in [
+        (Selection::default(), &[0][..]),
+        (Selection::of(b"A", &[]), &[255, 1, 0, 65, 0]),
+        (Selection::of(b"", &[named]), &[1, 1, 55, 1, 114, 0, 1, 115, 1, 110]),
+        (Selection::of(b"", &[coded]), &[1, 1, 55, 1, 114, 1, 99, 1, 115, 0]),
+    ] {
+        tally.same(selection.key(), Ok(key.to_vec()), || selection.describe());
+        for room in 0..key.len() + 3 {
+            one(tally, &selection, room, 100);
+        }
+    }
+    for room in [LONGEST_KEY - 1, LONGEST_KEY, LONGEST_KEY + 1] {
+        one(tally, &longest, room, 100);
+    }
+    for _ in 0..if plan.quick { 5_000 } else { 300_000 } {
+        let selection = selection(&mut random);
+        let length = selection.key().map_or(0, |key| key.len());
+        let room = match random.below(8) {
+            0 => length.saturating_sub(1),
+            1 => length,
+            2 => random.below(length + 1),
+            3 => 0,
+            _ => length + random.below(5),
+        };
+        one(tally, &selection, room, random.u32() as u8);
+    }
+    tally.note = format!("{} keys", tally.compared / 2);
+}

@@ -1,0 +1,252 @@
+//! Refusals that are true at once: for each call every set of causes that can
+//! stand together, so every pair; the earliest is the answer, and what was lent
+//! stays as it was.
+use crate::{
+    Plan, Tally,
+    keys::{LONGEST, Selection},
+    made::{self, CAPACITY, Made, REGION, SECTOR},
+};
+use bankcore::{
+    answers::{BankAnswer, FreshAnswer, KeyAnswer, SameKeyAnswer, TurnAnswer, UNKNOWN},
+    banks,
+};
+use common::Random;
+
+#[derive(Clone, Copy, Debug, PartialEq, Eq)]
+enum Cause {
+    Region,
+    Bank,
+    Day,
+    Picks,
+    Size,
+    /// A state whose bank is above 1, or whose position is above the capacity.
+    StateBank,
+    StateFar,
+    Mark,
+    Seal,
+    Span,
+    Source,
+    /// A source at or past the count.
+    Index,
+    /// A state whose position is above the data length alone.
+    StateLate,
+    Data,
+    Identity,
+    Small,
+}
+use Cause::*;
+
+/// In the order of the tests, so the first of a set is the one answered.
+const ORDER: [(Cause, u32); 16] = [
+    (Region, 1),
+    (Bank, 2),
+    (Day, 2),
+    (Picks, 2),
+    (Size, 2),
+    (StateBank, 11),
+    (StateFar, 11),
+    (Mark, 3),
+    (Seal, 4),
+    (Span, 5),
+    (Source, 6),
+    (Index, 6),
+    (StateLate, 11),
+    (Data, 7),
+    (Identity, 8),
+    (Small, 9),
+];
+
+const CALLS: [(&str, &[Cause]); 9] = [
+    ("validate", &[Region, Bank, Mark, Seal, Span, Source, Data]),
+    ("header", &[Region, Bank, Mark, Seal, Span, Source]),
+    ("load", &[Region]),
+    ("source", &[Region, Bank, Mark, Seal, Span, Source, Index, Small]),
+    ("fresh", &[Region, Bank, Day, Mark, Seal, Span, Source]),
+    ("key", &[Picks, Size, Identity, Small]),
+    ("same_key", &[Region, Bank, Picks, Size, Mark, Seal, Span, Source, Identity]),
+    ("check_start", &[Region, Bank, Mark, Seal, Span, Source]),
+    ("check_turn", &[Region, StateBank, StateFar, Mark, Seal, Span, Source, StateLate, Data]),
+];
+
+/// Whether two causes can't be true at once: a bank that isn't there has no
+/// header, and a state has one position.
+fn apart(a: Cause, b: Cause) -> bool {
+    let of_bank = [Mark, Seal, Span, Source, Index, StateLate, Data];
+    let position = [StateFar, StateLate, Data];
+    let one_way = |a: Cause, b: Cause| {
+        matches!(a, Bank | StateBank) && of_bank.contains(&b)
+            || matches!(a, StateFar | StateLate) && a != b && position.contains(&b)
+    };
+    one_way(a, b) || one_way(b, a)
+}
+
+fn number(set: &[Cause]) -> u32 {
+    ORDER.iter().find(|(cause, _)| set.contains(cause)).map_or(0, |(_, number)| *number)
+}
+
+/// One set of causes, in one of three ways each.
+struct Case<'a> {
+    set: &'a [Cause],
+    way: usize,
+    /// One byte more than a region.
+    bytes: Vec<u8>,
+    made: Made,
+    selection: Selection,
+    refusal: u32,
+}
+
+fn selection(set: &[Cause], way: usize) -> Selection {
+    let pick = ["7", "r", "", "s", "n"].map(String::from);
+    let mut picks = vec![pick; if set.contains(&Picks) { 17 + way } else { 2 }];
+    if set.contains(&Size) {
+        let (k, over) = [(0, 9), (2, 17), (4, 65)][way];
+        picks[1][k] = "x".repeat(over);
+    }
+    let length = if set.contains(&Identity) { LONGEST + 1 + way } else { 3 };
+    Selection::of(&vec![b'i'; length], &picks)
+}
+
+impl<'a> Case<'a> {
+    fn new(random: &mut Random, set: &'a [Cause], way: usize) -> Self {
+        let has = |cause| set.contains(&cause);
+        let mut made = made::good(random, 20, 500);
+        (made.version, made.count) = (1 + way as u32, 2);
+        if has(Mark) {
+            match way {
+                0 => made.magic[3] ^= 1,
+                1 => made.commit = u32::MAX,
+                _ => made.version = 4,
+            }
+        }
+        if has(Seal) {
+            made.seal = Some(random.u32());
+        }
+        if has(Span) {
+            match way {
+                0 => made.count = 4,
+                1 => made.checked = -1,
+                _ => made.key = 501,
+            }
+        }
+        if has(Source) {
+            match way {
+                0 => made.records[1].start = 20230229,
+                1 => made.records[0].present = 256,
+                _ => made.records[1].tables[2] = [u32::MAX, 2, 0],
+            }
+        }
+        if has(Data) {
+            made.crc = Some(random.u32());
+        }
+        let mut bytes = vec![255; REGION + 1];
+        for bank in 0..2 {
+            let key = Selection::of(b"iii", &[]).key().unwrap();
+            bytes[bank * made::BANK + SECTOR..][..key.len()].copy_from_slice(&key);
+            made.write(&mut bytes, bank);
+        }
+        Self { set, way, bytes, made, selection: selection(set, way), refusal: number(set) }
+    }
+    fn has(&self, cause: Cause) -> bool {
+        self.set.contains(&cause)
+    }
+    fn region(&self) -> &[u8] {
+        let other = [REGION - 1, REGION + 1, 0][self.way];
+        &self.bytes[..if self.has(Region) { other } else { REGION }]
+    }
+    fn bank(&self) -> u32 {
+        let wrong = [2, 255, u32::MAX][self.way];
+        if self.has(Bank) || self.has(StateBank) { wrong } else { 1 }
+    }
+    /// The refusal that a call gives; -1 where anything beside it is wrong.
+    fn ask(&self, call: &str) -> i64 {
+        let (region, bank) = (self.region(), self.bank());
+        let plain = |refusal: u32, rest: bool| {
+            if refusal == 0 || rest { i64::from(refusal) } else { -1 }
+        };
+        let of_bank = |answer: BankAnswer| {
+            let nothing = BankAnswer { refusal: answer.refusal, ..BankAnswer::default() };
+            plain(answer.refusal, answer == nothing)
+        };
+        match call {
+            "validate" => of_bank(banks::validate(region, bank)),
+            "header" => of_bank(banks::header(region, bank)),
+            "load" => of_bank(banks::load(region)),
+            "source" => {
+                let index = if self.has(Index) { [4, 10, u32::MAX][self.way] } else { 0 };
+                let mut out = vec![77; if self.has(Small) { [383, 0, 1][self.way] } else { 384 }];
+                let refusal = banks::source(region, bank, index, &mut out);
+                plain(refusal, out.iter().all(|b| *b == 77))
+            }
+            "fresh" => {
+                let mut days = [20260101, 20260102, 20260103];
+                if self.has(Day) {
+                    days[self.way] = [0, 20230229, 99991232][self.way];
+                }
+                let answer = banks::fresh(region, bank, days, [true, false, false], 5);
+                let FreshAnswer { refusal, checked, updated } = answer;
+                plain(refusal, (checked, updated) == (UNKNOWN, UNKNOWN))
+            }
+            "key" => {
+                let room = if self.has(Small) { self.way } else { 70_000 };
+                let mut out = vec![77; room];
+                let picks = self.selection.picks();
+                let KeyAnswer { refusal, length } =
+                    banks::key(&self.selection.identity, picks, &mut out);
+                plain(refusal, length == 0 && out.iter().all(|b| *b == 77))
+            }
+            "same_key" => {
+                let picks = self.selection.picks();
+                let SameKeyAnswer { refusal, same } =
+                    banks::same_key(region, bank, &self.selection.identity, picks);
+                plain(refusal, same == 0)
+            }
+            "check_start" => {
+                let answer = banks::check_start(region, bank);
+                let refusal = answer.refusal;
+                let closed =
+                    TurnAnswer { refusal, verdict: 0, count: 0, bank: 255, position: 0, crc: 0 };
+                plain(refusal, answer == closed)
+            }
+            _ => {
+                let position = match () {
+                    () if self.has(StateFar) => [CAPACITY as u32 + 1, 1 << 31, u32::MAX][self.way],
+                    () if self.has(StateLate) => [501, 502, CAPACITY as u32][self.way],
+                    () if self.has(Data) => self.made.length,
+                    () => 0,
+                };
+                // with no data CRC of 1 the state's is wrong at the end
+                let (crc, n) = (1, [0, 1, u32::MAX][self.way]);
+                let answer = banks::check_turn(region, bank, position, crc, n);
+                let refusal = answer.refusal;
+                let same = TurnAnswer { refusal, verdict: 0, count: 0, bank, position, crc };
+                plain(refusal, answer == same)
+            }
+        }
+    }
+}
+
+pub fn pairs(plan: &Plan, tally: &mut Tally) {
+    let mut random = Random::new(plan.seed);
+    let (mut pairs, mut sets) = (0, 0);
+    for (call, causes) in CALLS {
+        for bits in 0..1_u32 << causes.len() {
+            let set: Vec<Cause> =
+                (0..causes.len()).filter(|i| bits >> i & 1 == 1).map(|i| causes[i]).collect();
+            if set.iter().any(|a| set.iter().any(|b| apart(*a, *b))) {
+                continue;
+            }
+            if plan.quick && set.len() > 2 {
+                continue;
+            }
+            sets += 1;
+            pairs += usize::from(set.len() == 2 && number(&set[..1]) != number(&set[1..]));
+            for way in 0..3 {
+                let case = Case::new(&mut random, &set, way);
+                tally.same(case.ask(call), case.refusal.into(), || {
+                    (vec![set.len() as u64], format!("{call} with {set:?}, way {way}"))
+                });
+            }
+        }
+    }
+    tally.note = format!("{sets} sets of causes over {} calls, {pairs} of them pairs", CALLS.len());
+}
