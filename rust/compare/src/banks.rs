@@ -422,8 +422,11 @@ fn fill(random: &mut Random, pool: &[u8], region: &mut [u8], bank: usize) -> Sel
         return Selection::default();
     }
     let count = if random.once_in(10) { 16 } else { random.below(4) };
-    let identity =
-        if random.once_in(400) { keys::identity(random) } else { vec![b'I'; random.below(90)] };
+    let identity = match random.below(400) {
+        0 => keys::identity(random),
+        1..100 => Vec::new(),
+        _ => vec![b'I'; random.below(90)],
+    };
     let selection = Selection::of(&identity, &keys::picks(random, count, false));
     let key = selection.key().unwrap_or(vec![0]);
     let data = match random.below(700) {
