@@ -1,4 +1,6 @@
 //! What the programs share.
+pub mod made;
+pub mod picks;
 
 /// Which crc32fast the workspace was built with. The stand-in of
 /// standins/registry has a version of its own.

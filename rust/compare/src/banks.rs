@@ -2,13 +2,16 @@
 use crate::{
     Plan, Tally,
     keys::{self, Selection},
-    made::{self, BANK, CAPACITY, DAYS, NO_DAYS, REGION, SECTOR, UNKNOWN},
 };
 use bankcore::{
     answers::{BankAnswer, FreshAnswer, SameKeyAnswer, TurnAnswer},
     banks,
 };
-use common::Random;
+use common::{
+    Random,
+    made::{self, BANK, CAPACITY, DAYS, NO_DAYS, REGION, SECTOR, UNKNOWN},
+    picks::{LONGEST, picks},
+};
 use lifted::{
     cache::{
         Bank, OFFSET,
@@ -307,7 +310,7 @@ fn near(random: &mut Random, selection: &Selection) -> Selection {
             other.texts.truncate(used + 1);
             other.lengths.extend([1, 0, 0, 0, 0]);
         }
-        5 if random.once_in(20) => other.identity = vec![7; keys::LONGEST + 1],
+        5 if random.once_in(20) => other.identity = vec![7; LONGEST + 1],
         6 => {
             let at = random.below(other.texts.len().max(1));
             if let Some(letter) = other.texts.get_mut(at).filter(|b| b.is_ascii()) {
@@ -427,7 +430,7 @@ fn fill(random: &mut Random, pool: &[u8], region: &mut [u8], bank: usize) -> Sel
         1..100 => Vec::new(),
         _ => vec![b'I'; random.below(90)],
     };
-    let selection = Selection::of(&identity, &keys::picks(random, count, false));
+    let selection = Selection::of(&identity, &picks(random, count, false));
     let key = selection.key().unwrap_or(vec![0]);
     let data = match random.below(700) {
         0 => CAPACITY,

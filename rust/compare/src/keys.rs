@@ -1,15 +1,12 @@
 //! Keys: `key`, from identity and picks.
 use crate::{Plan, Tally};
 use bankcore::{answers::KeyAnswer, banks::Picks};
-use common::Random;
-use lifted::{
-    cache::door,
-    gtfs::Error,
-    standins::settings::{self, SIZES},
+use common::{
+    Random,
+    picks::{LONGEST, SIZES, fields, picks, text},
 };
+use lifted::{cache::door, gtfs::Error, standins::settings};
 
-/// The longest identity.
-pub const LONGEST: usize = 65_535;
 pub const LONGEST_KEY: usize = 67_795;
 
 /// A selection as it is handed over.
@@ -24,18 +21,8 @@ impl Selection {
     pub fn picks(&self) -> Picks<'_> {
         Picks { texts: &self.texts, lengths: &self.lengths }
     }
-    /// The picks that texts and lengths mean: a length past the end is what is
-    /// left, a missing one 0.
     pub fn fields(&self) -> Vec<[&[u8]; 5]> {
-        let mut rest = &self.texts[..];
-        let mut field = |k: usize| {
-            let length = self.lengths.get(k).map_or(0, |n| *n as usize).min(rest.len());
-            let (taken, after) = rest.split_at(length);
-            rest = after;
-            taken
-        };
-        let count = self.lengths.len().div_ceil(5);
-        (0..count).map(|i| [0, 1, 2, 3, 4].map(|k| field(i * 5 + k))).collect()
+        fields(&self.texts, &self.lengths)
     }
     /// From picks, exactly.
     pub fn of(identity: &[u8], picks: &[[String; 5]]) -> Self {
@@ -74,62 +61,6 @@ impl Selection {
             ),
         )
     }
-}
-
-const LETTERS: [&str; 12] =
-    ["a", "b", "a", "b", "c", "7", "\u{0}", "\u{7f}", "\u{80}", "é", "€", "\u{10000}"];
-
-/// Bytes of text, as near to `length` as whole letters go.
-fn text(random: &mut Random, length: usize) -> String {
-    let mut text = String::new();
-    while text.len() < length {
-        let odd = random.once_in(4);
-        let letter = random.pick(if odd { &LETTERS } else { &LETTERS[..4] });
-        if text.len() + letter.len() <= length {
-            text.push_str(letter);
-        }
-    }
-    text
-}
-
-fn field(random: &mut Random, k: usize, over: bool) -> String {
-    let size = SIZES[k];
-    let length = match random.below(24) {
-        0 => size,
-        1 => size - 1,
-        2 if over => size + 1,
-        3 if over => size + random.below(200),
-        4 => random.below(size + 1),
-        n if n < 14 => 0,
-        n if n < 20 => 1,
-        _ => 2,
-    };
-    text(random, length)
-}
-
-/// Picks with equal ones among them, and ones that differ in a name alone.
-pub fn picks(random: &mut Random, count: usize, over: bool) -> Vec<[String; 5]> {
-    let mut picks: Vec<[String; 5]> = Vec::new();
-    for _ in 0..count {
-        let mut pick = [0, 1, 2, 3, 4].map(|k| {
-            let over = over && random.once_in(20);
-            field(random, k, over)
-        });
-        if !picks.is_empty() && random.once_in(3) {
-            pick = picks[random.below(picks.len())].clone();
-            match random.below(4) {
-                0 => pick[4] = text(random, 3),
-                1 => pick[2] = text(random, 1),
-                2 => {
-                    let k = random.below(5);
-                    pick[k] = field(random, k, false);
-                }
-                _ => {}
-            }
-        }
-        picks.push(pick);
-    }
-    picks
 }
 
 pub fn identity(random: &mut Random) -> Vec<u8> {

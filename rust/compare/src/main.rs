@@ -2,7 +2,6 @@
 mod banks;
 mod keys;
 mod leaves;
-mod made;
 mod pairs;
 
 use std::{collections::BTreeMap, fmt::Debug, process::ExitCode};

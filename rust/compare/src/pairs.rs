@@ -1,16 +1,16 @@
 //! Refusals that are true at once: for each call every set of causes that can
 //! stand together, so every pair; the earliest is the answer, and what was lent
 //! stays as it was.
-use crate::{
-    Plan, Tally,
-    keys::{LONGEST, Selection},
-    made::{self, CAPACITY, Made, REGION, SECTOR},
-};
+use crate::{Plan, Tally, keys::Selection};
 use bankcore::{
     answers::{BankAnswer, FreshAnswer, KeyAnswer, SameKeyAnswer, TurnAnswer, UNKNOWN},
     banks,
 };
-use common::Random;
+use common::{
+    Random,
+    made::{self, CAPACITY, Made, REGION, SECTOR},
+    picks::LONGEST,
+};
 
 #[derive(Clone, Copy, Debug, PartialEq, Eq)]
 enum Cause {

@@ -1,5 +1,7 @@
 //! Writes a fixed list of the Rust's answers, for the core to replay. The core
 //! itself is not linked in.
+mod keys;
+
 use common::Random;
 use lifted::{cache::door, timetable_display::config};
 use std::{collections::BTreeSet, fmt::Write as _, fs, io::Write as _, process::ExitCode};
@@ -20,6 +22,12 @@ list is always the same. Lines are words with a blank between them:
   time HEX INDEX VALUE       signed 64-bit
   puttime HEX INDEX VALUE HEX
   rotate X Y                 rotated left by 13
+  key IDENTITY TEXTS LENGTHS KEY
+                             all in hexadecimal: the picks' texts in a row, their
+                             lengths, a byte each and five to a pick (one past the
+                             end is what is left, a missing one 0), and the key
+  samekey STORED IDENTITY TEXTS LENGTHS 0|1
+                             whether a bank whose key is STORED matches
 ";
 
 const SEED: u64 = 41;
@@ -251,6 +259,7 @@ fn sample() -> Result<String, std::fmt::Error> {
     for x in numbers {
         writeln!(out, "rotate {x} {}", x.rotate_left(13))?;
     }
+    keys::write(&mut out, &mut Random::new(SEED))?;
     Ok(out)
 }
 

@@ -8,9 +8,6 @@ use crate::{
     },
 };
 
-/// How many bytes a pick's line, route, stop code, stop and stop name hold.
-pub const SIZES: [usize; 5] = [8, 32, 16, 32, 64];
-
 fn pick([line, route, code, stop, name]: [&str; 5]) -> Option<Pick> {
     Some(Pick {
         route: route.try_into().ok()?,

@@ -1,5 +1,5 @@
 //! Banks made by document 01, whole or with something wrong in them.
-use common::Random;
+use crate::Random;
 
 pub const REGION: usize = 983_040;
 pub const BANK: usize = 491_520;
