@@ -31,4 +31,6 @@ fn main() {
         }
     }
     println!("cargo:rustc-env=LIFTED={}", out.display());
+    println!("cargo:rustc-check-cfg=cfg(tables)");
+    println!("cargo:folder={}", out.display());
 }

@@ -1,25 +1,34 @@
-//! CRC-32 side by side: the core, crc32fast's table path, crc32fast, zlib.
+//! CRC-32 side by side: the core, crc32fast's table path, crc32fast, zlib; and
+//! keys and banks beside the lifted Rust.
+#[cfg(feature = "banks")]
+mod banks;
+mod measure;
+
 use common::Random;
+use measure::{Times, measure};
 use std::{
     ffi::{CStr, c_char, c_ulong},
-    hint::black_box,
     process::ExitCode,
-    time::Instant,
 };
 
 const HELP: &str = "\
-bench [--quick]
+bench [--quick] [crc] [banks]
 
-Times the core's CRC-32 beside crc32fast's table path, crc32fast with SIMD and
-zlib, in one run, and prints their speeds as ratios to the table path.
+crc     times the core's CRC-32 beside crc32fast's table path, crc32fast with
+        SIMD and zlib, in one run, and prints their speeds as ratios to the
+        table path
+banks   times load, validate, key and key match beside the lifted Rust, built
+        with crc32fast's table path and with SIMD
+
+Without a word both are run.
 
   --quick   a fifth of the rounds
   --help    this text
 
-All four take turns in short batches, so that a busy machine slows all alike. A
-time is the lower decile of its batches; the median is given beside it. A ratio
-above 1 is faster than the table path. Exit status: 0 all three reached, 1 not,
-2 wrong use.
+All take turns in short batches, so that a busy machine slows all alike. A time
+is the lower decile of its batches; for CRC-32 the median is given beside it. A
+ratio above 1 is faster than the table path. Exit status: 0 CRC-32 reached its
+three marks, 1 not, 2 wrong use.
 ";
 
 #[link(name = "z")]
@@ -53,70 +62,11 @@ const CANDIDATES: [Candidate; 4] =
 const TABLE: usize = 1;
 const SIZES: [usize; 6] = [16, 64, 256, 1500, 4096, 487_424];
 const TARGETS: [(usize, f64); 3] = [(4096, 1.0), (487_424, 1.0), (64, 0.5)];
-/// About how long a batch lasts, in nanoseconds.
-const BATCH: f64 = 20_000.0;
 const WIDTH: usize = 40;
 
-#[derive(Clone, Copy)]
-struct Times {
-    decile: f64,
-    median: f64,
-}
-
-fn batch(run: fn(&[u8]) -> u32, bytes: &[u8], times: usize) -> f64 {
-    let start = Instant::now();
-    for _ in 0..times {
-        black_box(run(black_box(bytes)));
-    }
-    start.elapsed().as_nanos() as f64 / times as f64
-}
-
-fn measure(bytes: &[u8], rounds: usize) -> [Times; CANDIDATES.len()] {
-    let repeats = CANDIDATES.map(|(_, run)| {
-        let warm = (0..5).map(|_| batch(run, bytes, 4)).fold(f64::MAX, f64::min);
-        ((BATCH / warm.max(1.0)) as usize).clamp(1, 4000)
-    });
-    let mut samples = CANDIDATES.map(|_| Vec::with_capacity(rounds));
-    for round in 0..rounds {
-        for turn in 0..CANDIDATES.len() {
-            let i = (round + turn) % CANDIDATES.len();
-            samples[i].push(batch(CANDIDATES[i].1, bytes, repeats[i]));
-        }
-    }
-    samples.map(|mut times| {
-        times.sort_unstable_by(f64::total_cmp);
-        Times { decile: times[times.len() / 10], median: times[times.len() / 2] }
-    })
-}
-
-fn main() -> ExitCode {
-    let mut rounds = 3000;
-    for argument in std::env::args().skip(1) {
-        match argument.as_str() {
-            "--help" | "-h" => {
-                print!("{HELP}");
-                return ExitCode::SUCCESS;
-            }
-            "--quick" => rounds = 600,
-            other => {
-                eprintln!("bench: there is no option {other}; see bench --help");
-                return ExitCode::from(2);
-            }
-        }
-    }
-    if cfg!(debug_assertions) {
-        eprintln!("bench: not a release build; run it with cargo run --release");
-        return ExitCode::from(2);
-    }
-
+/// CRC-32; whether it reached its marks, or none if the answers differ.
+fn crc(rounds: usize) -> Option<bool> {
     let version = common::crc32fast();
-    if version.contains("standin") {
-        eprintln!(
-            "bench: built with a stand-in for crc32fast: there is nothing to measure against"
-        );
-        return ExitCode::from(2);
-    }
-
     println!("CRC-32, one run on one machine. All are release builds. The buffers are");
     println!("warm: the same bytes are hashed again and again, caches aren't cleared.");
     println!("core: this library. table: the table path of crc32fast {version}.");
@@ -130,10 +80,10 @@ fn main() -> ExitCode {
         let answers = CANDIDATES.map(|(_, run)| run(&bytes));
         if answers.iter().any(|a| *a != answers[TABLE]) {
             eprintln!("bench: the CRCs of {size} bytes differ: {answers:08x?}");
-            return ExitCode::FAILURE;
+            return None;
         }
         let rounds = if size > 100_000 { rounds / 10 } else { rounds };
-        results.push((size, measure(&bytes, rounds)));
+        results.push((size, measure(CANDIDATES.map(|(_, run)| run), &bytes[..], rounds)));
     }
 
     let tabulate = |title: &str, time: fn(&Times) -> f64| {
@@ -179,6 +129,52 @@ fn main() -> ExitCode {
             "reach: {wanted} bytes: {ratio:.2} (at least {least:.1}): {}",
             if yes { "yes" } else { "no" }
         );
+    }
+    println!();
+    Some(reached)
+}
+
+fn main() -> ExitCode {
+    let mut rounds = 3000;
+    let (mut crc_wanted, mut banks_wanted) = (false, false);
+    for argument in std::env::args().skip(1) {
+        match argument.as_str() {
+            "--help" | "-h" => {
+                print!("{HELP}");
+                return ExitCode::SUCCESS;
+            }
+            "--quick" => rounds = 600,
+            "crc" => crc_wanted = true,
+            "banks" => banks_wanted = true,
+            other => {
+                eprintln!("bench: there is no option {other}; see bench --help");
+                return ExitCode::from(2);
+            }
+        }
+    }
+    if cfg!(debug_assertions) {
+        eprintln!("bench: not a release build; run it with cargo run --release");
+        return ExitCode::from(2);
+    }
+    if common::crc32fast().contains("standin") {
+        eprintln!(
+            "bench: built with a stand-in for crc32fast: there is nothing to measure against"
+        );
+        return ExitCode::from(2);
+    }
+    let all = !crc_wanted && !banks_wanted;
+    let mut reached = true;
+    if all || crc_wanted {
+        match crc(rounds) {
+            Some(yes) => reached = yes,
+            None => return ExitCode::FAILURE,
+        }
+    }
+    if all || banks_wanted {
+        #[cfg(feature = "banks")]
+        banks::banks(rounds);
+        #[cfg(not(feature = "banks"))]
+        println!("keys and banks: left out of this build, which has no lifted Rust");
     }
     if reached { ExitCode::SUCCESS } else { ExitCode::FAILURE }
 }

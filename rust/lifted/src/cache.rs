@@ -10,6 +10,9 @@ use crate::{
     timetable_display::{self, Config, config::Pick, feed::Builder, freshness::Freshness},
 };
 
+#[cfg(tables)]
+use crate::standins::tables as crc32fast;
+
 include!(concat!(env!("LIFTED"), "/cache.rs"));
 
 pub mod door;

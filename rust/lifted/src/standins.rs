@@ -8,5 +8,7 @@ pub mod flash;
 pub mod heapless;
 pub mod run;
 pub mod settings;
+#[cfg(tables)]
+pub mod tables;
 pub mod view;
 pub mod zip;

@@ -31,6 +31,16 @@ pub fn key(config: &Config, identity: &[u8]) -> Result<Vec<u8>, Error> {
     assert_eq!(length as usize, bytes.len());
     Ok(bytes)
 }
+/// The key into a lent buffer, and its length.
+pub fn key_into(config: &Config, identity: &[u8], out: &mut [u8]) -> Result<u32, Error> {
+    let mut at = 0;
+    super::key(config, identity, |part| {
+        let room = out.get_mut(at..at + part.len()).ok_or(Error::BufferTooSmall)?;
+        room.copy_from_slice(part);
+        at += part.len();
+        Ok(())
+    })
+}
 pub fn same_key(bank: Bank, flash: &impl Storage, config: &Config) -> Result<bool, Error> {
     super::same_key(bank, flash, config)
 }
