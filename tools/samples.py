@@ -234,11 +234,8 @@ def noise(length):
     return b"".join(struct.pack("<I", zlib.crc32(b"%d" % i)) for i in range(length // 4))
 
 
-def longest():
-    picks = [(b"line%04d" % i, b"r" * 32, b"", b"s" * 32, b"n" * 64) for i in range(16)]
-    return key(b"identity " * 7281 + b"ending", picks)
-
-
+LONG_IDENTITY = b"identity " * 7281 + b"ending"
+LONG_PICKS = [(b"line%04d" % i, b"r" * 32, b"", b"s" * 32, b"n" * 64) for i in range(16)]
 OK = "passes"
 
 
@@ -304,7 +301,7 @@ def images():
         ("ticket-41", "a good header over mixed rows: reading the header alone takes bank 1, load turns "
          "it down; bank 0 holds the timetable last committed", *ticket(), OK, refuse[7], 0),
         ("full-bank", "487424 bytes of data", full(), ERASED, OK, refuse[3], 0),
-        ("longest-key", "a key of 67795 bytes", Bank(2, words=longest()), ERASED, OK, refuse[3], 0),
+        ("longest-key", "a key of 67795 bytes", Bank(2, words=key(LONG_IDENTITY, LONG_PICKS)), ERASED, OK, refuse[3], 0),
     ]
     special = {}
     bit7 = Bank(2, version=1)
@@ -330,7 +327,8 @@ def readme(listed):
         "",
         "Flash regions of 983,040 bytes, for `inspect` and for comparing it with the Rust (docs/INSPECT.md).",
         "`tools/samples.py` makes them and this table; `tools/samples.py --check` says whether they are what it",
-        "makes, and `tools/samples.py --ask PROGRAM` whether an inspect program finds in them what the table says.",
+        "makes, and `tools/samples.py --ask PROGRAM` whether an inspect program prints what is meant to be in them,",
+        "line by line, freshness and match too.",
         "`tools/samples.py --dump FILE` writes a whole flash dump, with two-good in it.",
         "",
         "| image | what it shows | bank 0 | bank 1 | load |",
@@ -342,13 +340,13 @@ def readme(listed):
     picks = " ".join("--pick " + " ".join("'%s'" % f.decode() for f in pick) for pick in PICKS)
     lines += [
         "",
-        "All but longest-key hold the key of this selection, which `inspect` matches with",
+        "Every bank there but longest-key's holds the key of this selection, which `inspect` matches with",
         "",
         "    --identity '%s' %s" % (IDENTITY.decode(), picks),
         "",
         "The checked time of good banks is %d, so freshness can be asked for with" % CHECKED,
         "",
-        "    --now %d --days 20260601,20260602,20270101" % CHECKED,
+        "    " + " ".join(ASKED),
         "",
     ]
     return "\n".join(lines).encode()
@@ -379,20 +377,81 @@ def check(folder):
     return 1 if bad else 0
 
 
+DAYS = [20260601, 20260602, 20270101]
+ASKED = ["--now", str(CHECKED), "--days", ",".join(map(str, DAYS))]
+
+
+def selection(name):
+    """The options that select what is in an image."""
+    identity, picks = (LONG_IDENTITY, LONG_PICKS) if name == "longest-key" else (IDENTITY, PICKS)
+    out = ["--identity", identity.decode()]
+    for pick in picks:
+        out += ["--pick"] + [field.decode() for field in pick]
+    return out
+
+
+def freshness(bank):
+    """Checked and updated time for DAYS at CHECKED, by Bank::fresh's rule."""
+    left, used = set(DAYS), []
+    for source in bank.sources:
+        days = {d for d in left if source.start <= d <= source.end}
+        if days:
+            used.append(source.updated)
+            left -= days
+    known = used and all(0 <= updated <= CHECKED for updated in used)
+    return bank.checked, min(used) if known else None
+
+
+def lines(bank):
+    """What is printed of the bank that load gives."""
+    words = bytes(bank.data[:bank.key_length])
+    out = ["key %d: %s" % (i, words[i:i + 32].hex(" ")) for i in range(0, len(words), 32)]
+    for i, source in enumerate(bank.sources):
+        present = [name for t, name in enumerate(TABLES) if source.present >> t & 1]
+        out.append("source %d: start %d, end %d, updated %s, present %s" % (
+            i, source.start, source.end, "unknown" if source.updated == UNKNOWN else source.updated,
+            " ".join(present) or "none"))
+        for t in range(8 if bank.version == 3 else 7):
+            (offset, length, crc), (original, size) = source.blocks[t], source.original[t]
+            if length or original or size:
+                out.append("source %d %s: offset %d, length %d, crc %08x, original crc %08x, "
+                           "original length %d" % (i, TABLES[t], offset, length, crc, original, size))
+    checked, updated = freshness(bank)
+    out.append("fresh: checked %d, updated %s" % (checked, "unknown" if updated is None else updated))
+    return out + ["match: yes"]
+
+
+def expected(banks, meant, load):
+    """The lines that an inspect program should print."""
+    out = ["region: %d bytes" % REGION]
+    for i, (bank, word) in enumerate(zip(banks, meant)):
+        if word == OK:
+            word = "version %d, generation %d, data length %d, data crc %08x, sources %d, key length %d, " \
+                "checked %d" % (bank.version, bank.generation, bank.length, bank.crc, bank.count,
+                                bank.key_length, bank.checked)
+        out.append("bank %d: %s" % (i, word))
+    if load is None:
+        return out + ["load: none", "fresh: no bank", "match: no bank"]
+    return out + ["load: bank %d" % load] + lines(banks[load])
+
+
 def ask(folder, program):
-    """Whether the program says of each image what was meant."""
+    """Whether the program prints of each image what was meant."""
     bad = 0
     listed = images()
-    for name, _, _, _, *expected in listed:
-        run = subprocess.run([program, os.path.join(folder, name + ".img")], text=True,
+    for name, _, a, b, first, second, load in listed:
+        image = os.path.join(folder, name + ".img")
+        run = subprocess.run([program, *ASKED, *selection(name), image], text=True,
                              stdout=subprocess.PIPE)
-        lines = run.stdout.split("\n")
-        got = [line.split(": ", 1)[1] if ": " in line else line for line in lines[1:4]]
-        got[:2] = [OK if text.startswith("version ") else text for text in got[:2]]
-        want = expected[:2] + ["none" if expected[2] is None else "bank %d" % expected[2]]
-        if run.returncode != 0 or got != want:
-            print("%s: meant %s, but the program says %s" % (name, want, got))
-            bad += 1
+        got = run.stdout.split("\n")
+        want = expected((a, b), (first, second), load) + [""]
+        if run.returncode == 0 and got == want:
+            continue
+        bad += 1
+        at = next((i for i, pair in enumerate(zip(got, want)) if pair[0] != pair[1]), min(len(got), len(want)))
+        print("%s: exit status %d, line %d" % (name, run.returncode, at + 1))
+        print("  meant: %s" % "".join(want[at:at + 1]))
+        print("  found: %s" % "".join(got[at:at + 1]))
     print("%d images, %d not found as meant" % (len(listed), bad))
     return 1 if bad else 0
 
@@ -412,7 +471,7 @@ def main():
     what = parser.add_mutually_exclusive_group()
     what.add_argument("--check", action="store_true", help="say whether the files are what is made here")
     what.add_argument("--ask", metavar="PROGRAM",
-                      help="run an inspect program over the images and see that it finds what is meant")
+                      help="run an inspect program over the images and see that it prints what is meant")
     what.add_argument("--dump", metavar="FILE",
                       help="write a whole flash dump of 4194304 bytes, with two-good at 0x300000")
     options = parser.parse_args()

@@ -22,6 +22,10 @@ use lifted::{
     standins::view::View,
     timetable_display::feed::Builder,
 };
+use std::{
+    fs,
+    path::{Path, PathBuf},
+};
 
 /// What is in a region, by the lifted Rust.
 struct Expected<'a> {
@@ -481,9 +485,9 @@ pub fn banks(plan: &Plan, tally: &mut Tally) {
     let mut seen = [0_usize; 8];
     let rounds = if plan.quick { 1_000 } else { 50_000 };
     for round in 0..rounds {
-        for bank in 0..2 {
+        for (bank, selection) in selections.iter_mut().enumerate() {
             if round == 0 || random.below(4) != 0 {
-                selections[bank] = fill(&mut random, &pool, &mut region, bank);
+                *selection = fill(&mut random, &pool, &mut region, bank);
             }
         }
         let expected = Expected::of(&region);
@@ -538,4 +542,43 @@ pub fn records(plan: &Plan, tally: &mut Tally) {
         }
     }
     tally.note = format!("{} records, {sensible_ones} with a sensible stamp and id", rounds * 3);
+}
+
+/// The sample images, each asked everything, and once more with its banks
+/// swapped.
+pub fn images(plan: &Plan, tally: &mut Tally) {
+    let folder = Path::new(env!("CARGO_MANIFEST_DIR")).join("../../samples");
+    let mut files: Vec<_> = fs::read_dir(&folder)
+        .map(|list| list.flatten().map(|entry| entry.path()).collect())
+        .unwrap_or_default();
+    files.retain(|file: &PathBuf| file.extension().is_some_and(|e| e == "img"));
+    files.sort();
+    let pick = |fields: [&str; 5]| fields.map(String::from);
+    let chosen = [
+        pick(["7", "r7", "", "s1", "Central Station"]),
+        pick(["12", "r12", "4102", "s2", "Harbour"]),
+    ];
+    let selection = Selection::of(b"mdb-1078 Europe/Oslo", &chosen);
+    let selections = [selection.clone(), selection];
+    let mut random = Random::new(plan.seed);
+    for (i, file) in files.iter().enumerate() {
+        let mut region = fs::read(file).unwrap_or_default();
+        tally.same(region.len(), REGION, || (vec![0], file.display().to_string()));
+        if region.len() != REGION {
+            continue;
+        }
+        for _ in 0..2 {
+            let expected = Expected::of(&region);
+            ask_headers(tally, &expected, i);
+            for _ in 0..10 {
+                ask_sources(tally, &expected, i, &mut random);
+                ask_fresh(tally, &expected, i, &mut random);
+                ask_keys(tally, &expected, i, &mut random, &selections);
+                ask_turns(tally, &expected, i, &mut random);
+            }
+            region.rotate_left(BANK);
+        }
+    }
+    tally.same(files.is_empty(), false, || (vec![0], "whether there are no images".into()));
+    tally.note = format!("{} images", files.len());
 }

@@ -105,6 +105,7 @@ const PARTS: &[Part] = &[
         about: "records of all versions, each byte against the image's own",
         run: banks::records,
     },
+    Part { name: "images", about: "all these calls on the images of samples/", run: banks::images },
     Part {
         name: "pairs",
         about: "refusals that are true at once: the earlier one is given",

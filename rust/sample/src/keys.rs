@@ -11,7 +11,10 @@ use lifted::{
     standins::{settings, view::View},
     timetable_display::Config,
 };
-use std::fmt::{Result, Write as _};
+use std::{
+    fmt::{Result, Write as _},
+    slice,
+};
 
 /// Identity, texts in a row, lengths (five to a pick).
 #[derive(Clone)]
@@ -68,8 +71,8 @@ fn selections(random: &mut Random) -> Vec<Selection> {
     let mut list = vec![
         Selection::of(b"", &[]),
         Selection::of(b"A", &[]),
-        Selection::of(b"", &[named.clone()]),
-        Selection::of(b"", &[coded.clone()]),
+        Selection::of(b"", slice::from_ref(&named)),
+        Selection::of(b"", slice::from_ref(&coded)),
         Selection::of(b"A", &[coded.clone(), named.clone(), coded.clone(), renamed]),
         Selection::of(b"", &vec![named.clone(); 16]),
         Selection::of(b"", &lines),

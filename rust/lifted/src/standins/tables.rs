@@ -4,9 +4,15 @@
 #[derive(Clone)]
 pub struct Hasher(crc32fast::Hasher);
 
+impl Default for Hasher {
+    fn default() -> Self {
+        Self(crc32fast::Hasher::internal_new_baseline(0, 0))
+    }
+}
+
 impl Hasher {
     pub fn new() -> Self {
-        Self(crc32fast::Hasher::internal_new_baseline(0, 0))
+        Self::default()
     }
     pub fn update(&mut self, bytes: &[u8]) {
         self.0.update(bytes)
