@@ -167,7 +167,43 @@ def numbers(program, rng):
     return compare("numbers and times by struct", program, cases)
 
 
-PARTS = [published, crcs, dates, large_dates, new_dates, generations, numbers]
+FIELDS = (8, 32, 16, 32, 64)
+
+
+def key(identity, picks):
+    """Document 01's key, or its refusal."""
+    if len(picks) > 16 or any(len(f) > size for pick in picks for f, size in zip(pick, FIELDS)):
+        return "refusal 2"
+    if len(identity) > 65535:
+        return "refusal 8"
+    distinct = sorted({(line, route, code, stop, b"" if code else name)
+                       for line, route, code, stop, name in picks})
+    out = b"\xff" + struct.pack("<H", len(identity)) + identity if identity else b""
+    out += bytes([len(distinct)])
+    return hexadecimal(out + b"".join(bytes([len(f)]) + f for pick in distinct for f in pick))
+
+
+def keys(program, rng):
+    def text(size):
+        length = rng.choice([0, 0, 0, 1, 1, 2, rng.randrange(size + 1), size, size + rng.randrange(2)])
+        return bytes(rng.choice(b"aab\0\xff") for _ in range(length))
+
+    cases = []
+    for i in range(20000):
+        identity = rng.randbytes(rng.choice([0, 0, 1, 20, rng.randrange(300)]))
+        if i < 4:
+            identity = rng.randbytes(65534 + i)
+        count = rng.choice([0, 1, 2, 3, 16, 17, rng.randrange(17)]) if i % 10 == 0 else rng.randrange(4)
+        picks = [tuple(map(text, FIELDS)) for _ in range(count)]
+        picks += [rng.choice(picks) for _ in range(rng.randrange(3)) if picks]
+        fields = [f for pick in picks for f in pick]
+        cases.append(("key %s %s %s" % (
+            hexadecimal(identity), hexadecimal(b"".join(fields)),
+            ",".join(str(len(f)) for f in fields) or "-"), key(identity, picks)))
+    return compare("keys by sorted sets", program, cases)
+
+
+PARTS = [published, crcs, dates, large_dates, new_dates, generations, numbers, keys]
 
 
 def main():

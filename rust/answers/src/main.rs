@@ -1,4 +1,5 @@
 //! The core's answers, for programs in other languages to check.
+use bankcore::{answers::KeyAnswer, banks::Picks};
 use std::{
     fs,
     io::{self, BufRead, BufWriter, Write},
@@ -21,12 +22,17 @@ Reads requests, one a line, and prints the core's answer to each, one a line:
   time HEX I       the signed time at I
   puttime HEX I V  the bytes after writing the time V at I
   rotate X         X rotated left by 13
+  key ID TEXTS LENGTHS
+                   the key of an identity and picks, or 'refusal N': identity and
+                   the picks' texts in a row in hexadecimal, their lengths with
+                   commas between, five to a pick; - for none
 
 --dates FILE writes one bit for each number from 0 to 100020000 (bit N modulo 8
 of byte N / 8), set where the number is a date's. Exit status: 0 done, 1 a
 request isn't understood or the file can't be written, 2 wrong use.
 ";
 
+const LONGEST_KEY: usize = 67_795;
 /// The numbers that --dates covers.
 const DATES: usize = 100_020_001;
 
@@ -69,6 +75,19 @@ fn answer(request: &str) -> Option<String> {
             let mut b = bytes(text)?;
             bankcore::put_time(&mut b, i.parse().ok()?, v.parse().ok()?);
             hex(&b)
+        }
+        ["key", identity, texts, lengths] => {
+            let lengths: Option<Vec<u32>> = match lengths {
+                "-" => Some(Vec::new()),
+                list => list.split(',').map(|n| n.parse().ok()).collect(),
+            };
+            let (texts, lengths) = (bytes(texts)?, lengths?);
+            let mut out = vec![0; LONGEST_KEY];
+            let picks = Picks { texts: &texts, lengths: &lengths };
+            match bankcore::banks::key(&bytes(identity)?, picks, &mut out) {
+                KeyAnswer { refusal: 0, length } => hex(&out[..length]),
+                KeyAnswer { refusal, .. } => format!("refusal {refusal}"),
+            }
         }
         ["rotate", x] => bankcore::rotate13(x.parse().ok()?).to_string(),
         _ => return None,

@@ -174,7 +174,9 @@ fn main() -> ExitCode {
         #[cfg(feature = "banks")]
         banks::banks(rounds);
         #[cfg(not(feature = "banks"))]
-        println!("keys and banks: left out of this build, which has no lifted Rust");
+        println!(
+            "keys and banks: not in this build; cargo build --release --offline -p bench has them"
+        );
     }
     if reached { ExitCode::SUCCESS } else { ExitCode::FAILURE }
 }
