@@ -200,10 +200,22 @@ impl Made {
             0 => self.magic[random.below(4)] ^= 1 << random.below(8),
             1 => self.version = random.pick(&[0, 1, 2, 3, 4, 255, 256, 0x0100_0003, LAST]),
             2 => self.commit ^= 1 << random.below(32),
-            3 => self.length = random.pick(&[0, 1, key, key.wrapping_sub(1), length + 1, LAST]),
+            3 => {
+                self.length =
+                    random.pick(&[0, 1, key, key.wrapping_sub(1), length.wrapping_add(1), LAST])
+            }
             4 => self.length = random.pick(&[0, CAPACITY as u32 + 1, 1 << 31, LAST]),
             5 => self.count = random.pick(&[0, 1, 2, 3, 4, 255, 256, 257, LAST]),
-            6 => self.key = random.pick(&[0, 1, length, length - 1, length + 1, LAST]),
+            6 => {
+                self.key = random.pick(&[
+                    0,
+                    1,
+                    length,
+                    length.wrapping_sub(1),
+                    length.wrapping_add(1),
+                    LAST,
+                ])
+            }
             7 => self.checked = random.pick(&[-1, 0, 1, i64::MIN, i64::MAX, -(1 << 32)]),
             8 => self.crc = Some(random.u32()),
             9 => self.seal = Some(random.u32()),
@@ -228,10 +240,10 @@ impl Made {
                     0,
                     key.wrapping_sub(1),
                     key,
-                    key + 1,
+                    key.wrapping_add(1),
                     length.wrapping_sub(1),
                     length,
-                    length + 1,
+                    length.wrapping_add(1),
                 ]);
                 let over = (length as i64 + 1 - offset as i64) as u32;
                 let size = random.pick(&[0, 1, 2, over, over.wrapping_sub(1), LAST, LAST - offset]);

@@ -227,8 +227,9 @@ impl<'a> Case<'a> {
 
 pub fn pairs(plan: &Plan, tally: &mut Tally) {
     let mut random = Random::new(plan.seed);
-    let (mut pairs, mut sets) = (0, 0);
+    let (mut pairs, mut sets, mut matrix) = (0, 0, Vec::new());
     for (call, causes) in CALLS {
+        let before = pairs;
         for bits in 0..1_u32 << causes.len() {
             let set: Vec<Cause> =
                 (0..causes.len()).filter(|i| bits >> i & 1 == 1).map(|i| causes[i]).collect();
@@ -247,6 +248,7 @@ pub fn pairs(plan: &Plan, tally: &mut Tally) {
                 });
             }
         }
+        matrix.push(format!("{call} {}", pairs - before));
     }
-    tally.note = format!("{sets} sets of causes over {} calls, {pairs} of them pairs", CALLS.len());
+    tally.note = format!("{sets} sets of causes, {pairs} pairs ({})", matrix.join(", "));
 }

@@ -118,8 +118,8 @@ fn fresh(flash: &View, bank: Bank, days: &Days, now: i64) -> String {
     }
 }
 
-/// The settings, or none where document 01 has refusal 2: the lifted `key`
-/// would panic, and its fields can't hold more.
+/// The settings, or none where document 01 has refusal 2: they hold no more
+/// picks and no longer fields.
 fn config(selection: &Selection) -> Option<Config> {
     let fields: Vec<[&str; 5]> =
         selection.picks.iter().map(|p| p.each_ref().map(String::as_str)).collect();
