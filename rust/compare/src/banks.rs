@@ -223,8 +223,7 @@ fn sensible(tally: &mut Tally, region: &[u8], found: Bank, i: u32, out: &[u8]) -
     true
 }
 
-fn ask_sources(tally: &mut Tally, expected: &Expected, round: usize, random: &mut Random) -> usize {
-    let mut found_sensible = 0;
+fn ask_sources(tally: &mut Tally, expected: &Expected, round: usize, random: &mut Random) {
     for bank in 0..2 {
         let count = expected.header[bank].map_or(0, |b| BankFields::from(b).count);
         let far = count + 2 + random.u32() % 1000;
@@ -247,8 +246,7 @@ fn ask_sources(tally: &mut Tally, expected: &Expected, round: usize, random: &mu
                 Ok(_) if room < 384 => 9,
                 Ok(found) => {
                     after[..384].copy_from_slice(&written(expected.region, found, index));
-                    found_sensible +=
-                        usize::from(sensible(tally, expected.region, found, index, &out));
+                    sensible(tally, expected.region, found, index, &out);
                     0
                 }
             };
@@ -257,7 +255,6 @@ fn ask_sources(tally: &mut Tally, expected: &Expected, round: usize, random: &mu
             tally.same(&out, &after, || expected.describe(round, bank, what()));
         }
     }
-    found_sensible
 }
 
 fn ask_fresh(tally: &mut Tally, expected: &Expected, round: usize, random: &mut Random) {
@@ -521,7 +518,7 @@ pub fn records(plan: &Plan, tally: &mut Tally) {
         made.write(&mut region, bank);
         let (size, tables) = made::layout(made.version);
         let expected = Expected::of(&region);
-        sensible_ones += ask_sources(tally, &expected, round, &mut random);
+        ask_sources(tally, &expected, round, &mut random);
         for index in 0..3 {
             let stored = &region[bank * BANK + 48 + index * size..][..size];
             let mut out = [0xa5; 400];
@@ -539,6 +536,9 @@ pub fn records(plan: &Plan, tally: &mut Tally) {
             };
             tally.same(core, 0, input);
             tally.same(out, whole, input);
+            let found = expected.header[bank].expect("a good bank");
+            let yes = sensible(tally, &region, found, index as u32, &out);
+            sensible_ones += usize::from(yes);
         }
     }
     tally.note = format!("{} records, {sensible_ones} with a sensible stamp and id", rounds * 3);
