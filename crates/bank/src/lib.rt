@@ -42,7 +42,7 @@ pub struct Turn {
 }
 
 // A bank's bytes.
-fn bank_of(region: &[u8], number: u32) -> &[u8]
+pub fn bank_of(region: &[u8], number: u32) -> &[u8]
     ensures { λ r. ⌜ now r ≡ bankOf (now (region .entry)) number ⌝ }
 {
     part(region, number as usize * 491520, 491520)

@@ -1,3 +1,4 @@
 pub mod Source
 pub mod Freshness
 pub mod Steps
+pub mod KeyMatch

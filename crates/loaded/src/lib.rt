@@ -12,7 +12,11 @@ ghost use Rattle.record.specs.Runs.{each};
 ghost use Rattle.loaded.specs.Source as Sources;
 ghost use Rattle.loaded.specs.Freshness as Fresh;
 ghost use Rattle.loaded.specs.Steps as Steps;
+ghost use Rattle.loaded.specs.KeyMatch as Keys;
+use bank::bank_of;
 use bank::header;
+use key::picks_fit;
+use key::SameKey;
 use header::record_at;
 use header::Bank;
 use header::Validated;
@@ -80,7 +84,7 @@ fn refuse(r: Refusal) -> Asked
 fn source_in(region: &[u8], b: Bank, i: u32) -> Source
     ensures { λ r. ⌜ r ≡ Sources.sourceIn (now (region .entry)) b i ⌝ }
 {
-    let l = part(region, b.number as usize * 491520, 491520);
+    let l = bank_of(region, b.number);
     let at = 48 + i as usize * source_size(b.version);
     record_at(l, b.version, at)
 }
@@ -225,7 +229,7 @@ fn fresh_in(region: &[u8], b: Bank, days: Days, at: i64) -> Freshness
     requires { ⌜ b .count ≤ 3 ⌝ }
     ensures { λ r. ⌜ r ≡ Fresh.freshness (now (region .entry)) b days at ⌝ }
 {
-    let l = part(region, b.number as usize * 491520, 491520);
+    let l = bank_of(region, b.number);
     let updated = updated_in(l, b.version, b.count as usize, days, at);
     let checked = checked_at(at, b.checked);
     Freshness { checked, updated }
@@ -252,5 +256,28 @@ pub fn fresh(region: &[u8], number: u32, days: Days, at: i64) -> FreshAnswer
             FreshAnswer::Fresh(f)
         }
         Validated::Refused(r) => FreshAnswer::Refused(r),
+    }
+}
+
+// A bank's key: the first bytes of its data.
+fn key_in(region: &[u8], b: Bank) -> &[u8]
+    ensures { λ r. ⌜ now r ≡ Keys.keyIn (now (region .entry)) b ⌝ }
+{
+    let l = bank_of(region, b.number);
+    part(l, 4096, b.key as usize)
+}
+
+// Whether a bank's key is the key of an identity and picks.
+pub fn same_key(region: &[u8], number: u32, identity: &[u8], texts: &[u8], lengths: &[u32]) -> SameKey
+    ensures { λ r. ⌜ r ≡ Keys.askedKey (now (region .entry)) number (now (identity .entry)) (now (texts .entry)) (now (lengths .entry)) ⌝ }
+{
+    let fits = picks_fit(texts, lengths);
+    let h = header_if(fits, region, number);
+    match h {
+        Validated::Good(b) => {
+            let stored = key_in(region, b);
+            key::same_key(stored, identity, texts, lengths)
+        }
+        Validated::Refused(r) => SameKey::Refused(r),
     }
 }

@@ -1,0 +1,11 @@
+pub mod Linear
+pub mod Sort
+pub mod Walk
+pub mod Taken
+pub mod Insert
+pub mod Put
+pub mod Sizes
+pub mod Stretch
+pub mod Answers
+pub mod Longest
+pub mod Examples

@@ -1,0 +1,158 @@
+-- What the size test gives: a pick takes at most 141 bytes, all of them at most 141 to a pick.
+use mathlib.Core.Path.{_≡_, refl, ap}
+use mathlib.Core.Bool.{Bool, true, false}
+use mathlib.Core.List.{List, [], _∷_}
+use mathlib.Core.Logic.{_⊎_, inl, inr, ⊎-elim}
+use Prim.Native.Nat.{ℕ, zero, suc, _+_, _-_, _*_, _%_, _≤_, _<_, Ordering, Ordering·lt, Ordering·eq, Ordering·gt, suc-le-suc, zero-le}
+use native.Mathlib.Nat.{not-suc-le-zero}
+use native.Mathlib.Numerals.{add-one}
+use native.Mathlib.Omega.{arith}
+use lib.ListN.{length, getD, length-append}
+use borrow.Author.Tests.{leb-true}
+use Rattle.number.specs.Number.{pick}
+use Rattle.key.specs.Order.{Text, Pick, pickOrder}
+use Rattle.key.specs.Picks.{pickOf, unlessCode, firsts, place, insert, distinct, In}
+use Rattle.key.specs.Layout.{every, sized, sizes, joined, field, entry}
+use Rattle.key.specs.Steps.{Rising, between, Small}
+use Rattle.key.proofs.Sort.{sorts}
+use Rattle.key.proofs.Taken.{split, firsts-length, between-length}
+
+pub both-true : (a b : Bool) → pick a b false ≡ true → (a ≡ true) × (b ≡ true)
+both-true true true e = (refl, refl)
+both-true true false e = (refl, e)
+both-true false b e = absurd (let z : _≡_ {A = ℕ} 0 1 = ap (λ (t : Bool). pick t 1 0) e in omega arith)
+
+second-false : (a : Bool) → pick a false false ≡ false
+second-false true = refl
+second-false false = refl
+
+module _ (t : ℕ → Bool) where
+  pub every-none : every 0 t ≡ true
+  unfolding every
+  every-none = refl
+
+  pub every-more : (k : ℕ) → every k t ≡ true → t k ≡ true → every (k + 1) t ≡ true
+  unfolding every
+  every-more k e h = rw (add-one, e, h)
+
+  pub every-not : (n k : ℕ) → k < n → t k ≡ false → every n t ≡ false
+  unfolding every
+  every-not zero k h e = absurd (not-suc-le-zero h)
+  every-not (suc n) k h e =
+      ⊎-elim (λ (w : k < n). rw (every-not n k w e)) (λ (w : n ≤ k). let z : k ≡ n = omega arith in rw (← z, e) (second-false (every k t))) (split k n)
+
+  pub every-at : (n k : ℕ) → every n t ≡ true → k < n → t k ≡ true
+  unfolding every
+  every-at zero k e h = absurd (not-suc-le-zero h)
+  every-at (suc n) k e h =
+      let b = both-true (every n t) (t n) e in
+      ⊎-elim (λ (w : k < n). every-at n k (b .0) w) (λ (w : n ≤ k). let z : k ≡ n = omega arith in rw z (b .1)) (split k n)
+
+pub every-same : (t u : ℕ → Bool) (n : ℕ) → ((k : ℕ) → k < n → t k ≡ u k) → every n t ≡ every n u
+unfolding every
+every-same t u zero e = refl
+every-same t u (suc n) e = rw (every-same t u n (λ k h. e k (omega arith)), e n (omega arith))
+
+-- the code or the name is empty
+unless-both : (c t : Text) → length c ≤ 16 → length t ≤ 64 → length c + length (unlessCode c t) ≤ 64
+unless-both [] t hc ht = omega arith
+unless-both (x ∷ c) t hc ht = omega arith
+
+module _ (t : ℕ → Text) (n : ℕ) (fits : every (n * 5) (sized t) ≡ true) where
+  within : (k m : ℕ) → k < n * 5 → k % 5 ≡ m → length (t k) ≤ getD sizes m 0
+  within k m h e = rw (← e) (leb-true _ _ (every-at (sized t) (n * 5) k fits h))
+
+  pub entry-small : Small (pickOf t) n
+  unfolding pickOf joined
+  entry-small i h =
+      let t0 : length (t (i * 5)) ≤ 8 = within (i * 5) 0 (omega arith) (omega arith) in
+      let t1 : length (t (i * 5 + 1)) ≤ 32 = within (i * 5 + 1) 1 (omega arith) (omega arith) in
+      let t2 : length (t (i * 5 + 2)) ≤ 16 = within (i * 5 + 2) 2 (omega arith) (omega arith) in
+      let t3 : length (t (i * 5 + 3)) ≤ 32 = within (i * 5 + 3) 3 (omega arith) (omega arith) in
+      let t4 : length (t (i * 5 + 4)) ≤ 64 = within (i * 5 + 4) 4 (omega arith) (omega arith) in
+      let u = unless-both (t (i * 5 + 2)) (t (i * 5 + 4)) t2 t4 in
+      simp length-append (omega arith)
+
+-- how many bytes a pick takes, by the places of its texts
+
+unless-code : (c t : Text) → 0 < length c → length (unlessCode c t) ≡ 0
+unless-code [] t h = absurd (omega arith)
+unless-code (x ∷ c) t h = refl
+
+unless-none : (c t : Text) → length c ≡ 0 → length (unlessCode c t) ≡ length t
+unless-none [] t h = refl
+unless-none (x ∷ c) t h = absurd (omega arith)
+
+module _ (b : Text) (s : List ℕ) (r : Rising s (length b)) (i : ℕ) (h : i * 5 + 5 < length s) where
+  gap : (j n : ℕ) → j + 1 ≡ n → n < length s → (length (between b s j) ≡ getD s n 0 - getD s j 0) × (getD s j 0 ≤ getD s n 0)
+  gap j n e w = rw (← e) (between-length b s j r (omega arith), r .rises j (omega arith))
+
+  pub up : (getD s (i * 5) 0 ≤ getD s (i * 5 + 4) 0) × (getD s (i * 5) 0 ≤ getD s (i * 5 + 5) 0)
+  up =
+      let g0 = gap (i * 5) (i * 5 + 1) (omega arith) (omega arith) in
+      let g1 = gap (i * 5 + 1) (i * 5 + 2) (omega arith) (omega arith) in
+      let g2 = gap (i * 5 + 2) (i * 5 + 3) (omega arith) (omega arith) in
+      let g3 = gap (i * 5 + 3) (i * 5 + 4) (omega arith) (omega arith) in
+      let g4 = gap (i * 5 + 4) (i * 5 + 5) (omega arith) (omega arith) in
+      (omega arith, omega arith)
+
+  pub entry-coded : getD s (i * 5 + 2) 0 < getD s (i * 5 + 3) 0 → getD s (i * 5 + 4) 0 - getD s (i * 5) 0 + 5 ≡ length (entry (pickOf (between b s) i))
+  unfolding pickOf joined
+  entry-coded w =
+      let g0 = gap (i * 5) (i * 5 + 1) (omega arith) (omega arith) in
+      let g1 = gap (i * 5 + 1) (i * 5 + 2) (omega arith) (omega arith) in
+      let g2 = gap (i * 5 + 2) (i * 5 + 3) (omega arith) (omega arith) in
+      let g3 = gap (i * 5 + 3) (i * 5 + 4) (omega arith) (omega arith) in
+      let u = unless-code (between b s (i * 5 + 2)) (between b s (i * 5 + 4)) (omega arith) in
+      simp length-append (omega arith)
+
+  pub entry-plain : getD s (i * 5 + 3) 0 ≤ getD s (i * 5 + 2) 0 → getD s (i * 5 + 5) 0 - getD s (i * 5) 0 + 5 ≡ length (entry (pickOf (between b s) i))
+  unfolding pickOf joined
+  entry-plain w =
+      let g0 = gap (i * 5) (i * 5 + 1) (omega arith) (omega arith) in
+      let g1 = gap (i * 5 + 1) (i * 5 + 2) (omega arith) (omega arith) in
+      let g2 = gap (i * 5 + 2) (i * 5 + 3) (omega arith) (omega arith) in
+      let g3 = gap (i * 5 + 3) (i * 5 + 4) (omega arith) (omega arith) in
+      let g4 = gap (i * 5 + 4) (i * 5 + 5) (omega arith) (omega arith) in
+      let u = unless-none (between b s (i * 5 + 2)) (between b s (i * 5 + 4)) (omega arith) in
+      simp length-append (omega arith)
+
+of-firsts : (n : ℕ) (f : ℕ → Pick) (x : Pick) → In x (firsts n f) → (i : ℕ) × (i < n) × (x ≡ f i)
+unfolding firsts
+of-firsts zero f x m = absurd m
+of-firsts (suc n) f x m =
+    ⊎-elim (λ w. (zero, suc-le-suc zero-le, w))
+    (λ w. let t = of-firsts n (λ k. f (suc k)) x w in (suc (t .0), suc-le-suc (t .1), t .2)) m
+
+all-small : (s : List Pick) → ((p : Pick) → In p s → length (entry p) ≤ 141) → length (joined entry s) ≤ 141 * length s
+unfolding joined
+all-small [] h = omega arith
+all-small (p ∷ s) h =
+    let a : length (joined field p) ≤ 141 = h p (inl refl) in
+    let r = all-small s (λ q m. h q (inr m)) in
+    omega (arith, length-append (joined field p) (joined entry s))
+
+pub small : (n : ℕ) (f : ℕ → Pick) → Small f n → length (joined entry (distinct (firsts n f))) ≤ 141 * length (distinct (firsts n f))
+small n f h =
+    all-small (distinct (firsts n f))
+    (λ p m. let t = of-firsts n f p (sorts (firsts n f) .from p m) in rw (t .2) (h (t .0) (t .1)))
+
+-- ---- no more than were handed over
+
+place-count : (o : Ordering) (p q : Pick) (qs f : List Pick) → length f ≤ suc (length qs) → length (place o p q qs f) ≤ suc (suc (length qs))
+place-count Ordering·lt p q qs f h = omega arith
+place-count Ordering·eq p q qs f h = omega arith
+place-count Ordering·gt p q qs f h = omega arith
+
+insert-count : (p : Pick) (s : List Pick) → length (insert p s) ≤ suc (length s)
+unfolding insert
+insert-count p [] = omega arith
+insert-count p (q ∷ qs) = place-count (pickOrder p q) p q qs (insert p qs) (insert-count p qs)
+
+distinct-count : (ps : List Pick) → length (distinct ps) ≤ length ps
+unfolding distinct
+distinct-count [] = omega arith
+distinct-count (p ∷ ps) = let h = distinct-count ps in omega (arith, insert-count p (distinct ps))
+
+pub few : (n : ℕ) (f : ℕ → Pick) → length (distinct (firsts n f)) ≤ n
+few n f = omega (arith, distinct-count (firsts n f), firsts-length n f)

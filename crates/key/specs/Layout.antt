@@ -1,0 +1,90 @@
+-- The bytes of a key, and when a key is refused.
+use mathlib.Core.Bool.{Bool, true, false}
+use mathlib.Core.List.{List, [], _∷_, _++_}
+use Prim.Native.Nat.{ℕ, zero, suc, _/_, _%_, _*_}
+use lib.ListN.{length, getD}
+use lib.Dec.{leb}
+use Rattle.number.specs.Number.{pick}
+use Rattle.leaf.specs.Bytes.{written}
+use Rattle.refusal.specs.declared.Refusal.the-variants.{Argument, Identity, Small}
+use Rattle.key.specs.Order.{Text, Pick}
+use Rattle.key.specs.Picks.{text, count, handed, distinct}
+use Rattle.key.specs.declared.KeyAnswer.{KeyAnswer}
+use Rattle.key.specs.declared.KeyAnswer.the-variants.{Written, Refused}
+
+-- ---- the bytes
+
+-- what each element is written as, one after the other
+unfoldable pub joined : {A : Type 0} → (A → List ℕ) → List A → List ℕ
+joined bytesOf [] = []
+joined bytesOf (x ∷ xs) = bytesOf x ++ joined bytesOf xs
+
+-- a field: a length byte, then the text
+abbrev pub field : Text → List ℕ
+field t = length t % 256 ∷ t
+
+-- a pick: its five fields
+abbrev pub entry : Pick → List ℕ
+entry p = joined field p
+
+-- "255, a 16-bit length, the bytes"; an empty identity writes nothing
+unfoldable pub prefix : Text → List ℕ
+prefix [] = []
+prefix (b ∷ bs) = 255 ∷ length (b ∷ bs) % 256 ∷ length (b ∷ bs) / 256 % 256 ∷ b ∷ bs
+
+-- "one byte, how many distinct picks", and these
+abbrev pub body : List Pick → List ℕ
+body s = length s % 256 ∷ joined entry s
+
+-- the key of an identity and a list of picks
+unfoldable pub keyOf : Text → List Pick → List ℕ
+keyOf identity ps = prefix identity ++ body (distinct ps)
+
+-- ---- the limits
+
+-- how many picks a key takes, counted as handed over
+abbrev pub maxPicks : ℕ
+maxPicks = 16
+
+-- how many bytes an identity may have
+abbrev pub maxIdentity : ℕ
+maxIdentity = 65535
+
+-- the longest key (specs/Claims.antt: NoKeyIsLonger, LongestIsReached)
+abbrev pub longestKey : ℕ
+longestKey = 67795
+
+-- how many bytes a field may have: line, route, stop code, stop, stop name
+abbrev pub sizes : List ℕ
+sizes = 8 ∷ 32 ∷ 16 ∷ 32 ∷ 64 ∷ []
+
+-- the test holds of 0, 1, .., n - 1
+unfoldable pub every : ℕ → (ℕ → Bool) → Bool
+every zero test = true
+every (suc n) test = pick (every n test) (test n) false
+
+-- text k is within its size
+abbrev pub sized : (ℕ → Text) → ℕ → Bool
+sized t k = leb (length (t k)) (getD sizes (k % 5) 0)
+
+-- few enough picks, and each text within its size, a name that a code empties too
+unfoldable pub fit : Text → List ℕ → Bool
+fit bytes lengths = pick (leb (count lengths) maxPicks) (every (count lengths * 5) (sized (text bytes lengths))) false
+
+-- ---- the call `key`
+
+-- a key where there is room for it, else 9
+unfoldable pub within : ℕ → List ℕ → KeyAnswer
+within room key = pick (leb (length key) room) (Written (length key)) (Refused Small)
+
+-- the answer: 2, then 8, then 9, else how many bytes were written
+unfoldable pub keyAnswer : Text → Text → List ℕ → ℕ → KeyAnswer
+keyAnswer identity bytes lengths room =
+    pick (fit bytes lengths)
+    (pick (leb (length identity) maxIdentity) (within room (keyOf identity (handed bytes lengths))) (Refused Identity))
+    (Refused Argument)
+
+-- the output after the call: the key at its start, and past the key as before; on a refusal as before
+abbrev pub after : KeyAnswer → List ℕ → List ℕ → List ℕ
+after (Written n) key out = written out 0 key
+after (Refused r) key out = out

@@ -1,0 +1,6 @@
+pub mod Order
+pub mod Picks
+pub mod Layout
+pub mod Match
+pub mod Claims
+pub mod Steps

@@ -1,0 +1,77 @@
+-- The picks of 01: as they are handed over, and sorted with equal ones once.
+use mathlib.Core.List.{List, [], _∷_}
+use mathlib.Core.Path.{_≡_}
+use mathlib.Core.Logic.{_⊎_}
+use Prim.Native.Nat.{ℕ, zero, suc, _+_, _*_, _/_, Ordering, Ordering·lt, Ordering·eq, Ordering·gt}
+use lib.ListN.{length, take, drop, getD}
+use Rattle.key.specs.Order.{Text, Pick, pickOrder}
+
+-- ---- as handed over: all texts in a row, and their lengths, five to a pick
+
+unfoldable pub sum : List ℕ → ℕ
+sum [] = 0
+sum (n ∷ ns) = n + sum ns
+
+-- text k: as many bytes as its length says, behind those of the lengths before it. Where the bytes end, the text ends; a missing
+-- length is 0
+unfoldable pub text : Text → List ℕ → ℕ → Text
+text bytes lengths k = take (getD lengths k 0) (drop (sum (take k lengths)) bytes)
+
+-- "stop name: empty whenever the code isn't"
+abbrev pub unlessCode : Text → Text → Text
+unlessCode [] name = name
+unlessCode (c ∷ cs) name = []
+
+-- pick i of texts 0, 1, 2, ..: line, route, stop code, stop, stop name
+unfoldable pub pickOf : (ℕ → Text) → ℕ → Pick
+pickOf t i = t (i * 5) ∷ t (i * 5 + 1) ∷ t (i * 5 + 2) ∷ t (i * 5 + 3) ∷ unlessCode (t (i * 5 + 2)) (t (i * 5 + 4)) ∷ []
+
+-- pick i as handed over
+abbrev pub pickAt : Text → List ℕ → ℕ → Pick
+pickAt bytes lengths i = pickOf (text bytes lengths) i
+
+-- how many picks there are: five lengths to each, the last perhaps with some missing
+abbrev pub count : List ℕ → ℕ
+count lengths = (length lengths + 4) / 5
+
+-- f 0, f 1, .., f (n - 1)
+unfoldable pub firsts : {A : Type 0} → ℕ → (ℕ → A) → List A
+firsts zero f = []
+firsts (suc n) f = f 0 ∷ firsts n (λ k. f (suc k))
+
+-- the picks as handed over
+abbrev pub handed : Text → List ℕ → List Pick
+handed bytes lengths = firsts (count lengths) (pickAt bytes lengths)
+
+-- ---- "sorted", "equal five-field picks count once"
+
+-- p is one of a list
+abbrev pub In : Pick → List Pick → Type 0
+In p [] = ⊥
+In p (q ∷ qs) = (p ≡ q) ⊎ In p qs
+
+-- each comes before all behind it, so none stands twice
+abbrev pub Ascending : List Pick → Type 0
+Ascending [] = Unit {0}
+Ascending (p ∷ ps) = ((q : Pick) → In q ps → pickOrder p q ≡ Ordering·lt) × Ascending ps
+
+-- what sorting means: s is ascending, and its picks are those of ps
+pub record Sorts (ps s : List Pick) : Type 0 where
+  pub ascending : Ascending s
+  pub kept : (p : Pick) → In p ps → In p s
+  pub from : (p : Pick) → In p s → In p ps
+
+-- p put in its place: before a larger one, nowhere if it is there
+abbrev pub place : Ordering → Pick → Pick → List Pick → List Pick → List Pick
+place Ordering·lt p q qs further = p ∷ q ∷ qs
+place Ordering·eq p q qs further = q ∷ qs
+place Ordering·gt p q qs further = q ∷ further
+
+unfoldable pub insert : Pick → List Pick → List Pick
+insert p [] = p ∷ []
+insert p (q ∷ qs) = place (pickOrder p q) p q qs (insert p qs)
+
+-- the one list that sorts ps (specs/Claims.antt: DistinctSorts, OnlyOneSorts)
+unfoldable pub distinct : List Pick → List Pick
+distinct [] = []
+distinct (p ∷ ps) = insert p (distinct ps)

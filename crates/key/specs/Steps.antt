@@ -1,0 +1,71 @@
+-- What the private functions promise each other. Nothing here says what a key is.
+use mathlib.Core.List.{List, [], _∷_, _++_, map}
+use mathlib.Core.Path.{_≡_}
+use Prim.Native.Nat.{ℕ, _+_, _-_, _≤_, _<_, min, Ordering, Ordering·lt, Ordering·eq, Ordering·gt}
+use lib.ListN.{length, take, drop, getD}
+use Rattle.number.specs.Number.{pick}
+use Rattle.key.specs.Order.{Text, Pick}
+use Rattle.key.specs.Picks.{sum, pickOf, insert}
+use Rattle.key.specs.Layout.{entry}
+use Rattle.key.specs.Match.{same}
+use Rattle.key.specs.declared.Place.{Place}
+use Rattle.key.specs.declared.Place.the-variants.{At, There}
+use Rattle.key.specs.declared.Matched.{Matched}
+use Rattle.key.specs.declared.Matched.the-variants.{To, Differs}
+
+-- an order as the code says it
+abbrev pub number : Ordering → ℕ
+number Ordering·lt = 0
+number Ordering·eq = 1
+number Ordering·gt = 2
+
+-- ---- where the texts stand
+
+-- where text k starts: behind the texts before it, at most at the end
+unfoldable pub placeOf : Text → List ℕ → ℕ → ℕ
+placeOf bytes lengths k = min (length bytes) (sum (take k lengths))
+
+-- starts has the places of texts 0 to m
+abbrev pub Places : Text → List ℕ → ℕ → List ℕ → Type 0
+Places bytes lengths m starts = (k : ℕ) → k ≤ m → getD starts k 0 ≡ placeOf bytes lengths k
+
+-- places one behind the other, none past the end
+pub record Rising (starts : List ℕ) (end : ℕ) : Type 0 where
+  pub rises : (k : ℕ) → k + 1 < length starts → getD starts k 0 ≤ getD starts (k + 1) 0
+  pub within : (k : ℕ) → k < length starts → getD starts k 0 ≤ end
+
+-- the bytes between places k and k + 1
+unfoldable pub between : Text → List ℕ → ℕ → Text
+between bytes starts k = take (getD starts (k + 1) 0 - getD starts k 0) (drop (getD starts k 0) bytes)
+
+-- pick i of the texts between places
+abbrev pub pickIn : Text → List ℕ → ℕ → Pick
+pickIn bytes starts i = pickOf (between bytes starts) i
+
+-- ---- sorting
+
+-- where p goes among sorted picks s
+abbrev pub Goes : Pick → List Pick → Place → Type 0
+Goes p s (At k) = (k ≤ length s) × (insert p s ≡ take k s ++ p ∷ drop k s)
+Goes p s There = insert p s ≡ s
+
+-- each number of a list is below n
+abbrev pub Below : ℕ → List ℕ → Type 0
+Below n [] = Unit {0}
+Below n (k ∷ s) = (k < n) × Below n s
+
+-- the first m numbers of order, each below n, name the picks s in their order
+pub record Ordered (f : ℕ → Pick) (n : ℕ) (s : List Pick) (order : List ℕ) (m : ℕ) : Type 0 where
+  pub is : map f (take m order) ≡ s
+  pub below : Below n (take m order)
+  pub room : m ≤ length order
+
+-- each of the first n picks takes at most 141 bytes
+abbrev pub Small : (ℕ → Pick) → ℕ → Type 0
+Small f n = (i : ℕ) → i < n → length (entry (f i)) ≤ 141
+
+-- ---- comparing
+
+-- s stands in stored at a place: where it ends
+unfoldable pub stretch : List ℕ → ℕ → List ℕ → Matched
+stretch stored at s = pick (same (take (length s) (drop at stored)) s) (To (at + length s)) Differs
