@@ -46,7 +46,7 @@ returns c =
     let o = q .ensures .1 in
     let k = c .before .key-length in
     let e = total-is f (a .n) order m o (a .identity .now) (k .result) (k .ensures) in
-    sym (other-length (a .stored .now) (keyOf (a .identity .now) (firsts (a .n) f)) (λ z. c .if1 .taken (z ∙ sym e)))
+    sym (other-length (a .stored .now) (keyOf (a .identity .now) (firsts (a .n) f)) (λ z. omega (arith, e, c .if1 .taken)))
 
 match-prefix-requires : tie.Need-match-prefix-requires
 match-prefix-requires c κs = search needs
