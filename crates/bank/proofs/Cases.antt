@@ -52,11 +52,11 @@ module _ (region : List ℕ) where
     turn-forged e f = rw (e, f)
 
     pub turn-bank : (b : Bank) → eqb (length region) regionSize ≡ true → (leb (s .bank) 1 && leb (s .position) capacity) ≡ true → headerOf (s .bank) (bankOf region (s .bank)) ≡ Good b
-      → onBank region b s n ≡ turned region s n
+        → onBank region b s n ≡ turned region s n
     unfolding turned
     turn-bank b e f h = sym (rw (e, f) (ap (thenTurn region s n) h))
 
     pub turn-bad : (r : Refusal) → eqb (length region) regionSize ≡ true → (leb (s .bank) 1 && leb (s .position) capacity) ≡ true → headerOf (s .bank) (bankOf region (s .bank)) ≡ Bad r
-      → stays s (Refused r) ≡ turned region s n
+        → stays s (Refused r) ≡ turned region s n
     unfolding turned
     turn-bad r e f h = sym (rw (e, f) (ap (thenTurn region s n) h))

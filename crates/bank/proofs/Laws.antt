@@ -49,11 +49,11 @@ module _ (region : List ℕ) where
   load-first b e f = rw (e, f)
 
   pub load-second : (r : Refusal) (b : Bank) → eqb (length region) regionSize ≡ true → validated region (firstTried region) ≡ Refused r → validated region (1 - firstTried region) ≡ Good b
-    → Found b ≡ loaded region
+      → Found b ≡ loaded region
   unfolding loaded
   load-second r b e f g = rw (e, f, g)
 
   pub load-none : (r s : Refusal) → eqb (length region) regionSize ≡ true → validated region (firstTried region) ≡ Refused r → validated region (1 - firstTried region) ≡ Refused s
-    → Nothing ≡ loaded region
+      → Nothing ≡ loaded region
   unfolding loaded
   load-none r s e f g = rw (e, f, g)

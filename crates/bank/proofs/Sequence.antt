@@ -64,7 +64,7 @@ module _ (region : List ℕ) (n : ℕ) (b : Bank) (e : named region n ≡ Good b
   hash-at k m h =
       let c = min m (b .length - k) in
       let j : crc32 (crc32 0 (take k bytes)) (take c (drop k bytes)) ≡ crc32 0 (take (k + c) bytes) =
-            crc32-append 0 (take k bytes) (take c (drop k bytes)) ∙ ap (crc32 0) (sym (take-add k c bytes)) in
+      crc32-append 0 (take k bytes) (take c (drop k bytes)) ∙ ap (crc32 0) (sym (take-add k c bytes)) in
       turn-at k m (omega arith)
       ∙ sym (some-left region b (at k) m (le-leb k (b .length) (omega arith)) (ne-eqb k (b .length) (λ q. omega arith)))
       ∙ (λ i. record { progress = Hashed c; next = record { bank = n; position = k + c; crc = j i } })
@@ -91,7 +91,7 @@ module _ (region : List ℕ) (n : ℕ) (b : Bank) (e : named region n ≡ Good b
         count = 0;
         told = ap (λ (x : Turn). reported (x .progress)) v ∙ said (eqb (crc32 0 (take k bytes)) (b .crc));
         next = ap (λ (x : Turn). x .next) v ∙ ap at (sym (add-zero k));
-        fits = omega arith
+        fits = omega arith;
       }
   step-by false k m t h =
       let l : k < b .length = omega (arith, eqb-false k (b .length) t) in
@@ -100,7 +100,7 @@ module _ (region : List ℕ) (n : ℕ) (b : Bank) (e : named region n ≡ Good b
         count = min m (b .length - k);
         told = ap (λ (x : Turn). reported (x .progress)) v;
         next = ap (λ (x : Turn). x .next) v;
-        fits = omega arith
+        fits = omega arith;
       }
 
   step : (k m : ℕ) → k ≤ b .length → Step k m
@@ -122,7 +122,7 @@ module _ (region : List ℕ) (n : ℕ) (b : Bank) (e : named region n ≡ Good b
       let to : k + total region (at k) (m ∷ ns) ≡ k + s .count + rest = ap (λ (x : ℕ). k + x) sum ∙ sym (add-assoc k (s .count) rest) in
       record {
         within = rw to (w .within);
-        there = ap (λ (x : Checking). after region x ns) (s .next) ∙ w .there ∙ ap at (sym to)
+        there = ap (λ (x : Checking). after region x ns) (s .next) ∙ w .there ∙ ap at (sym to);
       }
 
   -- nothing is hashed at first
@@ -155,7 +155,7 @@ module _ (region : List ℕ) (n : ℕ) (b : Bank) (e : named region n ≡ Good b
       record {
         within = short;
         going = λ m h. ap (λ (s : Checking). turned region s m .progress) state ∙ ap (λ (x : Turn). x .progress) (hash-at k m h);
-        done = λ m h. ap (λ (s : Checking). turned region s m .progress) state ∙ ap (λ (x : Turn). x .progress) (verdict-at k m h) ∙ ap (λ (j : ℕ). verdict b (at j)) h ∙ verdict-is
+        done = λ m h. ap (λ (s : Checking). turned region s m .progress) state ∙ ap (λ (x : Turn). x .progress) (verdict-at k m h) ∙ ap (λ (j : ℕ). verdict b (at j)) h ∙ verdict-is;
       }
 
 pub turns-validate : TurnsValidate

@@ -21,8 +21,8 @@ use Rattle.bank.specs.declared.Loaded.the-variants.{Found, Nothing, Refu
 unfoldable pub named : List ℕ → ℕ → Validated
 named region n =
     pick (eqb (length region) regionSize)
-      (pick (leb n 1) (headerOf n (bankOf region n)) (Refused Argument))
-      (Refused Region)
+    (pick (leb n 1) (headerOf n (bankOf region n)) (Refused Argument))
+    (Refused Region)
 
 -- a bank's data
 abbrev pub dataIn : List ℕ → Bank → List ℕ
@@ -56,5 +56,5 @@ orElse (Refused r) other = other
 unfoldable pub loaded : List ℕ → Loaded
 loaded region =
     pick (eqb (length region) regionSize)
-      (orElse (validated region (firstTried region)) (orElse (validated region (1 - firstTried region)) Nothing))
-      (NotRead Region)
+    (orElse (validated region (firstTried region)) (orElse (validated region (1 - firstTried region)) Nothing))
+    (NotRead Region)

@@ -47,8 +47,8 @@ hashed region b s n =
       next = record {
         bank = s .bank;
         position = s .position + countOf b s n;
-        crc = crc32 (s .crc) (take (countOf b s n) (drop (s .position) (dataIn region b)))
-      }
+        crc = crc32 (s .crc) (take (countOf b s n) (drop (s .position) (dataIn region b)));
+      };
     }
 
 -- a turn with nothing left gives the verdict
@@ -58,8 +58,8 @@ verdict b s = pick (eqb (s .crc) (b .crc)) Yes (Refused Data)
 unfoldable pub onBank : List ℕ → Bank → Checking → ℕ → Turn
 onBank region b s n =
     pick (leb (s .position) (b .length))
-      (pick (eqb (s .position) (b .length)) (stays s (verdict b s)) (hashed region b s n))
-      (stays s (Refused OutOfTurn))
+    (pick (eqb (s .position) (b .length)) (stays s (verdict b s)) (hashed region b s n))
+    (stays s (Refused OutOfTurn))
 
 abbrev pub thenTurn : List ℕ → Checking → ℕ → Validated → Turn
 thenTurn region s n (Good b) = onBank region b s n
@@ -69,10 +69,10 @@ thenTurn region s n (Bad r) = stays s (Refused r)
 unfoldable pub turned : List ℕ → Checking → ℕ → Turn
 turned region s n =
     pick (eqb (length region) regionSize)
-      (pick (leb (s .bank) 1 && leb (s .position) capacity)
-        (thenTurn region s n (headerOf (s .bank) (bankOf region (s .bank))))
-        (stays s (Refused OutOfTurn)))
-      (stays s (Refused Region))
+    (pick (leb (s .bank) 1 && leb (s .position) capacity)
+    (thenTurn region s n (headerOf (s .bank) (bankOf region (s .bank))))
+    (stays s (Refused OutOfTurn)))
+    (stays s (Refused Region))
 
 -- turn after turn: the state then, and the sum of the reported numbers
 unfoldable pub after : List ℕ → Checking → List ℕ → Checking

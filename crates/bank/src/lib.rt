@@ -7,9 +7,9 @@ ghost use Rattle.leaf.specs.Crc as Crc;
 ghost use Rattle.header.specs.Region.{bankOf, dataOf};
 ghost use Rattle.bank.specs.Bank as Banks;
 ghost use Rattle.bank.specs.Turns as Turns;
-use header::header_of;
 use header::Bank;
 use header::Validated;
+use header::header_of;
 use leaf::bytes::get;
 use leaf::crc::crc32;
 use leaf::generation::newer;
@@ -131,7 +131,10 @@ pub fn load(region: &[u8]) -> Loaded
 fn stays(s: Checking, p: Progress) -> Turn
     ensures { λ r. ⌜ r ≡ Turns.stays s p ⌝ }
 {
-    Turn { progress: p, next: s }
+    Turn {
+        progress: p,
+        next: s,
+    }
 }
 
 // Begins data checking on a bank.
@@ -140,8 +143,22 @@ pub fn check_start(region: &[u8], number: u32) -> Turn
 {
     let h = header(region, number);
     match h {
-        Validated::Good(_) => stays(Checking { bank: number, position: 0, crc: 0 }, Progress::Hashed(0)),
-        Validated::Refused(r) => stays(Checking { bank: 255, position: 0, crc: 0 }, Progress::Refused(r)),
+        Validated::Good(_) => stays(
+            Checking {
+                bank: number,
+                position: 0,
+                crc: 0,
+            },
+            Progress::Hashed(0),
+        ),
+        Validated::Refused(r) => stays(
+            Checking {
+                bank: 255,
+                position: 0,
+                crc: 0,
+            },
+            Progress::Refused(r),
+        ),
     }
 }
 
@@ -160,7 +177,11 @@ fn hashed(region: &[u8], b: Bank, s: Checking, n: u32) -> Turn
     let d = data_in(region, b);
     let p = part(d, s.position as usize, count as usize);
     let crc = crc32(s.crc, p);
-    let next = Checking { bank: s.bank, position: s.position + count, crc };
+    let next = Checking {
+        bank: s.bank,
+        position: s.position + count,
+        crc,
+    };
     stays(next, Progress::Hashed(count))
 }
 

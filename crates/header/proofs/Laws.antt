@@ -98,12 +98,12 @@ module _ (n : ℕ) (l : List ℕ) where
   not-spanned m s e = rw (m, s, e)
 
   pub bad-source : marked l ≡ true → sealed l ≡ true → spanOk (numbersOf n l) ≡ true → each (sourceOk (numbersOf n l)) (recordsOf (word l 4) l (word l 20)) ≡ false
-    → Refused BadSource ≡ headerOf n l
+      → Refused BadSource ≡ headerOf n l
   unfolding headerOf judge
   bad-source m s e f = rw (m, s, e, f)
 
   pub all-good : marked l ≡ true → sealed l ≡ true → spanOk (numbersOf n l) ≡ true → each (sourceOk (numbersOf n l)) (recordsOf (word l 4) l (word l 20)) ≡ true
-    → Good (numbersOf n l) ≡ headerOf n l
+      → Good (numbersOf n l) ≡ headerOf n l
   unfolding headerOf judge
   all-good m s e f = rw (m, s, e, f)
 
@@ -126,7 +126,7 @@ pub record Passed (n : ℕ) (l : List ℕ) (b : Bank) : Type 0 where
 
 module _ (n : ℕ) (l : List ℕ) (b : Bank) where
   passed-by : (m s p q : Bool) → marked l ≡ m → sealed l ≡ s → spanOk (numbersOf n l) ≡ p → each (sourceOk (numbersOf n l)) (recordsOf (word l 4) l (word l 20)) ≡ q
-    → headerOf n l ≡ Good b → Passed n l b
+      → headerOf n l ≡ Good b → Passed n l b
   unfolding numbersOf
   passed-by false s p q em es ep eq e = no-refusal Mark b (not-marked n l em ∙ e)
   passed-by true false p q em es ep eq e = no-refusal Seal b (not-sealed n l em es ∙ e)
@@ -137,7 +137,7 @@ module _ (n : ℕ) (l : List ℕ) (b : Bank) where
       record {
         numbers = sym k;
         span = ap spanOk (sym k) ∙ ep;
-        sources = ap (λ (x : Bank). each (sourceOk x) (recordsOf (x .version) l (x .count))) (sym k) ∙ eq
+        sources = ap (λ (x : Bank). each (sourceOk x) (recordsOf (x .version) l (x .count))) (sym k) ∙ eq;
       }
 
   pub passed : headerOf n l ≡ Good b → Passed n l b

@@ -31,7 +31,7 @@ numbersOf n l =
       crc = word l 16;
       count = word l 20;
       key = word l 24;
-      checked = time l 32
+      checked = time l 32;
     }
 
 -- a header has three records, from byte 48 on
@@ -102,5 +102,5 @@ judge b ss = pick (spanOk b) (pick (each (sourceOk b) ss) (Good b) (Refused BadS
 unfoldable pub headerOf : ℕ → List ℕ → Validated
 headerOf n l =
     pick (marked l)
-      (pick (sealed l) (judge (numbersOf n l) (recordsOf (word l 4) l (word l 20))) (Refused Seal))
-      (Refused Mark)
+    (pick (sealed l) (judge (numbersOf n l) (recordsOf (word l 4) l (word l 20))) (Refused Seal))
+    (Refused Mark)

@@ -5,7 +5,18 @@ ghost use Prim.Native.Nat.{_+_, _*_, _≤_};
 ghost use lib.ListN.{length, drop};
 ghost use Rattle.record.specs.Runs.{each};
 ghost use Rattle.header.specs.Header.{
-    numbersOf, recordAt, recordsOf, marked, headerCrc, sealed, spanOk, isUnknown, updatedOk, blockOk, sourceOk, headerOf,
+  numbersOf,
+  recordAt,
+  recordsOf,
+  marked,
+  headerCrc,
+  sealed,
+  spanOk,
+  isUnknown,
+  updatedOk,
+  blockOk,
+  sourceOk,
+  headerOf,
 };
 use leaf::bytes::get;
 use leaf::bytes::get_time;
@@ -13,10 +24,10 @@ use leaf::crc::crc32;
 use leaf::date::valid_date;
 use number::le;
 use number::wider;
-use record::decode;
-use record::source_size;
 use record::Block;
 use record::Source;
+use record::decode;
+use record::source_size;
 use refusal::Refusal;
 use slice::part;
 
@@ -84,7 +95,8 @@ pub fn span_ok(b: Bank) -> bool
     ensures { λ r. ⌜ r ≡ spanOk b ⌝ }
 {
     ((1 <= b.length) & (b.length <= 487424))
-        & (((1 <= b.key) & (b.key <= b.length)) & (((1 <= b.count) & (b.count <= 3)) & le(0, b.checked)))
+        & (((1 <= b.key) & (b.key <= b.length))
+            & (((1 <= b.count) & (b.count <= 3)) & le(0, b.checked)))
 }
 
 fn is_unknown(t: i64) -> bool

@@ -58,7 +58,7 @@ module _ (now : ℤ) where
 
   -- a turn of the walk through the records
   pub one-more : (f : List ℕ → ℕ → Source) (step : ℕ) (l : List ℕ) (at n i : ℕ) (x : Seen) → i < n
-    → seen now x (many f step l at (n - i)) ≡ seen now (see now x (f l at)) (many f step l (at + step) (n - (i + 1)))
+      → seen now x (many f step l at (n - i)) ≡ seen now (see now x (f l at)) (many f step l (at + step) (n - (i + 1)))
   unfolding seen many
   one-more f step l at n i x h =
       let e : n - i ≡ suc (n - (i + 1)) = omega arith in

@@ -83,7 +83,7 @@ unfoldable pub freshness : List ℕ → Bank → Days → ℤ → Freshness
 freshness region b days now =
     record {
       checked = checkedAt now b;
-      updated = updatedAt now (used (daysOf days) (recordsOf (b .version) (bankOf region (b .number)) (b .count)))
+      updated = updatedAt now (used (daysOf days) (recordsOf (b .version) (bankOf region (b .number)) (b .count)));
     }
 
 abbrev pub thenFresh : List ℕ → Days → ℤ → Validated → FreshAnswer

@@ -33,7 +33,7 @@ noSource =
       stamp = fill 0 12;
       idlen = 0;
       id = fill 0 80;
-      validator = fill 0 66
+      validator = fill 0 66;
     }
 
 -- the record at an index of a bank

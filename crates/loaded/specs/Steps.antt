@@ -20,7 +20,7 @@ observed now t s =
     record {
       some = true;
       complete = t .complete && known now s;
-      oldest = pick (t .some) (older (t .oldest) (s .updated)) (s .updated)
+      oldest = pick (t .some) (older (t .oldest) (s .updated)) (s .updated);
     }
 
 abbrev pub updatedOf : SourceTimes → ℤ

@@ -15,16 +15,16 @@ ghost use Rattle.loaded.specs.Steps as Steps;
 ghost use Rattle.loaded.specs.KeyMatch as Keys;
 use bank::bank_of;
 use bank::header;
-use key::picks_fit;
-use key::SameKey;
-use header::record_at;
 use header::Bank;
 use header::Validated;
+use header::record_at;
+use key::SameKey;
+use key::picks_fit;
 use leaf::date::valid_date;
 use number::le;
-use record::source_size;
 use record::Block;
 use record::Source;
+use record::source_size;
 use refusal::Refusal;
 use slice::part;
 
@@ -65,20 +65,38 @@ pub enum FreshAnswer {
 fn no_source() -> Source
     ensures { λ r. ⌜ r ≡ Sources.noSource ⌝ }
 {
-    let b = Block { offset: 0, length: 0, crc: 0 };
+    let b = Block {
+        offset: 0,
+        length: 0,
+        crc: 0,
+    };
     let original = [0u32; 16];
     let tables = [b; 8];
     let stamp = [0u8; 12];
     let id = [0u8; 80];
     let validator = [0u8; 66];
-    Source { start: 0, end: 0, present: 0, updated: 0, original, tables, stamp, idlen: 0, id, validator }
+    Source {
+        start: 0,
+        end: 0,
+        present: 0,
+        updated: 0,
+        original,
+        tables,
+        stamp,
+        idlen: 0,
+        id,
+        validator,
+    }
 }
 
 fn refuse(r: Refusal) -> Asked
     ensures { λ x. ⌜ x ≡ Sources.refuse r ⌝ }
 {
     let source = no_source();
-    Asked { outcome: Outcome::Refused(r), source }
+    Asked {
+        outcome: Outcome::Refused(r),
+        source,
+    }
 }
 
 fn source_in(region: &[u8], b: Bank, i: u32) -> Source
@@ -98,7 +116,10 @@ pub fn source(region: &[u8], number: u32, i: u32) -> Asked
         Validated::Good(b) => {
             if i < b.count {
                 let source = source_in(region, b, i);
-                return Asked { outcome: Outcome::Done, source };
+                return Asked {
+                    outcome: Outcome::Done,
+                    source,
+                };
             }
             refuse(Refusal::Source)
         }
@@ -135,7 +156,10 @@ fn has(start: u32, end: u32, date: u32) -> bool
 fn leaves(start: u32, end: u32, d: Day) -> Day
     ensures { λ r. ⌜ r ≡ record { date = d .date; wanted = d .wanted && not (leb start (d .date) && leb (d .date) end) } ⌝ }
 {
-    Day { date: d.date, wanted: d.wanted & !has(start, end, d.date) }
+    Day {
+        date: d.date,
+        wanted: d.wanted & !has(start, end, d.date),
+    }
 }
 
 fn gives(s: Source, d: Days) -> bool
@@ -145,7 +169,8 @@ fn gives(s: Source, d: Days) -> bool
     let b = d.second;
     let c = d.third;
     (a.wanted & has(s.start, s.end, a.date))
-        | ((b.wanted & has(s.start, s.end, b.date)) | ((c.wanted & has(s.start, s.end, c.date)) | false))
+        | ((b.wanted & has(s.start, s.end, b.date))
+            | ((c.wanted & has(s.start, s.end, c.date)) | false))
 }
 
 fn left(s: Source, d: Days) -> Days
@@ -176,13 +201,21 @@ fn observed(now: i64, t: SourceTimes, s: Source) -> SourceTimes
     let u = s.updated;
     let complete = t.complete & known(now, u);
     let oldest = if t.some { older(t.oldest, u) } else { u };
-    SourceTimes { some: true, complete, oldest }
+    SourceTimes {
+        some: true,
+        complete,
+        oldest,
+    }
 }
 
 fn updated_of(t: SourceTimes) -> i64
     ensures { λ r. ⌜ r ≡ Steps.updatedOf t ⌝ }
 {
-    if t.some & t.complete { t.oldest } else { i64::MIN }
+    if t.some & t.complete {
+        t.oldest
+    } else {
+        i64::MIN
+    }
 }
 
 // How far a walk through the sources is.
@@ -195,7 +228,10 @@ fn see(at: i64, x: Seen, s: Source) -> Seen
     ensures { λ r. ⌜ r ≡ Steps.see at x s ⌝ }
 {
     if gives(s, x.days) {
-        return Seen { times: observed(at, x.times, s), days: left(s, x.days) };
+        return Seen {
+            times: observed(at, x.times, s),
+            days: left(s, x.days),
+        };
     }
     x
 }
@@ -206,7 +242,11 @@ fn updated_in(l: &[u8], version: u32, n: usize, days: Days, at: i64) -> i64
     ensures { λ r. ⌜ r ≡ Fresh.updatedAt at (Fresh.used (Fresh.daysOf days) (recordsOf version (now (l .entry)) n)) ⌝ }
 {
     let size = source_size(version);
-    let times = SourceTimes { some: false, complete: true, oldest: 0 };
+    let times = SourceTimes {
+        some: false,
+        complete: true,
+        oldest: 0,
+    };
     let mut x = Seen { times, days };
     let mut place = 48;
     let mut i = 0;
@@ -268,7 +308,13 @@ fn key_in(region: &[u8], b: Bank) -> &[u8]
 }
 
 // Whether a bank's key is the key of an identity and picks.
-pub fn same_key(region: &[u8], number: u32, identity: &[u8], texts: &[u8], lengths: &[u32]) -> SameKey
+pub fn same_key(
+    region: &[u8],
+    number: u32,
+    identity: &[u8],
+    texts: &[u8],
+    lengths: &[u32],
+) -> SameKey
     ensures { λ r. ⌜ r ≡ Keys.askedKey (now (region .entry)) number (now (identity .entry)) (now (texts .entry)) (now (lengths .entry)) ⌝ }
 {
     let fits = picks_fit(texts, lengths);

@@ -136,17 +136,17 @@ module _ (s : Source) (z : Sized s) (h : Ranged s) (q : List ℕ) where
   source-back =
       ap (sourceOf 8) all-is
       ∙ (λ i. record {
-          start = start-back i;
-          end = end-back i;
-          present = present-back i;
-          updated = updated-back i;
-          original = (append-nil (many word 4 all 20 16) ∙ original-back) i;
-          tables = (append-nil (many blockAt 12 all 84 8) ∙ tables-back) i;
-          stamp = stamp-back i;
-          idlen = idlen-back i;
-          id = id-back i;
-          validator = validator-back i
-        })
+        start = start-back i;
+        end = end-back i;
+        present = present-back i;
+        updated = updated-back i;
+        original = (append-nil (many word 4 all 20 16) ∙ original-back) i;
+        tables = (append-nil (many blockAt 12 all 84 8) ∙ tables-back) i;
+        stamp = stamp-back i;
+        idlen = idlen-back i;
+        id = id-back i;
+        validator = validator-back i;
+      })
 
 pub reads-back : ReadsBack
 unfolding decoded
@@ -165,7 +165,7 @@ version-1 l =
       stamp = past 12 t 160 (omega arith);
       idlen = List·getD-eq-default t 0 (omega arith);
       id = past 80 t 173 (omega arith);
-      validator = past 66 t 253 (omega arith)
+      validator = past 66 t 253 (omega arith);
     }
 
 pub seven-tables : SevenTables

@@ -25,7 +25,7 @@ block-is l i b =
     ∙ next l (le32 (b .offset) ++ le32 (b .length)) (le32 (b .crc)) i 8 refl
 
 pub head-is : (l : List ℕ) (i : ℕ) (s : Source)
-  → sets (sets (sets (sets l i (le32 (s .start))) (i + 4) (le32 (s .end))) (i + 8) (le32 (s .present))) (i + 12) (le64 (s .updated)) ≡ sets l i (headBytes s)
+    → sets (sets (sets (sets l i (le32 (s .start))) (i + 4) (le32 (s .end))) (i + 8) (le32 (s .present))) (i + 12) (le64 (s .updated)) ≡ sets l i (headBytes s)
 unfolding headBytes le32
 head-is l i s =
     let a = le32 (s .start) in
@@ -36,12 +36,12 @@ head-is l i s =
     ∙ next l (a ++ b ++ d) (le64 (s .updated)) i 12 refl
 
 pub tables-are : (l : List ℕ) (i : ℕ) (s : Source) → length (s .original) ≡ 16
-  → sets (sets l i (puts le32 (s .original))) (i + 64) (puts blockBytes (s .tables)) ≡ sets l i (tableBytes s)
+    → sets (sets l i (puts le32 (s .original))) (i + 64) (puts blockBytes (s .tables)) ≡ sets l i (tableBytes s)
 unfolding tableBytes
 tables-are l i s e = next l (puts le32 (s .original)) (puts blockBytes (s .tables)) i 64 (length-puts le32 4 length-le32 (s .original) ∙ omega arith)
 
 pub tail-is : (l : List ℕ) (i : ℕ) (s : Source) → length (s .stamp) ≡ 12 → length (s .id) ≡ 80
-  → sets (sets (set (sets l i (s .stamp)) (i + 12) (s .idlen)) (i + 13) (s .id)) (i + 93) (s .validator) ≡ sets l i (tailBytes s)
+    → sets (sets (set (sets l i (s .stamp)) (i + 12) (s .idlen)) (i + 13) (s .id)) (i + 93) (s .validator) ≡ sets l i (tailBytes s)
 unfolding tailBytes
 tail-is l i s e f =
     let n : List ℕ = s .idlen ∷ [] in
@@ -67,7 +67,7 @@ length-tail s h =
     ∙ omega (arith, length-append (s .id) (s .validator), h .stamp, h .id, h .validator)
 
 pub source-is : (l : List ℕ) (i : ℕ) (s : Source) → Sized s
-  → sets (sets (sets (sets l i (headBytes s)) (i + 20) (tableBytes s)) (i + 180) (tailBytes s)) (i + 339) (fill 0 45) ≡ sets l i (sourceBytes s)
+    → sets (sets (sets (sets l i (headBytes s)) (i + 20) (tableBytes s)) (i + 180) (tailBytes s)) (i + 339) (fill 0 45) ≡ sets l i (sourceBytes s)
 unfolding sourceBytes
 source-is l i s h =
     let a = headBytes s in
@@ -86,5 +86,12 @@ pub length-source : (s : Source) → Sized s → length (sourceBytes s) ≡ 384
 unfolding sourceBytes
 length-source s h =
     length-append (headBytes s) (tableBytes s ++ (tailBytes s ++ fill 0 45))
-    ∙ omega (arith, length-head s, length-tables s h, length-tail s h, length-fill {A = ℕ} 0 45,
-             length-append (tableBytes s) (tailBytes s ++ fill 0 45), length-append (tailBytes s) (fill 0 45))
+    ∙ omega (
+      arith,
+      length-head s,
+      length-tables s h,
+      length-tail s h,
+      length-fill {A = ℕ} 0 45,
+      length-append (tableBytes s) (tailBytes s ++ fill 0 45),
+      length-append (tailBytes s) (fill 0 45),
+    )

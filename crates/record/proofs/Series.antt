@@ -26,7 +26,7 @@ module _ {A : Type 0} (f : List ℕ → ℕ → A) (step : ℕ) (l : List ℕ) w
 
   -- a turn of a loop that fills
   pub many-set : (at n : ℕ) (d : List A) (z x : A) → n < length d → x ≡ f l (at + n * step)
-    → set (many f step l at n ++ drop n d) n x ≡ many f step l at (n + 1) ++ drop (n + 1) d
+      → set (many f step l at n ++ drop n d) n x ≡ many f step l at (n + 1) ++ drop (n + 1) d
   many-set at n d z x h e =
       ap (λ (t : List A). set (many f step l at n ++ t) n x) (drop-cons d n z h)
       ∙ set-at (many f step l at n) (getD d n z) (drop (suc n) d) x n (length-many at n)
@@ -80,7 +80,7 @@ module _ {A : Type 0} (g : A → List ℕ) (k : ℕ) (each : (x : A) → length 
 
   -- a turn of a loop that writes
   pub puts-more : (xs : List A) (j at : ℕ) (z : A) (l : List ℕ) → j < length xs
-    → sets (sets l at (puts g (take j xs))) (at + j * k) (g (getD xs j z)) ≡ sets l at (puts g (take (j + 1) xs))
+      → sets (sets l at (puts g (take j xs))) (at + j * k) (g (getD xs j z)) ≡ sets l at (puts g (take (j + 1) xs))
   unfolding puts
   puts-more xs j at z l h =
       let n : length (puts g (take j xs)) ≡ j * k = length-puts (take j xs) ∙ ap (λ (m : ℕ). m * k) (length-take-le j xs (omega arith)) in
@@ -113,7 +113,7 @@ puts-join g (y ∷ xs) x = ap (λ (t : List ℕ). g y ++ t) (puts-join g xs x) �
 
 -- a turn of a loop that writes, where only what is written so far is known to have its length
 pub puts-next : {A : Type 0} (g : A → List ℕ) (xs : List A) (j at m : ℕ) (z : A) (l : List ℕ) → j < length xs → length (puts g (take j xs)) ≡ m
-  → sets (sets l at (puts g (take j xs))) (at + m) (g (getD xs j z)) ≡ sets l at (puts g (take (j + 1) xs))
+    → sets (sets l at (puts g (take j xs))) (at + m) (g (getD xs j z)) ≡ sets l at (puts g (take (j + 1) xs))
 puts-next g xs j at m z l h e = rw (add-one, take-suc xs j z h, puts-join g (take j xs) (getD xs j z)) (next l (puts g (take j xs)) (g (getD xs j z)) at m e)
 
 pub length-puts-next : {A : Type 0} (g : A → List ℕ) (xs : List A) (j : ℕ) (z : A) → j < length xs → length (puts g (take (j + 1) xs)) ≡ length (puts g (take j xs)) + length (g (getD xs j z))

@@ -37,7 +37,7 @@ sourceOf n l =
       stamp = many byte 1 l (n * 20 + 20) 12;
       idlen = byte l (n * 20 + 32);
       id = many byte 1 l (n * 20 + 33) 80;
-      validator = many byte 1 l (n * 20 + 113) 66
+      validator = many byte 1 l (n * 20 + 113) 66;
     }
 
 -- the record of a version that stands first in l

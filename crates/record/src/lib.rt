@@ -7,11 +7,21 @@ ghost use lib.Seq.{sets};
 ghost use Rattle.leaf.specs.Bytes.{byte, word, le32, le64, written};
 ghost use Rattle.record.specs.Runs.{many, puts, fill};
 ghost use Rattle.record.specs.Record.{
-    sourceSize, tableCount, noBlock, blockAt, blockBytes, sourceOf, decoded, headBytes, tableBytes, tailBytes, sourceBytes,
+  sourceSize,
+  tableCount,
+  noBlock,
+  blockAt,
+  blockBytes,
+  sourceOf,
+  decoded,
+  headBytes,
+  tableBytes,
+  tailBytes,
+  sourceBytes,
 };
 use leaf::bytes::get;
-use leaf::bytes::get8;
 use leaf::bytes::get_time;
+use leaf::bytes::get8;
 use leaf::bytes::put;
 use leaf::bytes::put_time;
 
@@ -95,7 +105,11 @@ fn blocks_at(r: &[u8], at: usize, n: usize) -> [Block; 8]
     requires { ⌜ (n ≤ 8) × (at ≤ 1000) ⌝ }
     ensures { λ x. ⌜ x ≡ many blockAt 12 (now (r .entry)) at n ++ fill noBlock (8 - n) ⌝ }
 {
-    let b = Block { offset: 0, length: 0, crc: 0 };
+    let b = Block {
+        offset: 0,
+        length: 0,
+        crc: 0,
+    };
     let mut t = [b; 8];
     let mut j = 0;
     while j < n {
@@ -288,28 +302,23 @@ fn put_source(out: &mut [u8], at: usize, s: Source)
 // The arrays of a record have their lengths.
 fn has_words(ws: [u32; 16])
     ensures { λ _. ⌜ length ws ≡ 16 ⌝ }
-{
-}
+{}
 
 fn has_blocks(bs: [Block; 8])
     ensures { λ _. ⌜ length bs ≡ 8 ⌝ }
-{
-}
+{}
 
 fn has_stamp(x: [u8; 12])
     ensures { λ _. ⌜ length x ≡ 12 ⌝ }
-{
-}
+{}
 
 fn has_id(x: [u8; 80])
     ensures { λ _. ⌜ length x ≡ 80 ⌝ }
-{
-}
+{}
 
 fn has_validator(x: [u8; 66])
     ensures { λ _. ⌜ length x ≡ 66 ⌝ }
-{
-}
+{}
 
 fn has_size(s: Source)
     ensures { λ _. ⌜ length (sourceBytes s) ≡ 384 ⌝ }

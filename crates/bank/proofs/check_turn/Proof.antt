@@ -53,7 +53,7 @@ returns-3 c =
     let r = a .region .now in
     c .on-bank .ensures
     ∙ turn-bank r s (a .n) _ (eq-eqb _ _ (f .if1 .left)) (not-false _ (e .if2 .left))
-      (ap (headerOf (s .bank)) (sym (o .before .bank-of .ensures)) ∙ sym (o .header-of .ensures) ∙ h .h .given .1)
+    (ap (headerOf (s .bank)) (sym (o .before .bank-of .ensures)) ∙ sym (o .header-of .ensures) ∙ h .h .given .1)
 
 returns-4 : tie.Need-returns-4
 returns-4 c =
@@ -66,7 +66,7 @@ returns-4 c =
     let r = a .region .now in
     c .stays3 .ensures
     ∙ turn-bad r s (a .n) _ (eq-eqb _ _ (f .if1 .left)) (not-false _ (e .if2 .left))
-      (ap (headerOf (s .bank)) (sym (o .before .bank-of .ensures)) ∙ sym (o .header-of .ensures) ∙ h .h2 .given .1)
+    (ap (headerOf (s .bank)) (sym (o .before .bank-of .ensures)) ∙ sym (o .header-of .ensures) ∙ h .h2 .given .1)
 
 pub check-turn-spec : {M : Type 1} → statement M
 check-turn-spec =

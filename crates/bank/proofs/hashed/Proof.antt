@@ -47,7 +47,7 @@ returns c =
     let k = m .smaller .ensures .0 in
     let s = a .s in
     let e : r .crc32 .result ≡ crc32 (s .crc) (take (countOf (a .b) s (a .n)) (drop (s .position) (dataIn (a .region .now) (a .b)))) =
-          r .crc32 .ensures ∙ ap (crc32 (s .crc)) (p .part .ensures ∙ (λ i. take (k i) (drop (s .position) (d .data-in .ensures i)))) in
+    r .crc32 .ensures ∙ ap (crc32 (s .crc)) (p .part .ensures ∙ (λ i. take (k i) (drop (s .position) (d .data-in .ensures i)))) in
     c .stays .ensures ∙ (λ i. record { progress = Hashed (k i); next = record { bank = s .bank; position = s .position + k i; crc = e i } })
 
 pub hashed-spec : {M : Type 1} → statement M

@@ -39,7 +39,7 @@ returns c =
       crc = c .before .before .before .get4 .ensures i;
       count = c .before .before .get5 .ensures i;
       key = c .before .get6 .ensures i;
-      checked = u i
+      checked = u i;
     }
 
 pub numbers-of-spec : {M : Type 1} → statement M

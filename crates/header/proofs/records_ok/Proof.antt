@@ -45,8 +45,7 @@ loop-again c =
     let z = c .before .before .before .before .source-size in
     let v = a .b .version in
     let s : c .before .record-at .result ≡ recordAt v (a .l .now) (48 + k .i * sourceSize v) =
-          c .before .record-at .ensures ∙ ap (recordAt v (a .l .now)) (k .inv .1 ∙ ap (λ (m : ℕ). 48 + k .i * m) (z .ensures .0)) in
-    (
+    c .before .record-at .ensures ∙ ap (recordAt v (a .l .now)) (k .inv .1 ∙ ap (λ (m : ℕ). 48 + k .i * m) (z .ensures .0)) in (
       omega arith,
       omega (arith, add-mul (k .i) 1 (z .result), one-mul (z .result), k .inv .1),
       omega (arith, z .ensures .1),

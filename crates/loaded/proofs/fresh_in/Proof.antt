@@ -6,7 +6,6 @@ use Rattle.loaded.proofs.fresh_in.Lts as lts
 use Rattle.bank.proofs.bank_of.Reads as bank-of-reads
 use Rattle.loaded.proofs.checked_at.Reads as checked-at-reads
 use Rattle.loaded.proofs.updated_in.Reads as updated-in-reads
-
 use Rattle.loaded.specs.Freshness.{daysOf, used, updatedAt, checkedAt, freshness}
 use Rattle.header.specs.Header.{recordsOf}
 use mir.ValLaws.{toZ-ofZ}
@@ -36,7 +35,7 @@ returns c =
     let y = toZ-ofZ w64 (a .at) (b .fits .at) in
     let ch : _ ≡ checkedAt (a .at) (a .b) = toZ-ofZ w64 (c .checked-at .result) (record { sfits = c .checked-at .ok }) ∙ c .checked-at .ensures ∙ rw (x, y) in
     let up = toZ-ofZ w64 (u .updated-in .result) (record { sfits = u .updated-in .ok }) ∙ u .updated-in .ensures
-          ∙ (λ i. updatedAt (y i) (used (daysOf (a .days)) (recordsOf (a .b .version) (p .bank-of .ensures i) (a .b .count)))) in
+    ∙ (λ i. updatedAt (y i) (used (daysOf (a .days)) (recordsOf (a .b .version) (p .bank-of .ensures i) (a .b .count)))) in
     λ i. record { checked = ch i; updated = up i }
 
 pub fresh-in-spec : {M : Type 1} → statement M

@@ -6,7 +6,6 @@ use Rattle.loaded.proofs.source_in.Lts as lts
 use Rattle.bank.proofs.bank_of.Reads as bank-of-reads
 use Rattle.header.proofs.record_at.Reads as record-at-reads
 use Rattle.record.proofs.source_size.Reads as source-size-reads
-
 use Rattle.loaded.specs.Source.{sourceIn}
 use Rattle.header.specs.Header.{recordAt}
 use native.Mathlib.Omega.{arith}

@@ -50,13 +50,12 @@ loop-again c =
     let a = z .before .before .args in
     let f = recordAt (a .version) in
     let at = toZ w64 (ofZ w64 (a .at)) in
-    let r : c .see .result ≡ see at (k .x) (f (a .l .now) (k .place)) = c .see .ensures ∙ ap (see at (k .x)) (c .before .record-at .ensures) in
-    (
+    let r : c .see .result ≡ see at (k .x) (f (a .l .now) (k .place)) = c .see .ensures ∙ ap (see at (k .x)) (c .before .record-at .ensures) in (
       omega arith,
       omega (arith, z .source-size .ensures .1),
       ap (λ (y : Seen). seen at y (many f (z .source-size .result) (a .l .now) (k .place + z .source-size .result) (a .n - (k .i + 1)))) r
-      ∙ sym (one-more at f (z .source-size .result) (a .l .now) (k .place) (a .n) (k .i) (k .x) (omega arith))
-      ∙ k .inv .2,
+          ∙ sym (one-more at f (z .source-size .result) (a .l .now) (k .place) (a .n) (k .i) (k .x) (omega arith))
+          ∙ k .inv .2,
     )
 
 updated-of-requires : tie.Need-updated-of-requires Inv-loop μ-loop

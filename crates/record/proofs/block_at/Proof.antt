@@ -5,7 +5,6 @@ use Rattle.record.proofs.block_at.Reads as reads
 use Rattle.record.proofs.block_at.Lts as lts
 use Rattle.leaf.proofs.bytes.get.Reads as get-reads
 
-
 get-requires : tie.Need-get-requires
 get-requires c κs = search needs
 

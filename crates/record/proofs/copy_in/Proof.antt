@@ -41,13 +41,13 @@ loop-less : tie.Need-loop-less Inv-loop μ-loop
 loop-less c = search needs
 
 loop-again : tie.Need-loop-again Inv-loop μ-loop
-loop-again c = 
+loop-again c =
     let a = c .before .before .before .before .before .args in
     let l = c .before .before .loop in
     (omega arith, rw (l .inv .1) (many-set byte 1 (a .s .now) (a .at) (l .j) (a .out .now) 0 (c .get8 .result) (omega arith) (rw mul-one (c .get8 .ensures))))
 
 same-length : tie.Need-same-length Inv-loop μ-loop
-same-length c = 
+same-length c =
     let a = c .before .before .before .before .args in
     let l = c .before .loop in
     ap length (l .inv .1) ∙ many-length byte 1 (a .s .now) (a .at) (l .j) (a .out .now) (omega arith)

@@ -34,7 +34,7 @@ returns c =
     let w = b .before .before in
     let s = w .before .before .args .s in
     let z : Sized s =
-          record { original = w .has-words .ensures; tables = b .has-blocks .ensures; stamp = t .has-stamp .ensures; id = i .has-id .ensures; validator = c .has-validator .ensures } in
+    record { original = w .has-words .ensures; tables = b .has-blocks .ensures; stamp = t .has-stamp .ensures; id = i .has-id .ensures; validator = c .has-validator .ensures } in
     length-source s z
 
 pub has-size-spec : {M : Type 1} → statement M

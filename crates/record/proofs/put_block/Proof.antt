@@ -4,7 +4,6 @@ use Rattle.record.proofs.put_block.Tie as tie
 use Rattle.record.proofs.put_block.Reads as reads
 use Rattle.record.proofs.put_block.Lts as lts
 use Rattle.record.proofs.put32.Reads as put32-reads
-
 use mathlib.Core.Path.{_≡_, refl, sym, ap, _∙_}
 use mathlib.Core.List.{List, [], _∷_, _++_, append-nil}
 use Prim.Native.Nat.{ℕ, suc, _≤_, _-_, _+_, _*_, _/_, _%_}

@@ -38,7 +38,7 @@ loop-less : tie.Need-loop-less Inv-loop μ-loop
 loop-less c = search needs
 
 loop-again : tie.Need-loop-again Inv-loop μ-loop
-loop-again c = 
+loop-again c =
     let a = c .before .before .before .args in
     let l = c .before .before .loop in
     (omega arith, rw (l .inv .1) (bytes-more (a .s .now) (l .j) (a .at) (a .out .now) (omega arith)))
@@ -47,7 +47,7 @@ same-length : tie.Need-same-length Inv-loop μ-loop
 same-length c = ap length (c .before .loop .inv .1) ∙ simp length-sets
 
 returns : tie.Need-returns Inv-loop μ-loop
-returns c = 
+returns c =
     let a = c .before .before .args in
     c .before .loop .inv .1 ∙ ap (λ (t : List ℕ). sets (a .out .now) (a .at) t) (take-all (c .before .loop .j) (a .s .now) (omega arith))
 

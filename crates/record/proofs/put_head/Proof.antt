@@ -5,7 +5,6 @@ use Rattle.record.proofs.put_head.Reads as reads
 use Rattle.record.proofs.put_head.Lts as lts
 use Rattle.record.proofs.put32.Reads as put32-reads
 use Rattle.record.proofs.put64.Reads as put64-reads
-
 use mathlib.Core.Path.{_≡_, refl, sym, ap, _∙_}
 use mathlib.Core.List.{List, [], _∷_, _++_, append-nil}
 use Prim.Native.Nat.{ℕ, suc, _≤_, _-_, _+_, _*_, _/_, _%_}
@@ -45,7 +44,7 @@ same-length : tie.Need-same-length
 same-length c = search needs
 
 returns : tie.Need-returns
-returns c = 
+returns c =
     let a = c .before .before .before .before .before .before .before .before .before .before .before .before .before .before .before .before .before .before .args in
     let g = c .before .before .before .struct-told .given in
     let u : toZ w64 (ofZ w64 (a .s .updated)) ≡ a .s .updated = toZ-ofZ w64 (a .s .updated) (record { sfits = g .1 .1 .1 .0 .1 }) in

@@ -59,7 +59,7 @@ same-length c = search needs
 -- src/lib.rt:189:1
 returns : tie.Need-returns
 unfolding fill
-returns c = 
+returns c =
     let a = c .before .before .before .before .before .before .before .before .before .before .before .before .before .before .before .before .before .before .args in
     let t = c .before .before .before .before .before .before .before .before .before .before .before .put-tables .ensures in
     let e = c .before .before .before .before .before .before .before .put-tail .ensures in

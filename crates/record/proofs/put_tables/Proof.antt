@@ -34,7 +34,7 @@ same-length c = search needs
 
 -- src/lib.rt:144:1
 returns : tie.Need-returns
-returns c = 
+returns c =
     let a = c .before .before .before .before .before .before .before .before .before .before .before .args in
     let n = c .before .before .before .before .before .before .before .put-words .ensures .1 in
     (c .before .before .put-blocks .ensures .0 ∙ rw (c .before .before .before .before .before .before .before .put-words .ensures .0) (tables-are (a .out .now) (a .at) (a .s) n), n, c .before .before .put-blocks .ensures .1)

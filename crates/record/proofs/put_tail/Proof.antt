@@ -52,7 +52,7 @@ same-length c = search needs
 
 -- src/lib.rt:175:1
 returns : tie.Need-returns
-returns c = 
+returns c =
     let a = c .before .before .before .before .before .before .before .before .before .before .before .before .before .before .before .before .before .before .before .before .args in
     let e = c .before .before .before .before .before .before .before .before .before .before .before .before .before .before .before .before .put-stamp .ensures .1 in
     let f = c .before .before .before .before .before .before .before .put-id .ensures .1 in

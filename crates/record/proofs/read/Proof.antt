@@ -120,7 +120,7 @@ get8-requires c κs = search needs
 -- src/lib.rt:76:1
 returns : tie.Need-returns
 unfolding sourceOf
-returns c = 
+returns c =
     let l = c .before .before .before .before .before .before .before .before .before .before .before .before .before .before .before .before .before .args .r .now in
     let n = c .before .before .before .before .before .before .before .before .before .before .before .before .before .before .before .before .before .args .n in
     let stamp = (c .before .before .before .before .before .before .before .before .before .before .before .before .copy-in .ensures ∙ append-nil (many byte 1 l (n * 20 + 20) 12)) in
@@ -137,7 +137,7 @@ returns c =
       stamp = stamp i;
       idlen = c .get8 .ensures i;
       id = id i;
-      validator = validator i
+      validator = validator i;
     }
 
 pub read-spec : {M : Type 1} → statement M

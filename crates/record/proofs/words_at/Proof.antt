@@ -47,13 +47,13 @@ loop-less : tie.Need-loop-less Inv-loop μ-loop
 loop-less c = search needs
 
 loop-again : tie.Need-loop-again Inv-loop μ-loop
-loop-again c = 
+loop-again c =
     let a = c .before .before .before .before .args in
     let l = c .before .before .loop in
     (omega arith, rw (l .inv .1) (many-set word 4 (a .r .now) (a .at) (l .j) (replicate 16 0) 0 (c .get .result) (omega arith) (c .get .ensures)))
 
 returns : tie.Need-returns Inv-loop μ-loop
-returns c = 
+returns c =
     let a = c .before .before .before .args in
     let l = c .before .loop in
     let e : l .j ≡ a .n = omega arith in
