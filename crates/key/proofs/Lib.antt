@@ -8,4 +8,3 @@ pub mod Sizes
 pub mod Stretch
 pub mod Answers
 pub mod Longest
-pub mod Examples
