@@ -317,8 +317,8 @@ pub fn same_key(
 ) -> SameKey
     ensures { λ r. ⌜ r ≡ Keys.askedKey (now (region .entry)) number (now (identity .entry)) (now (texts .entry)) (now (lengths .entry)) ⌝ }
 {
-    let fits = picks_fit(texts, lengths);
-    let h = header_if(fits, region, number);
+    let fit = picks_fit(texts, lengths);
+    let h = header_if(fit, region, number);
     match h {
         Validated::Good(b) => {
             let stored = key_in(region, b);
