@@ -1,0 +1,36 @@
+use borrow.Author.Needs.{needs}
+use mathlib.Core.Path.{_≡_, refl, sym}
+use Prim.Native.Nat.{_≤_, _<_, _-_, _*_}
+use lib.ListN.{length}
+use native.Mathlib.Omega.{arith}
+use Rattle.inspect.proofs.lines.sources.Statement.{statement}
+use Rattle.inspect.proofs.lines.sources.Tie as tie
+
+abbrev Inv-loop : tie.InvT-loop
+Inv-loop region b i₀ i = i ≤ b .count
+
+abbrev μ-loop : tie.MeasureT-loop
+μ-loop region b i₀ i = b .count - i
+
+loop-holds : tie.Need-loop-holds Inv-loop μ-loop
+loop-holds c = search needs
+
+source-of-requires : tie.Need-source-of-requires Inv-loop μ-loop
+source-of-requires c κs = search needs
+
+add-i : tie.Need-add-i Inv-loop μ-loop
+add-i c = search needs
+
+loop-less : tie.Need-loop-less Inv-loop μ-loop
+loop-less c = search needs
+
+loop-again : tie.Need-loop-again Inv-loop μ-loop
+loop-again c = search needs
+
+returns : tie.Need-returns Inv-loop μ-loop
+returns c = search needs
+
+pub sources-spec : {M : Type 1} → statement M
+sources-spec =
+    tie.close
+    (tie.spec Inv-loop μ-loop loop-holds source-of-requires add-i loop-less loop-again returns)

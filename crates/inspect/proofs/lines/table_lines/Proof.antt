@@ -1,0 +1,80 @@
+use borrow.Author.Needs.{needs}
+use mathlib.Core.Path.{_≡_, refl, sym}
+use Prim.Native.Nat.{_≤_, _<_, _-_, _*_}
+use lib.ListN.{length}
+use native.Mathlib.Omega.{arith}
+use Rattle.inspect.proofs.lines.table_lines.Statement.{statement}
+use Rattle.inspect.proofs.lines.table_lines.Tie as tie
+
+abbrev Inv-loop : tie.InvT-loop
+Inv-loop i tables original t₀ t = t ≤ 8
+
+abbrev μ-loop : tie.MeasureT-loop
+μ-loop i tables original t₀ t = 8 - t
+
+loop-holds : tie.Need-loop-holds Inv-loop μ-loop
+loop-holds c = search needs
+
+mul-b : tie.Need-mul-b Inv-loop μ-loop
+mul-b c = search needs
+
+array-copy-out-b : tie.Need-array-copy-out-b Inv-loop μ-loop
+array-copy-out-b c = search needs
+
+mul-crc : tie.Need-mul-crc Inv-loop μ-loop
+mul-crc c = search needs
+
+mul-crc-2 : tie.Need-mul-crc-2 Inv-loop μ-loop
+mul-crc-2 c = search needs
+
+array-read-crc : tie.Need-array-read-crc Inv-loop μ-loop
+array-read-crc c = search needs
+
+mul-length : tie.Need-mul-length Inv-loop μ-loop
+mul-length c = search needs
+
+add-length : tie.Need-add-length Inv-loop μ-loop
+add-length c = search needs
+
+mul-length-2 : tie.Need-mul-length-2 Inv-loop μ-loop
+mul-length-2 c = search needs
+
+array-read-length : tie.Need-array-read-length Inv-loop μ-loop
+array-read-length c = search needs
+
+table-line-requires : tie.Need-table-line-requires Inv-loop μ-loop
+table-line-requires c κs = search needs
+
+add-t : tie.Need-add-t Inv-loop μ-loop
+add-t c = search needs
+
+loop-less : tie.Need-loop-less Inv-loop μ-loop
+loop-less c = search needs
+
+loop-again : tie.Need-loop-again Inv-loop μ-loop
+loop-again c = search needs
+
+returns : tie.Need-returns Inv-loop μ-loop
+returns c = search needs
+
+pub table-lines-spec : {M : Type 1} → statement M
+table-lines-spec =
+    tie.close
+    (tie.spec
+    Inv-loop
+    μ-loop
+    loop-holds
+    mul-b
+    array-copy-out-b
+    mul-crc
+    mul-crc-2
+    array-read-crc
+    mul-length
+    add-length
+    mul-length-2
+    array-read-length
+    table-line-requires
+    add-t
+    loop-less
+    loop-again
+    returns)

@@ -1,0 +1,210 @@
+// The lines on a region.
+use crate::options::Options;
+use crate::out::field;
+use crate::out::hex_field;
+use crate::out::hex_line;
+use crate::out::place_field;
+use crate::out::refused;
+use crate::out::say;
+use crate::out::signed_field;
+use crate::out::table;
+use crate::out::time_field;
+use bank::Loaded;
+use header::Bank;
+use header::Validated;
+use key::SameKey;
+use loaded::FreshAnswer;
+use record::Block;
+use record::Source;
+use slice::part;
+use std::num::wrapping_add_usize;
+
+fn good(b: Bank) {
+    field(b"version ", b.version);
+    field(b", generation ", b.generation);
+    field(b", data length ", b.length);
+    hex_field(b", data crc ", b.crc);
+    field(b", sources ", b.count);
+    field(b", key length ", b.key);
+    signed_field(b", checked ", b.checked);
+    say(b"\n");
+}
+
+fn bank_line(region: &[u8], number: u32) {
+    field(b"bank ", number);
+    say(b": ");
+    let v = bank::validate(region, number);
+    match v {
+        Validated::Good(b) => good(b),
+        Validated::Refused(r) => refused(r),
+    }
+}
+
+// A bank's key, 32 bytes a line.
+fn key_lines(key: &[u8]) {
+    let mut at = 0;
+    while at < key.len() {
+        place_field(b"key ", at);
+        say(b":");
+        hex_line(part(key, at, 32));
+        if key.len() - at <= 32 {
+            return;
+        }
+        at += 32;
+    }
+}
+
+fn keys(region: &[u8], b: Bank) {
+    let data = part(
+        region,
+        wrapping_add_usize(b.number as usize * 491520, 4096),
+        487424,
+    );
+    key_lines(part(data, 0, b.key as usize));
+}
+
+// The tables whose present bits are set, each after a blank.
+fn present(bits: u32) {
+    if bits % 256 == 0 {
+        say(b" none");
+    }
+    let mut rest = bits;
+    let mut t = 0;
+    while t < 8 {
+        if rest % 2 == 1 {
+            table(t);
+        }
+        rest /= 2;
+        t += 1;
+    }
+}
+
+fn table_line(i: u32, t: usize, b: Block, crc: u32, length: u32) {
+    if (b.length == 0) & ((crc == 0) & (length == 0)) {
+        return;
+    }
+    field(b"source ", i);
+    table(t);
+    field(b": offset ", b.offset);
+    field(b", length ", b.length);
+    hex_field(b", crc ", b.crc);
+    hex_field(b", original crc ", crc);
+    field(b", original length ", length);
+    say(b"\n");
+}
+
+fn table_lines(i: u32, tables: [Block; 8], original: [u32; 16]) {
+    let mut t = 0;
+    while t < 8 {
+        let b = tables[t];
+        let crc = original[2 * t];
+        let length = original[2 * t + 1];
+        table_line(i, t, b, crc, length);
+        t += 1;
+    }
+}
+
+fn source_lines(i: u32, s: Source) {
+    field(b"source ", i);
+    field(b": start ", s.start);
+    field(b", end ", s.end);
+    time_field(b", updated ", s.updated);
+    say(b", present");
+    present(s.present);
+    say(b"\n");
+    let tables = s.tables;
+    let original = s.original;
+    table_lines(i, tables, original);
+}
+
+fn source_of(region: &[u8], number: u32, i: u32) {
+    let a = loaded::source(region, number, i);
+    let s = a.source;
+    source_lines(i, s);
+}
+
+fn sources(region: &[u8], b: Bank) {
+    let mut i: u32 = 0;
+    while i < b.count {
+        source_of(region, b.number, i);
+        i += 1;
+    }
+}
+
+fn fresh(region: &[u8], number: u32, o: Options) {
+    say(b"fresh: ");
+    let f = loaded::fresh(region, number, o.days, o.now);
+    match f {
+        FreshAnswer::Fresh(t) => {
+            time_field(b"checked ", t.checked);
+            time_field(b", updated ", t.updated);
+            say(b"\n");
+        }
+        FreshAnswer::Refused(r) => refused(r),
+    }
+}
+
+// The first n lengths, or all.
+fn first(lengths: &[u32], n: usize) -> &[u32] {
+    if n < lengths.len() {
+        return &lengths[..n];
+    }
+    lengths
+}
+
+fn same_key(
+    region: &[u8],
+    number: u32,
+    o: Options,
+    identity: &[u8],
+    texts: &[u8],
+    lengths: &[u32],
+) {
+    say(b"match: ");
+    let k = loaded::same_key(
+        region,
+        number,
+        identity,
+        part(texts, 0, o.used),
+        first(lengths, o.lengths),
+    );
+    match k {
+        SameKey::Same => say(b"yes\n"),
+        SameKey::Other => say(b"no\n"),
+        SameKey::Refused(r) => refused(r),
+    }
+}
+
+fn found(region: &[u8], b: Bank, o: Options, identity: &[u8], texts: &[u8], lengths: &[u32]) {
+    field(b"load: bank ", b.number);
+    say(b"\n");
+    keys(region, b);
+    sources(region, b);
+    if o.dated {
+        fresh(region, b.number, o);
+    }
+    if o.selected {
+        same_key(region, b.number, o, identity, texts, lengths);
+    }
+}
+
+fn nothing(o: Options) {
+    say(b"load: none\n");
+    if o.dated {
+        say(b"fresh: no bank\n");
+    }
+    if o.selected {
+        say(b"match: no bank\n");
+    }
+}
+
+// All lines but the first.
+pub fn banks(region: &[u8], o: Options, identity: &[u8], texts: &[u8], lengths: &[u32]) {
+    bank_line(region, 0);
+    bank_line(region, 1);
+    let l = bank::load(region);
+    match l {
+        Loaded::Found(b) => found(region, b, o, identity, texts, lengths),
+        _ => nothing(o),
+    }
+}

@@ -1,0 +1,106 @@
+// The help, and the one line on standard error that says what is wrong.
+use crate::options::End;
+use crate::options::Options;
+use crate::out::say;
+use libc::STDERR_FILENO;
+use slice::part;
+
+fn complain(text: &[u8]) {
+    io::write_all(STDERR_FILENO, text);
+}
+
+// What is wrong with the arguments.
+fn wrong(text: &[u8]) {
+    complain(b"inspect: ");
+    complain(text);
+    complain(b"; see inspect --help\n");
+}
+
+fn no_option(at: usize, space: &mut [u8]) {
+    let n = os::arg(at, space);
+    complain(b"inspect: there is no option ");
+    complain(part(space, 0, n));
+    complain(b"; see inspect --help\n");
+}
+
+fn help_start() {
+    say(b"inspect [options] [IMAGE]\n");
+    say(b"\n");
+    say(b"Says what is in a board's two timetable banks: each bank's header or why it is\n");
+    say(b"refused, the bank that load gives, its key and its sources.\n");
+    say(b"\n");
+}
+
+fn help_image() {
+    say(b"  IMAGE                a region of 983040 bytes, or a whole flash dump of 4194304\n");
+    say(b"                       bytes with the region at 3145728 (0x300000); default:\n");
+    say(b"                       samples/two-good.img\n");
+}
+
+fn help_fresh() {
+    say(b"  --now SECONDS        the time to ask freshness at, signed\n");
+    say(b"  --days D1,D2,D3      three days to ask freshness for, each as year x 10000 +\n");
+    say(b"                       month x 100 + day; needs --now\n");
+    say(b"  --wanted F,F,F       which of the three days are wanted: y or n; default y,y,y\n");
+}
+
+fn help_match() {
+    say(b"  --identity TEXT      the identity of the selection to match\n");
+    say(b"  --pick LINE ROUTE CODE STOP NAME\n");
+    say(b"                       one pick of the selection, '' for an empty field; may be\n");
+    say(b"                       repeated\n");
+    say(b"  --match              match the selection, also one without identity and picks\n");
+    say(b"  --help               this text\n");
+}
+
+fn help_end() {
+    say(b"\n");
+    say(b"Exit status: 0 the image was read, whatever is in it; 2 wrong arguments, or an\n");
+    say(b"image of another size or that can't be read.\n");
+}
+
+fn help() {
+    help_start();
+    help_image();
+    help_fresh();
+    help_match();
+    help_end();
+}
+
+// Says what the arguments come to, where that is not an image to read; whether that was so.
+pub fn said(o: Options, space: &mut [u8]) -> bool {
+    let end = o.end;
+    match end {
+        End::More => return false,
+        End::Help => help(),
+        End::NoOption => no_option(o.at, space),
+        End::Images => wrong(b"one image at a time"),
+        End::Now => wrong(b"--now needs a number of seconds"),
+        End::Days => wrong(b"--days needs three numbers as D1,D2,D3"),
+        End::DaysAlone => wrong(b"--days needs --now"),
+        End::Wanted => wrong(b"--wanted needs y or n three times, as y,y,n"),
+        End::Identity => wrong(b"--identity needs a text"),
+        End::Pick => wrong(b"--pick needs five texts: line, route, stop code, stop, stop name"),
+    }
+    true
+}
+
+// An image that can't be read, with the reason.
+pub fn unread(name: &[u8]) {
+    complain(b"inspect: ");
+    complain(name);
+    os::fail(b" can't be read");
+}
+
+// An image of another size.
+pub fn wrong_size(name: &[u8], n: usize) {
+    complain(b"inspect: ");
+    complain(name);
+    complain(b" has ");
+    if 4194304 < n {
+        complain(b"more than 4194304");
+    } else {
+        io::print_decimal(STDERR_FILENO, n as u64);
+    }
+    complain(b" bytes; expected a region of 983040 bytes or a whole flash dump of 4194304 bytes\n");
+}
