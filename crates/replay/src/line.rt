@@ -1,5 +1,6 @@
-// One line of the list: its kind, and whether the leaves answer as it says.
+// One line of the list: its kind, and whether the core answers as it says.
 ghost use Prim.Native.Nat.{_<_};
+use crate::keys;
 use crate::text::first;
 use crate::text::number;
 use crate::text::number32;
@@ -93,9 +94,9 @@ fn puttime(l: &[u8]) -> bool {
     left(l, bytes, n)
 }
 
-// The kinds, by number; 10 is none of them.
+// The kinds, by number; 12 is none of them.
 pub fn kind(l: &[u8]) -> usize
-    ensures { λ r. ⌜ r < 11 ⌝ }
+    ensures { λ r. ⌜ r < 13 ⌝ }
 {
     let a = get8(l, 0);
     let b = get8(l, 3);
@@ -126,10 +127,16 @@ pub fn kind(l: &[u8]) -> usize
     if a == b't' {
         return 7;
     }
-    if a == b'r' { 9 } else { 10 }
+    if a == b'r' {
+        return 9;
+    }
+    if a == b'k' {
+        return 10;
+    }
+    if a == b's' { 11 } else { 12 }
 }
 
-// Whether the leaves answer as a line of a kind says.
+// Whether the core answers as a line of a kind says.
 pub fn alike(kind: usize, l: &[u8]) -> bool {
     match kind {
         0 => date(l),
@@ -142,6 +149,8 @@ pub fn alike(kind: usize, l: &[u8]) -> bool {
         7 => time(l),
         8 => puttime(l),
         9 => rotate(l),
+        10 => keys::key(l),
+        11 => keys::same_key(l),
         _ => false,
     }
 }

@@ -1,19 +1,22 @@
-// Replays the Rust's answers of answers.txt, and says of each kind how many the leaves answer alike. The list's first lines say how
+// Replays the Rust's answers of answers.txt, and says of each kind how many the core answers alike. The list's first lines say how
 // it was made.
+mod keys;
 mod line;
 mod text;
 
 ghost use Prim.Native.Nat.{_<_};
+ghost use mathlib.Core.Path.{_≡_};
+ghost use lib.ListN.{length};
 use libc::STDOUT_FILENO;
 
 // How many lines of each kind there were, and how many came out alike.
 struct Counts {
-    seen: [u64; 11],
-    same: [u64; 11],
+    seen: [u64; 13],
+    same: [u64; 13],
 }
 
 fn counted(c: Counts, kind: usize, same: bool) -> Counts
-    requires { ⌜ kind < 11 ⌝ }
+    requires { ⌜ kind < 13 ⌝ }
 {
     let more: u64 = if same { 1 } else { 0 };
     let mut r = c;
@@ -45,8 +48,8 @@ fn between(s: &[u8], from: usize, to: usize) -> &[u8] {
 // All lines.
 fn replayed(s: &[u8]) -> Counts {
     let mut c = Counts {
-        seen: [0; 11],
-        same: [0; 11],
+        seen: [0; 13],
+        same: [0; 13],
     };
     let mut i = 0;
     while i < s.len() {
@@ -78,6 +81,8 @@ fn name(kind: usize) -> [u8; 10] {
         7 => *b"get_time  ",
         8 => *b"put_time  ",
         9 => *b"rotate13  ",
+        10 => *b"key       ",
+        11 => *b"same_key  ",
         _ => *b"unknown   ",
     }
 }
@@ -86,7 +91,7 @@ fn report(c: Counts) {
     let mut seen: u64 = 0;
     let mut same: u64 = 0;
     let mut k = 0;
-    while k < 11 {
+    while k < 13 {
         let n = name(k);
         let a = c.seen[k];
         let b = c.same[k];
@@ -98,6 +103,13 @@ fn report(c: Counts) {
     say(b"all       ", seen, same);
 }
 
+// Zeros for the list, which has fewer bytes.
+fn room() -> [u8; 131072]
+    ensures { λ r. ⌜ 131072 ≡ length r ⌝ }
+{
+    [0; 131072]
+}
+
 fn main() {
     let path = b"answers.txt";
     let fd = os::open_read(path);
@@ -105,7 +117,7 @@ fn main() {
         os::fail(path);
         return;
     }
-    let mut space = io::large_buffer();
+    let mut space = room();
     let n = io::read_full(fd, &mut space);
     libc::close(fd);
     report(replayed(text::first(&space, n)));
