@@ -51,21 +51,23 @@ fn first_line(size: usize) {
     out::say(b"\n");
 }
 
-// All lines on an image of a size, or that the size is wrong.
-fn tell(region: &[u8], size: usize, o: Options, space: &mut [u8], texts: &[u8], lengths: &[u32]) {
+// All lines on an image of a size, or that the size is wrong. Its name is the first n bytes of space.
+fn tell(
+    region: &[u8],
+    size: usize,
+    o: Options,
+    space: &mut [u8],
+    n: usize,
+    texts: &[u8],
+    lengths: &[u32],
+) {
     if (size == 983040) | (size == 4194304) {
         first_line(size);
-        let n = identity(o.identity, space);
-        lines::banks(region, o, part(space, 0, n), texts, lengths);
+        let m = identity(o.identity, space);
+        lines::banks(region, o, part(space, 0, m), texts, lengths);
         return;
     }
-    let n = name(o.image, space);
     message::wrong_size(part(space, 0, n), size);
-}
-
-fn unread(o: Options, space: &mut [u8]) {
-    let n = name(o.image, space);
-    message::unread(part(space, 0, n));
 }
 
 fn opened(
@@ -73,14 +75,15 @@ fn opened(
     region: &mut [u8; 983040],
     o: Options,
     space: &mut [u8],
+    n: usize,
     texts: &[u8],
     lengths: &[u32],
 ) {
     let r = image::read(fd, region);
     libc::close(fd);
     match r {
-        Size::Bytes(n) => tell(region, n, o, space, texts, lengths),
-        Size::Unread => unread(o, space),
+        Size::Bytes(size) => tell(region, size, o, space, n, texts, lengths),
+        Size::Unread => message::unread(part(space, 0, n)),
     }
 }
 
@@ -92,7 +95,7 @@ fn inspect(o: Options, space: &mut [u8], texts: &[u8], lengths: &[u32]) {
         return;
     }
     let mut region = image::room();
-    opened(fd, &mut region, o, space, texts, lengths);
+    opened(fd, &mut region, o, space, n, texts, lengths);
 }
 
 fn main() {

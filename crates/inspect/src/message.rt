@@ -55,8 +55,8 @@ fn help_match() {
 
 fn help_end() {
     say(b"\n");
-    say(b"Exit status: 0 the image was read, whatever is in it; 2 wrong arguments, or an\n");
-    say(b"image of another size or that can't be read.\n");
+    say(b"With wrong arguments, an image of another size or one that can't be read, one\n");
+    say(b"line stands on standard error and nothing on standard output.\n");
 }
 
 fn help() {

@@ -24,8 +24,8 @@ refused, the bank that load gives, its key and its sources.
   --match              match the selection, also one without identity and picks
   --help               this text
 
-Exit status: 0 the image was read, whatever is in it; 2 wrong arguments, or an
-image of another size or that can't be read.
+With wrong arguments, an image of another size or one that can't be read, one
+line stands on standard error and nothing on standard output.
 ";
 
 pub struct Days {
