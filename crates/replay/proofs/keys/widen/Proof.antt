@@ -1,9 +1,8 @@
 use borrow.Author.Needs.{needs}
-use mathlib.Core.Path.{_≡_, refl, sym}
-use Prim.Native.Nat.{_≤_, _<_, _-_, _*_}
-use lib.ListN.{length}
+use mathlib.Core.Path.{_≡_}
+use Prim.Native.Nat.{_-_}
+use lib.ListN.{length, length-set}
 use native.Mathlib.Omega.{arith}
-use lib.ListN.{length-set}
 use Rattle.replay.proofs.keys.widen.Statement.{statement}
 use Rattle.replay.proofs.keys.widen.Tie as tie
 
