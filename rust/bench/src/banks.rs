@@ -61,6 +61,11 @@ macro_rules! rust {
                 let bank = case.$name.bank.unwrap();
                 door::same_key(bank, &view, &case.$name.config).unwrap().into()
             }
+            pub fn tested_same_key(case: &Case) -> u64 {
+                let view = View { identity: &case.identity, ..View::new(&case.region) };
+                let bank = door::validate(&view, OFFSET + BANK_SIZE).unwrap();
+                door::same_key(bank, &view, &case.$name.config).unwrap().into()
+            }
         }
     };
 }
@@ -130,6 +135,7 @@ const LOAD: Runs = [core::load, table::load, simd::load];
 const VALIDATE: Runs = [core::validate, table::validate, simd::validate];
 const KEY: Runs = [core::key, table::key, simd::key];
 const SAME_KEY: Runs = [core::same_key, table::same_key, simd::same_key];
+const TESTED_SAME_KEY: Runs = [core::same_key, table::tested_same_key, simd::tested_same_key];
 
 /// Picks as in a board's settings, in no order.
 fn picks(count: usize) -> Vec<[String; 5]> {
@@ -154,11 +160,12 @@ pub fn banks(rounds: usize) {
     println!("core: this library. table: the lifted Rust over crc32fast's table path.");
     println!("SIMD: the lifted Rust over crc32fast as it is. Each is handed its picks in");
     println!("its own form. The core's key match tests the bank's header again, CRC and");
-    println!("records; the Rust's takes a bank already validated.");
+    println!("records; the Rust's takes a bank already validated. `both test`: the Rust");
+    println!("validates the bank first, whose data are the key and a byte.");
     println!();
     let full = |spoilt| Case::new(CAPACITY, 20, &picks(16), spoilt);
     let small = |identity, count| Case::new(0, identity, &picks(count), false);
-    let cases: [(&str, Runs, Case); 9] = [
+    let cases: [(&str, Runs, Case); 11] = [
         ("load, two full banks", LOAD, full(false)),
         ("load, two full banks, the newer bad", LOAD, full(true)),
         ("validate, one full bank", VALIDATE, full(false)),
@@ -168,6 +175,8 @@ pub fn banks(rounds: usize) {
         ("key match, 1 pick", SAME_KEY, small(20, 1)),
         ("key match, 16 picks", SAME_KEY, small(20, 16)),
         ("key match, 16 picks, identity of 65535", SAME_KEY, small(LONGEST, 16)),
+        ("key match, 1 pick, both test", TESTED_SAME_KEY, small(20, 1)),
+        ("key match, 16 picks, both test", TESTED_SAME_KEY, small(20, 16)),
     ];
     println!("Lower decile of the batches");
     print!("{:>40}", "");
