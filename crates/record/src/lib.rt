@@ -24,6 +24,7 @@ use leaf::bytes::get_time;
 use leaf::bytes::get8;
 use leaf::bytes::put;
 use leaf::bytes::put_time;
+use number::wide;
 
 // Where a table's bytes stand in the data, and their CRC.
 pub struct Block {
@@ -76,14 +77,27 @@ fn first(b: &[u8], n: usize) -> &[u8]
     &b[0..b.len()]
 }
 
+// The 32-bit number at a place, in one load where all of it is there.
+fn word_at(r: &[u8], at: usize) -> u32
+    ensures { λ x. ⌜ x ≡ word (now (r .entry)) at ⌝ }
+{
+    if r.len() < 4 {
+        return get(r, at);
+    }
+    if r.len() - 4 < at {
+        return get(r, at);
+    }
+    wide(r[at]) + wide(r[at + 1]) * 256 + wide(r[at + 2]) * 65536 + wide(r[at + 3]) * 16777216
+}
+
 fn block_at(r: &[u8], at: usize) -> Block
     requires { ⌜ at ≤ 10000 ⌝ }
     ensures { λ x. ⌜ x ≡ blockAt (now (r .entry)) at ⌝ }
 {
     Block {
-        offset: get(r, at),
-        length: get(r, at + 4),
-        crc: get(r, at + 8),
+        offset: word_at(r, at),
+        length: word_at(r, at + 4),
+        crc: word_at(r, at + 8),
     }
 }
 
@@ -94,7 +108,7 @@ fn words_at(r: &[u8], at: usize, n: usize) -> [u32; 16]
     let mut t = [0u32; 16];
     let mut j = 0;
     while j < n {
-        let x = get(r, at + j * 4);
+        let x = word_at(r, at + j * 4);
         t[j] = x;
         j += 1;
     }
@@ -120,8 +134,21 @@ fn blocks_at(r: &[u8], at: usize, n: usize) -> [Block; 8]
     t
 }
 
-// The first n bytes of out become those of s from a place on.
-fn copy_in(out: &mut [u8], s: &[u8], at: usize, n: usize)
+// The first n bytes of out become those of s from a place on, which are there.
+fn copy_there(out: &mut [u8], s: &[u8], at: usize, n: usize)
+    requires { ⌜ (n ≤ length (now out)) × (at + n ≤ length (now s)) ⌝ }
+    ensures { λ _. ⌜ now (out .exit) ≡ many byte 1 (now (s .entry)) at n ++ drop n (now (out .entry)) ⌝ }
+{
+    let mut j = 0;
+    while j < n {
+        let x = s[at + j];
+        out[j] = x;
+        j += 1;
+    }
+}
+
+// The same where some may be missing: these are 0.
+fn copy_some(out: &mut [u8], s: &[u8], at: usize, n: usize)
     requires { ⌜ (n ≤ length (now out)) × (at ≤ 1000000) × (n ≤ 1000000) ⌝ }
     ensures { λ _. ⌜ now (out .exit) ≡ many byte 1 (now (s .entry)) at n ++ drop n (now (out .entry)) ⌝ }
 {
@@ -130,6 +157,17 @@ fn copy_in(out: &mut [u8], s: &[u8], at: usize, n: usize)
         let x = get8(s, at + j);
         out[j] = x;
         j += 1;
+    }
+}
+
+fn copy_in(out: &mut [u8], s: &[u8], at: usize, n: usize)
+    requires { ⌜ (n ≤ length (now out)) × (at ≤ 1000000) × (n ≤ 1000000) ⌝ }
+    ensures { λ _. ⌜ now (out .exit) ≡ many byte 1 (now (s .entry)) at n ++ drop n (now (out .entry)) ⌝ }
+{
+    if at + n <= s.len() {
+        copy_there(out, s, at, n);
+    } else {
+        copy_some(out, s, at, n);
     }
 }
 
@@ -147,9 +185,9 @@ fn read(r: &[u8], n: usize) -> Source
     let mut validator = [0u8; 66];
     copy_in(&mut validator, r, n * 20 + 113, 66);
     Source {
-        start: get(r, 0),
-        end: get(r, 4),
-        present: get(r, 8),
+        start: word_at(r, 0),
+        end: word_at(r, 4),
+        present: word_at(r, 8),
         updated: get_time(r, 12),
         original,
         tables,

@@ -3,26 +3,33 @@ use Rattle.record.proofs.block_at.Statement.{statement}
 use Rattle.record.proofs.block_at.Tie as tie
 use Rattle.record.proofs.block_at.Reads as reads
 use Rattle.record.proofs.block_at.Lts as lts
-use Rattle.leaf.proofs.bytes.get.Reads as get-reads
+use Rattle.record.proofs.word_at.Reads as word-at-reads
 
-get-requires : tie.Need-get-requires
-get-requires c κs = search needs
+word-at-requires : tie.Need-word-at-requires
+word-at-requires c κs = search needs
 
-add-get : tie.Need-add-get
-add-get c = search needs
+add-word-at : tie.Need-add-word-at
+add-word-at c = search needs
 
-get-requires-2 : tie.Need-get-requires-2
-get-requires-2 c κs = search needs
+word-at-requires-2 : tie.Need-word-at-requires-2
+word-at-requires-2 c κs = search needs
 
-add-get-2 : tie.Need-add-get-2
-add-get-2 c = search needs
+add-word-at-2 : tie.Need-add-word-at-2
+add-word-at-2 c = search needs
 
-get-requires-3 : tie.Need-get-requires-3
-get-requires-3 c κs = search needs
+word-at-requires-3 : tie.Need-word-at-requires-3
+word-at-requires-3 c κs = search needs
 
 returns : tie.Need-returns
 returns c = cc
 
 pub block-at-spec : {M : Type 1} → statement M
 block-at-spec =
-    tie.close (tie.spec get-requires add-get get-requires-2 add-get-2 get-requires-3 returns)
+    tie.close
+    (tie.spec
+    word-at-requires
+    add-word-at
+    word-at-requires-2
+    add-word-at-2
+    word-at-requires-3
+    returns)

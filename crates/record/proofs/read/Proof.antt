@@ -12,14 +12,6 @@ use mir.ValLaws.{toZ-ofZ}
 use borrow.Author.Needs.{needs}
 use Rattle.record.proofs.read.Statement.{statement}
 use Rattle.record.proofs.read.Tie as tie
-use Rattle.record.proofs.read.Reads as reads
-use Rattle.record.proofs.read.Lts as lts
-use Rattle.record.proofs.copy_in.Reads as copy-in-reads
-use Rattle.leaf.proofs.bytes.get.Reads as get-reads
-use Rattle.leaf.proofs.bytes.get_time.Reads as get-time-reads
-use Rattle.leaf.proofs.bytes.get8.Reads as get8-reads
-use Rattle.record.proofs.blocks_at.Reads as blocks-at-reads
-use Rattle.record.proofs.words_at.Reads as words-at-reads
 
 -- src/lib.rt:80:36
 mul-words-at : tie.Need-mul-words-at
@@ -90,16 +82,16 @@ copy-in-requires-3 : tie.Need-copy-in-requires-3
 copy-in-requires-3 c κs = search needs
 
 -- src/lib.rt:89:16
-get-requires : tie.Need-get-requires
-get-requires c κs = search needs
+word-at-requires : tie.Need-word-at-requires
+word-at-requires c κs = search needs
 
 -- src/lib.rt:90:14
-get-requires-2 : tie.Need-get-requires-2
-get-requires-2 c κs = search needs
+word-at-requires-2 : tie.Need-word-at-requires-2
+word-at-requires-2 c κs = search needs
 
 -- src/lib.rt:91:18
-get-requires-3 : tie.Need-get-requires-3
-get-requires-3 c κs = search needs
+word-at-requires-3 : tie.Need-word-at-requires-3
+word-at-requires-3 c κs = search needs
 
 -- src/lib.rt:92:18
 get-time-requires : tie.Need-get-time-requires
@@ -128,9 +120,9 @@ returns c =
     let validator = (c .before .before .before .before .before .before .copy-in3 .ensures ∙ append-nil (many byte 1 l (n * 20 + 113) 66)) in
     let updated = toZ-ofZ w64 (c .before .get-time .result) (record { sfits = c .before .get-time .ok }) ∙ c .before .get-time .ensures in
     λ i. record {
-      start = c .before .before .before .before .get .ensures i;
-      end = c .before .before .before .get2 .ensures i;
-      present = c .before .before .get3 .ensures i;
+      start = c .before .before .before .before .word-at .ensures i;
+      end = c .before .before .before .word-at2 .ensures i;
+      present = c .before .before .word-at3 .ensures i;
       updated = updated i;
       original = c .before .before .before .before .before .before .before .before .before .before .before .before .before .before .before .words-at .ensures i;
       tables = c .before .before .before .before .before .before .before .before .before .before .before .before .before .before .blocks-at .ensures i;
@@ -161,9 +153,9 @@ read-spec =
     mul-copy-in-3
     add-copy-in-3
     copy-in-requires-3
-    get-requires
-    get-requires-2
-    get-requires-3
+    word-at-requires
+    word-at-requires-2
+    word-at-requires-3
     get-time-requires
     mul-get8
     add-get8

@@ -2,7 +2,7 @@ use Rattle.record.proofs.words_at.Statement.{statement}
 use Rattle.record.proofs.words_at.Tie as tie
 use Rattle.record.proofs.words_at.Reads as reads
 use Rattle.record.proofs.words_at.Lts as lts
-use Rattle.leaf.proofs.bytes.get.Reads as get-reads
+use Rattle.record.proofs.word_at.Reads as word-at-reads
 use borrow.Author.Needs.{needs}
 use mathlib.Core.Path.{_≡_, refl, sym, ap, _∙_}
 use mathlib.Core.List.{List, [], _∷_, _++_, append-nil}
@@ -25,14 +25,14 @@ loop-holds : tie.Need-loop-holds Inv-loop μ-loop
 unfolding many
 loop-holds c = (omega arith, refl)
 
-mul-get : tie.Need-mul-get Inv-loop μ-loop
-mul-get c = search needs
+mul-word-at : tie.Need-mul-word-at Inv-loop μ-loop
+mul-word-at c = search needs
 
-add-get : tie.Need-add-get Inv-loop μ-loop
-add-get c = search needs
+add-word-at : tie.Need-add-word-at Inv-loop μ-loop
+add-word-at c = search needs
 
-get-requires : tie.Need-get-requires Inv-loop μ-loop
-get-requires c κs = search needs
+word-at-requires : tie.Need-word-at-requires Inv-loop μ-loop
+word-at-requires c κs = search needs
 
 mul-t : tie.Need-mul-t Inv-loop μ-loop
 mul-t c = search needs
@@ -50,7 +50,7 @@ loop-again : tie.Need-loop-again Inv-loop μ-loop
 loop-again c =
     let a = c .before .before .before .before .args in
     let l = c .before .before .loop in
-    (omega arith, rw (l .inv .1) (many-set word 4 (a .r .now) (a .at) (l .j) (replicate 16 0) 0 (c .get .result) (omega arith) (c .get .ensures)))
+    (omega arith, rw (l .inv .1) (many-set word 4 (a .r .now) (a .at) (l .j) (replicate 16 0) 0 (c .word-at .result) (omega arith) (c .word-at .ensures)))
 
 returns : tie.Need-returns Inv-loop μ-loop
 returns c =
@@ -66,9 +66,9 @@ words-at-spec =
     Inv-loop
     μ-loop
     loop-holds
-    mul-get
-    add-get
-    get-requires
+    mul-word-at
+    add-word-at
+    word-at-requires
     mul-t
     array-write-t
     add-j

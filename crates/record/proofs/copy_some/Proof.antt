@@ -1,7 +1,7 @@
-use Rattle.record.proofs.copy_in.Statement.{statement}
-use Rattle.record.proofs.copy_in.Tie as tie
-use Rattle.record.proofs.copy_in.Reads as reads
-use Rattle.record.proofs.copy_in.Lts as lts
+use Rattle.record.proofs.copy_some.Statement.{statement}
+use Rattle.record.proofs.copy_some.Tie as tie
+use Rattle.record.proofs.copy_some.Reads as reads
+use Rattle.record.proofs.copy_some.Lts as lts
 use Rattle.leaf.proofs.bytes.get8.Reads as get8-reads
 use borrow.Author.Needs.{needs}
 use mathlib.Core.Path.{_≡_, refl, sym, ap, _∙_}
@@ -55,8 +55,8 @@ same-length c =
 returns : tie.Need-returns Inv-loop μ-loop
 returns c = let e : c .before .loop .j ≡ c .before .before .before .before .args .n = omega arith in rw e at (c .before .loop .inv .1)
 
-pub copy-in-spec : {M : Type 1} → statement M
-copy-in-spec =
+pub copy-some-spec : {M : Type 1} → statement M
+copy-some-spec =
     tie.close
     (tie.spec
     Inv-loop
