@@ -1,0 +1,65 @@
+use Rattle.bloom.proofs.Sums.{summed}
+use borrow.Author.Needs.{needs}
+use Rattle.bloom.proofs.positions.Statement.{statement}
+use Rattle.bloom.proofs.positions.Tie as tie
+
+step-of-requires : tie.Need-step-of-requires
+step-of-requires c κs = search needs
+
+wrapping-add-u32-requires : tie.Need-wrapping-add-u32-requires
+wrapping-add-u32-requires c κs = search needs
+
+wrapping-add-u32-requires-2 : tie.Need-wrapping-add-u32-requires-2
+wrapping-add-u32-requires-2 c κs = search needs
+
+wrapping-add-u32-requires-3 : tie.Need-wrapping-add-u32-requires-3
+wrapping-add-u32-requires-3 c κs = search needs
+
+place-requires : tie.Need-place-requires
+place-requires c κs = search needs
+
+place-requires-2 : tie.Need-place-requires-2
+place-requires-2 c κs = search needs
+
+place-requires-3 : tie.Need-place-requires-3
+place-requires-3 c κs = search needs
+
+place-requires-4 : tie.Need-place-requires-4
+place-requires-4 c κs = search needs
+
+returns : tie.Need-returns
+returns c =
+    let a = c .before .before .before .before .before .before .before .before .args in
+    let s = c .before .before .before .before .before .before .before .step-of .ensures in
+    let x = c .before .before .before .before .before .before .wrapping-add-u32 in
+    let y = c .before .before .before .before .before .wrapping-add-u322 in
+    let z = c .before .before .before .before .wrapping-add-u323 in
+    let p = c .before .before .before .place in
+    let q = c .before .before .place2 in
+    let u = c .before .place3 in
+    let v = c .place4 in (
+      summed (a .hash) (a .bytes) (x .result) (y .result) (z .result) (p .result) (q .result) (u .result) (v .result)
+          (search needs)
+          (rw s at (x .ensures))
+          (rw s at (y .ensures))
+          (rw s at (z .ensures))
+          (p .ensures .0)
+          (q .ensures .0)
+          (u .ensures .0)
+          (v .ensures .0),
+      (p .ensures .1, (q .ensures .1, (u .ensures .1, (v .ensures .1, tt)))),
+    )
+
+pub positions-spec : {M : Type 1} → statement M
+positions-spec =
+    tie.close
+    (tie.spec
+    step-of-requires
+    wrapping-add-u32-requires
+    wrapping-add-u32-requires-2
+    wrapping-add-u32-requires-3
+    place-requires
+    place-requires-2
+    place-requires-3
+    place-requires-4
+    returns)

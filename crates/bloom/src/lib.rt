@@ -1,0 +1,138 @@
+// The trip filter: four bits of a lent filter for each trip id.
+ghost use mathlib.Core.Path.{_≡_};
+ghost use mathlib.Core.Bool.{true};
+ghost use Prim.Native.Nat.{_*_, _/_, _%_, _<_, _≤_};
+ghost use lib.ListN.{length};
+ghost use Rattle.bloom.specs.Bloom as Bloom;
+ghost use Rattle.bloom.specs.Places.{four, Within};
+use leaf::crc::crc32;
+use number::rotate13;
+use refusal::Refusal;
+
+// What a query and an insertion answer: whether all four bits were set.
+pub enum Filter {
+    Present,
+    Absent,
+    Refused(Refusal),
+}
+
+// Four positions, in order.
+struct Four {
+    a: u32,
+    b: u32,
+    c: u32,
+    d: u32,
+}
+
+fn step_of(hash: u32) -> u32
+    ensures { λ r. ⌜ r ≡ Bloom.stepOf hash ⌝ }
+{
+    rotate13(hash) | 1
+}
+
+// A sum, modulo the filter's bits.
+fn place(sum: u32, bytes: usize) -> u32
+    requires { ⌜ (0 < bytes) × (bytes ≤ 65536) ⌝ }
+    ensures { λ r. ⌜ (r ≡ sum % (8 * bytes)) × (r / 8 < bytes) ⌝ }
+{
+    sum % ((8 * bytes) as u32)
+}
+
+fn positions(hash: u32, bytes: usize) -> Four
+    requires { ⌜ (0 < bytes) × (bytes ≤ 65536) ⌝ }
+    ensures { λ r. ⌜ (four r ≡ Bloom.positions hash bytes) × Within bytes (four r) ⌝ }
+{
+    let step = step_of(hash);
+    let second = std::num::wrapping_add_u32(hash, step);
+    let third = std::num::wrapping_add_u32(second, step);
+    let fourth = std::num::wrapping_add_u32(third, step);
+    Four {
+        a: place(hash, bytes),
+        b: place(second, bytes),
+        c: place(third, bytes),
+        d: place(fourth, bytes),
+    }
+}
+
+// Whether the bit at a position is set.
+fn is_set(bits: &[u8], p: u32) -> bool
+    requires { ⌜ p / 8 < length (now bits) ⌝ }
+    ensures { λ r. ⌜ r ≡ Bloom.isSet (now (bits .entry)) p ⌝ }
+{
+    let b = bits[(p / 8) as usize];
+    (b >> (p % 8)) % 2 == 1
+}
+
+// Reads the bit at a position, then sets it.
+fn visit(bits: &mut [u8], p: u32) -> bool
+    requires { ⌜ p / 8 < length (now bits) ⌝ }
+    ensures { λ r. ⌜ (r ≡ Bloom.isSet (now (bits .entry)) p) × (now (bits .exit) ≡ Bloom.setBit (now (bits .entry)) p) ⌝ }
+{
+    let i = (p / 8) as usize;
+    let b = bits[i];
+    bits[i] = b | (1 << (p % 8));
+    (b >> (p % 8)) % 2 == 1
+}
+
+// Whether the bits at four positions are set.
+fn all_set(bits: &[u8], p: Four) -> bool
+    requires { ⌜ Within (length (now bits)) (four p) ⌝ }
+    ensures { λ r. ⌜ r ≡ Bloom.allSet (now (bits .entry)) (four p) ⌝ }
+{
+    let a = is_set(bits, p.a);
+    let b = is_set(bits, p.b);
+    let c = is_set(bits, p.c);
+    let d = is_set(bits, p.d);
+    a & (b & (c & d))
+}
+
+// Reads and sets the bits at four positions, one after the other.
+fn set_all(bits: &mut [u8], p: Four) -> bool
+    requires { ⌜ Within (length (now bits)) (four p) ⌝ }
+    ensures { λ r. ⌜ (r ≡ Bloom.seen (now (bits .entry)) (four p)) × (now (bits .exit) ≡ Bloom.setAll (now (bits .entry)) (four p)) ⌝ }
+{
+    let a = visit(bits, p.a);
+    let b = visit(bits, p.b);
+    let c = visit(bits, p.c);
+    let d = visit(bits, p.d);
+    a & (b & (c & d))
+}
+
+// Whether a filter has a size that is taken.
+fn fits(bytes: usize) -> bool
+    ensures { λ r. ⌜ (r ≡ Bloom.fits bytes) × (r ≡ true → (0 < bytes) × (bytes ≤ 65536)) ⌝ }
+{
+    (1 <= bytes) & (bytes <= 65536)
+}
+
+fn answer(present: bool) -> Filter
+    ensures { λ r. ⌜ r ≡ Bloom.answer present ⌝ }
+{
+    if present {
+        Filter::Present
+    } else {
+        Filter::Absent
+    }
+}
+
+// Whether all four bits of a trip id are set.
+pub fn query(bits: &[u8], id: &[u8]) -> Filter
+    ensures { λ r. ⌜ r ≡ Bloom.query (now (bits .entry)) (now (id .entry)) ⌝ }
+{
+    if !fits(bits.len()) {
+        return Filter::Refused(Refusal::Argument);
+    }
+    let p = positions(crc32(0, id), bits.len());
+    answer(all_set(bits, p))
+}
+
+// Sets the four bits of a trip id, and answers whether all were set before.
+pub fn insert(bits: &mut [u8], id: &[u8]) -> Filter
+    ensures { λ r. ⌜ (r ≡ Bloom.insertAnswer (now (bits .entry)) (now (id .entry))) × (now (bits .exit) ≡ Bloom.inserted (now (bits .entry)) (now (id .entry))) ⌝ }
+{
+    if !fits(bits.len()) {
+        return Filter::Refused(Refusal::Argument);
+    }
+    let p = positions(crc32(0, id), bits.len());
+    answer(set_all(bits, p))
+}
