@@ -16,8 +16,13 @@ use Rattle.leaf.specs.Bytes.{byte}
 use Rattle.bloom.specs.Bloom.{isSet, setBit}
 
 -- one, shifted in a byte, is a power of two
-pub shifted-one : (k : ℕ) → k < 8 → (1 * 2 ^ k) % 256 ≡ 2 ^ k
+shifted-one : (k : ℕ) → k < 8 → (1 * 2 ^ k) % 256 ≡ 2 ^ k
 shifted-one k h = shl-exact {a = 1} 1 k 8 (omega arith) (omega arith) ∙ one-mul (2 ^ k)
+
+-- the byte as the code stores it
+pub stored : (bits : List ℕ) (p : ℕ) → set bits (p / 8) (bitOr (byte bits (p / 8)) ((1 * 2 ^ (p % 8)) % 256)) ≡ setBit bits p
+unfolding setBit
+stored bits p = ap (λ (m : ℕ). set bits (p / 8) (bitOr (byte bits (p / 8)) m)) (shifted-one (p % 8) (omega arith))
 
 -- the lowest bit of an or
 pub or-low : (x y : ℕ) → bitOr x y % 2 ≡ max (x % 2) (y % 2)

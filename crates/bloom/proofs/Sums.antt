@@ -18,9 +18,7 @@ in-filter x n h =
 
 pub within : (hash n : ℕ) → 0 < n → Within n (positions hash n)
 unfolding position
-within hash n h =
-    let at : (i : ℕ) → wrap32 (hash + i * stepOf hash) % (8 * n) / 8 < n = λ i. in-filter (wrap32 (hash + i * stepOf hash)) n h in
-    (at 0, (at 1, (at 2, (at 3, tt))))
+within hash n h = (in-filter _ n h, (in-filter _ n h, (in-filter _ n h, (in-filter _ n h, tt))))
 
 -- one more step, wrapping
 more : (h i s u x : ℕ) → u ≡ wrap32 (h + i * s) → x ≡ (u + s) % 2 ^ 32 → x ≡ wrap32 (h + (i + 1) * s)
@@ -31,22 +29,19 @@ more h i s u x eu ex =
     e ∙ ap (λ (m : ℕ). wrap32 (h + m)) (sym d)
 
 -- the code adds the step three times
-pub summed : (hash n x y z a b c d : ℕ) → hash < 2 ^ 32
-    → x ≡ (hash + stepOf hash) % 2 ^ 32 → y ≡ (x + stepOf hash) % 2 ^ 32 → z ≡ (y + stepOf hash) % 2 ^ 32
-    → a ≡ hash % (8 * n) → b ≡ x % (8 * n) → c ≡ y % (8 * n) → d ≡ z % (8 * n)
-    → a ∷ b ∷ c ∷ d ∷ [] ≡ positions hash n
-unfolding position
-summed hash n x y z a b c d h ex ey ez ea eb ec ed =
-    let s = stepOf hash in
-    let p0 : hash ≡ wrap32 (hash + 0 * s) = omega arith in
-    let p1 : x ≡ wrap32 (hash + 1 * s) = more hash 0 s hash x p0 ex in
-    let p2 : y ≡ wrap32 (hash + 2 * s) = more hash 1 s x y p1 ey in
-    let p3 : z ≡ wrap32 (hash + 3 * s) = more hash 2 s y z p2 ez in
-    let q0 : a ≡ position hash n 0 = ea ∙ ap (λ (m : ℕ). m % (8 * n)) p0 in
-    let q1 : b ≡ position hash n 1 = eb ∙ ap (λ (m : ℕ). m % (8 * n)) p1 in
-    let q2 : c ≡ position hash n 2 = ec ∙ ap (λ (m : ℕ). m % (8 * n)) p2 in
-    let q3 : d ≡ position hash n 3 = ed ∙ ap (λ (m : ℕ). m % (8 * n)) p3 in
-    rw (q0, q1, q2, q3)
+module _ (hash n s : ℕ) (es : s ≡ stepOf hash) where
+  at : (i u v : ℕ) → u ≡ wrap32 (hash + i * s) → v ≡ u % (8 * n) → v ≡ position hash n i
+  unfolding position
+  at i u v eu ev = ev ∙ ap (λ (m : ℕ). m % (8 * n)) (eu ∙ ap (λ (m : ℕ). wrap32 (hash + i * m)) es)
+
+  pub summed : (x y z a b c d : ℕ) → hash < 2 ^ 32 → x ≡ (hash + s) % 2 ^ 32 → y ≡ (x + s) % 2 ^ 32 → z ≡ (y + s) % 2 ^ 32
+      → a ≡ hash % (8 * n) → b ≡ x % (8 * n) → c ≡ y % (8 * n) → d ≡ z % (8 * n) → a ∷ b ∷ c ∷ d ∷ [] ≡ positions hash n
+  summed x y z a b c d h ex ey ez ea eb ec ed =
+      let p0 : hash ≡ wrap32 (hash + 0 * s) = omega arith in
+      let p1 : x ≡ wrap32 (hash + 1 * s) = more hash 0 s hash x p0 ex in
+      let p2 : y ≡ wrap32 (hash + 2 * s) = more hash 1 s x y p1 ey in
+      let p3 : z ≡ wrap32 (hash + 3 * s) = more hash 2 s y z p2 ez in
+      rw (at 0 hash a p0 ea, at 1 x b p1 eb, at 2 y c p2 ec, at 3 z d p3 ed)
 
 -- the step is odd
 odd-step : (hash : ℕ) → stepOf hash % 2 ≡ 1

@@ -59,8 +59,7 @@ fn is_set(bits: &[u8], p: u32) -> bool
     requires { ⌜ p / 8 < length (now bits) ⌝ }
     ensures { λ r. ⌜ r ≡ Bloom.isSet (now (bits .entry)) p ⌝ }
 {
-    let b = bits[(p / 8) as usize];
-    (b >> (p % 8)) % 2 == 1
+    (bits[(p / 8) as usize] >> (p % 8)) % 2 == 1
 }
 
 // Reads the bit at a position, then sets it.
@@ -69,9 +68,10 @@ fn visit(bits: &mut [u8], p: u32) -> bool
     ensures { λ r. ⌜ (r ≡ Bloom.isSet (now (bits .entry)) p) × (now (bits .exit) ≡ Bloom.setBit (now (bits .entry)) p) ⌝ }
 {
     let i = (p / 8) as usize;
-    let b = bits[i];
-    bits[i] = b | (1 << (p % 8));
-    (b >> (p % 8)) % 2 == 1
+    let before = bits[i];
+    let after = before | (1 << (p % 8));
+    bits[i] = after;
+    (before >> (p % 8)) % 2 == 1
 }
 
 // Whether the bits at four positions are set.

@@ -4,14 +4,14 @@ use borrow.Author.Needs.{needs}
 use Rattle.bloom.proofs.is_set.Statement.{statement}
 use Rattle.bloom.proofs.is_set.Tie as tie
 
-cast-b : tie.Need-cast-b
-cast-b c = search needs
-
-shared-slice-read-b : tie.Need-shared-slice-read-b
-shared-slice-read-b c = search needs
-
 cast-result : tie.Need-cast-result
 cast-result c = search needs
+
+shared-slice-read-result : tie.Need-shared-slice-read-result
+shared-slice-read-result c = search needs
+
+cast-result-2 : tie.Need-cast-result-2
+cast-result-2 c = search needs
 
 shr-result : tie.Need-shr-result
 shr-result c = search needs
@@ -21,4 +21,5 @@ unfolding isSet
 returns c = refl
 
 pub is-set-spec : {M : Type 1} → statement M
-is-set-spec = tie.close (tie.spec cast-b shared-slice-read-b cast-result shr-result returns)
+is-set-spec =
+    tie.close (tie.spec cast-result shared-slice-read-result cast-result-2 shr-result returns)

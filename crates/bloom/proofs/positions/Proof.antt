@@ -30,7 +30,7 @@ place-requires-4 c κs = search needs
 returns : tie.Need-returns
 returns c =
     let a = c .before .before .before .before .before .before .before .before .args in
-    let s = c .before .before .before .before .before .before .before .step-of .ensures in
+    let s = c .before .before .before .before .before .before .before .step-of in
     let x = c .before .before .before .before .before .before .wrapping-add-u32 in
     let y = c .before .before .before .before .before .wrapping-add-u322 in
     let z = c .before .before .before .before .wrapping-add-u323 in
@@ -38,11 +38,11 @@ returns c =
     let q = c .before .before .place2 in
     let u = c .before .place3 in
     let v = c .place4 in (
-      summed (a .hash) (a .bytes) (x .result) (y .result) (z .result) (p .result) (q .result) (u .result) (v .result)
+      summed (a .hash) (a .bytes) (s .result) (s .ensures) (x .result) (y .result) (z .result) (p .result) (q .result) (u .result) (v .result)
           (search needs)
-          (rw s at (x .ensures))
-          (rw s at (y .ensures))
-          (rw s at (z .ensures))
+          (x .ensures)
+          (y .ensures)
+          (z .ensures)
           (p .ensures .0)
           (q .ensures .0)
           (u .ensures .0)

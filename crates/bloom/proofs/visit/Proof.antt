@@ -1,8 +1,6 @@
 use mathlib.Core.Path.{refl}
-use Prim.Native.Nat.{_%_}
-use native.Mathlib.Omega.{arith}
-use Rattle.bloom.specs.Bloom.{isSet, setBit}
-use Rattle.bloom.proofs.Bits.{shifted-one}
+use Rattle.bloom.specs.Bloom.{isSet}
+use Rattle.bloom.proofs.Bits.{stored}
 use borrow.Author.Needs.{needs}
 use Rattle.bloom.proofs.visit.Statement.{statement}
 use Rattle.bloom.proofs.visit.Tie as tie
@@ -10,14 +8,14 @@ use Rattle.bloom.proofs.visit.Tie as tie
 cast-i : tie.Need-cast-i
 cast-i c = search needs
 
-slice-read-b : tie.Need-slice-read-b
-slice-read-b c = search needs
+slice-read-before : tie.Need-slice-read-before
+slice-read-before c = search needs
 
-cast-bits : tie.Need-cast-bits
-cast-bits c = search needs
+cast-after : tie.Need-cast-after
+cast-after c = search needs
 
-shl-bits : tie.Need-shl-bits
-shl-bits c = search needs
+shl-after : tie.Need-shl-after
+shl-after c = search needs
 
 slice-write-bits : tie.Need-slice-write-bits
 slice-write-bits c = search needs
@@ -32,17 +30,17 @@ same-length : tie.Need-same-length
 same-length c = search needs
 
 returns : tie.Need-returns
-unfolding isSet setBit
-returns c = (refl, rw (shifted-one (c .before .args .p % 8) (omega arith)))
+unfolding isSet
+returns c = (refl, stored (c .before .args .bits .now) (c .before .args .p))
 
 pub visit-spec : {M : Type 1} → statement M
 visit-spec =
     tie.close
     (tie.spec
     cast-i
-    slice-read-b
-    cast-bits
-    shl-bits
+    slice-read-before
+    cast-after
+    shl-after
     slice-write-bits
     cast-result
     shr-result
