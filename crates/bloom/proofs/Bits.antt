@@ -1,15 +1,15 @@
 -- One bit of a filter, read and set.
-use mathlib.Core.Path.{_≡_, refl, ap, _∙_, sym}
+use mathlib.Core.Path.{_≡_, refl, ap, _∙_}
 use mathlib.Core.Bool.{Bool, true, false}
 use mathlib.Core.List.{List}
 use mathlib.Core.Logic.{_⊎_, inl, inr, ⊎-elim}
 use Prim.Native.Nat.{ℕ, suc, zero, _+_, _*_, _/_, _%_, _<_, _≤_, _^_, max}
 use native.Mathlib.Omega.{arith}
 use native.Mathlib.Nat.{one-mul, pow-suc, div-one, div-self, div-eq-of-lt, mul-div-mul-right, mul-mod-left, max-le, max-zero, max-eq-left, max-eq-right, zero-lt-suc}
-use borrow.Author.Tests.{eq-eqb, eqb-true, eqb-false, ltb-true, ltb-false}
+use borrow.Author.Tests.{eqb-true, eqb-false, ltb-true, ltb-false}
 use lib.Bits.{bitOr, or-step, or-shr}
 use lib.Dec.{eqb, ltb}
-use lib.ListN.{length, getD, set, length-set}
+use lib.ListN.{length, set, length-set}
 use lib.Pow.{pow-pos, pow-lt, shl-exact}
 use lib.Seq.{getD-set-same, getD-set-other, set-out}
 use Rattle.leaf.specs.Bytes.{byte}

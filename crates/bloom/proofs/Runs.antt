@@ -1,8 +1,8 @@
 -- Runs over positions: what insertion leaves, and what it answers.
-use mathlib.Core.Path.{_≡_, refl, ap, _∙_, sym}
-use mathlib.Core.Bool.{Bool, true, false, _&&_}
+use mathlib.Core.Path.{_≡_, refl, _∙_, sym}
+use mathlib.Core.Bool.{true, _&&_}
 use mathlib.Core.List.{List, [], _∷_}
-use Prim.Native.Nat.{ℕ, _/_, _<_}
+use Prim.Native.Nat.{ℕ}
 use lib.ListN.{length}
 use Rattle.bloom.specs.Bloom.{isSet, setBit, allSet, seen, setAll}
 use Rattle.bloom.specs.Places.{Within}

@@ -1,9 +1,9 @@
 -- Positions: in the filter, as the code sums them up, and apart from each other.
 use mathlib.Core.Path.{_≡_, refl, ap, _∙_, sym}
-use mathlib.Core.List.{List, [], _∷_}
-use Prim.Native.Nat.{ℕ, suc, zero, _+_, _*_, _/_, _%_, _<_, _≤_, _^_, max}
+use mathlib.Core.List.{[], _∷_}
+use Prim.Native.Nat.{ℕ, suc, zero, _+_, _*_, _/_, _%_, _<_, _^_}
 use native.Mathlib.Omega.{arith}
-use native.Mathlib.Nat.{add-mul, one-mul, mod-lt, mod-mod-of-dvd, dvd-mul-right, max-eq-right, le-of-suc-le-suc, not-suc-le-zero}
+use native.Mathlib.Nat.{add-mul, one-mul, mod-lt, mod-mod-of-dvd, dvd-mul-right, max-eq-right}
 use Rattle.number.specs.Number.{wrap32, rotateLeft32}
 use Rattle.bloom.specs.Bloom.{stepOf, position, positions}
 use Rattle.bloom.specs.Places.{Within}
