@@ -1,4 +1,4 @@
--- What is proved of the filter beyond the calls' promises (proofs/Found.antt), for every size.
+-- What is proved of the filter beyond the calls' promises, for every size (proofs/Found.antt; Differ in proofs/Sums.antt).
 use mathlib.Core.Path.{_≡_}
 use mathlib.Core.Bool.{true}
 use mathlib.Core.List.{List}
