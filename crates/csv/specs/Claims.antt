@@ -1,0 +1,27 @@
+-- What is proved of the grammar, the writing and the reading (proofs/Grammar.antt, proofs/Frame.antt).
+use Prim.Native.Nat.{ℕ, _-_, _≤_}
+use mathlib.Core.Path.{_≡_}
+use mathlib.Core.List.{List, _∷_, _++_}
+use lib.ListN.{length, take, drop}
+use Rattle.csv.specs.Csv.{Record}
+use Rattle.csv.specs.Write.{rowOf}
+use Rattle.csv.specs.Read.{row, values}
+
+-- bytes, a value, or what follows it
+abbrev Text : Type 0
+Text = List ℕ
+
+pub record Claims : Type 0 where
+  -- what is written is in the grammar, whatever follows it
+  pub written : (v : Text) (vs : List Text) (rest : Text) → Record (rowOf (v ∷ vs) ++ rest) (v ∷ vs) rest
+  -- what is read is in the grammar
+  pub sound : (n : ℕ) (bs : Text) (vs : List Text) (rest : Text) → values n bs ≡ row vs rest → Record bs vs rest × (length vs ≡ n)
+  -- all that is in the grammar is read
+  pub complete : (bs rest : Text) (vs : List Text) → Record bs vs rest → values (length vs) bs ≡ row vs rest
+  -- reading what was written gives back the values, for any values and whatever follows
+  pub readsBack : (v : Text) (vs : List Text) (rest : Text) → values (length (v ∷ vs)) (rowOf (v ∷ vs) ++ rest) ≡ row (v ∷ vs) rest
+  -- the grammar is unambiguous: what reads as a row has one reading
+  pub oneReading : (bs r s : Text) (vs ws : List Text) → Record bs vs r → Record bs ws s → (vs ≡ ws) × (r ≡ s)
+  -- a row of at most n bytes is a row of the first n bytes; and a row of the first n bytes is a row of them all
+  pub inFront : (n : ℕ) (bs r : Text) (vs : List Text) → Record bs vs r → length bs - length r ≤ n → (s : Text) × Record (take n bs) vs s
+  pub ofAll : (n : ℕ) (bs s : Text) (vs : List Text) → Record (take n bs) vs s → Record bs vs (s ++ drop n bs)

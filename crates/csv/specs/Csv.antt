@@ -1,0 +1,39 @@
+-- The rows of a stored table: the grammar of RFC 4180, section 2, rules 5 to 7, rule by rule.
+-- Bytes are numbers: 34 is DQUOTE, 44 COMMA, 10 LF, 13 CR. Each rule reads `Rule bytes value rest`: the bytes begin with the rule's
+-- text, which stands for the value; the rest follows it.
+-- 01 departs from the RFC: a row ends in LF and not in CRLF, as the source writes it; a CR outside quotes is a byte of its field; and any
+-- byte is text, not just those the RFC lists.
+use Prim.Native.Nat.{ℕ}
+use lib.Dec.{eqb}
+use mathlib.Core.Bool.{Bool, true, false, not, _||_}
+use mathlib.Core.Path.{_≡_}
+use mathlib.Core.List.{List, [], _∷_}
+
+-- TEXTDATA: what may stand in a field without quotes
+unfoldable pub isText : ℕ → Bool
+isText b = not (eqb b 34 || (eqb b 44 || eqb b 10))
+
+-- non-escaped = *TEXTDATA
+pub data NonEscaped : List ℕ → List ℕ → List ℕ → Type 0 where
+  none : {r : List ℕ} → NonEscaped r [] r
+  text : {b : ℕ} {bs v r : List ℕ} → isText b ≡ true → NonEscaped bs v r → NonEscaped (b ∷ bs) (b ∷ v) r
+
+-- what follows the opening quote: *(TEXTDATA / COMMA / CR / LF / 2DQUOTE) DQUOTE
+pub data Inner : List ℕ → List ℕ → List ℕ → Type 0 where
+  close : {r : List ℕ} → Inner (34 ∷ r) [] r
+  byte : {b : ℕ} {bs v r : List ℕ} → eqb b 34 ≡ false → Inner bs v r → Inner (b ∷ bs) (b ∷ v) r
+  twice : {bs v r : List ℕ} → Inner bs v r → Inner (34 ∷ 34 ∷ bs) (34 ∷ v) r
+
+-- field = escaped / non-escaped, where escaped = DQUOTE *(TEXTDATA / COMMA / CR / LF / 2DQUOTE) DQUOTE
+pub data Field : List ℕ → List ℕ → List ℕ → Type 0 where
+  escaped : {bs v r : List ℕ} → Inner bs v r → Field (34 ∷ bs) v r
+  nonEscaped : {bs v r : List ℕ} → NonEscaped bs v r → Field bs v r
+
+-- the end of a row
+pub data RowEnd : List ℕ → List ℕ → Type 0 where
+  lf : {r : List ℕ} → RowEnd (10 ∷ r) r
+
+-- record = field *(COMMA field), with its row end
+pub data Record : List ℕ → List (List ℕ) → List ℕ → Type 0 where
+  last : {bs v e r : List ℕ} → Field bs v e → RowEnd e r → Record bs (v ∷ []) r
+  more : {bs v w cs r : List ℕ} {ws : List (List ℕ)} → Field bs v (44 ∷ cs) → Record cs (w ∷ ws) r → Record bs (v ∷ w ∷ ws) r

@@ -1,0 +1,4 @@
+pub mod Csv
+pub mod Write
+pub mod Read
+pub mod Claims

@@ -1,0 +1,76 @@
+-- A row as it is read. It reads the grammar, no more and no less (specs/Claims.antt: sound, complete).
+use Prim.Native.Nat.{ℕ, zero, suc}
+use lib.Dec.{eqb}
+use mathlib.Core.Bool.{Bool, true, false}
+use Rattle.number.specs.Number.{pick}
+use mathlib.Core.List.{List, [], _∷_, _++_}
+use lib.ListN.{getD, drop}
+use Rattle.csv.specs.Csv.{isText}
+
+-- a value and what follows it
+pub data Got : Type 0 where
+  got : List ℕ → List ℕ → Got
+  bad : Got
+
+-- one byte more at the front of the value
+abbrev pub push : ℕ → Got → Got
+push b (got v r) = got (b ∷ v) r
+push b bad = bad
+
+-- a value without quotes goes as far as there is text; and what follows it
+unfoldable pub plainValue : List ℕ → List ℕ
+plainValue [] = []
+plainValue (b ∷ bs) = pick (isText b) (b ∷ plainValue bs) []
+
+unfoldable pub plainRest : List ℕ → List ℕ
+plainRest [] = []
+plainRest (b ∷ bs) = pick (isText b) (plainRest bs) (b ∷ bs)
+
+-- behind the opening quote; and behind a quote there, which closes unless another follows
+unfoldable mutual
+  pub inner : List ℕ → Got
+  inner [] = bad
+  inner (b ∷ bs) = pick (eqb b 34) (closing bs) (push b (inner bs))
+
+  pub closing : List ℕ → Got
+  closing [] = got [] []
+  closing (b ∷ bs) = pick (eqb b 34) (push 34 (inner bs)) (got [] (b ∷ bs))
+
+-- the field at the front
+unfoldable pub fieldAt : List ℕ → Got
+fieldAt [] = got [] []
+fieldAt (b ∷ bs) = pick (eqb b 34) (inner bs) (got (plainValue (b ∷ bs)) (plainRest (b ∷ bs)))
+
+-- the values of a row and what follows it
+pub data Row : Type 0 where
+  row : List (List ℕ) → List ℕ → Row
+  malformed : Row
+
+-- one value more at the front of the row
+abbrev pub front : List ℕ → Row → Row
+front v (row vs r) = row (v ∷ vs) r
+front v malformed = malformed
+
+-- how many bytes of row end are at the front, 0 for none
+unfoldable pub rowEnd : List ℕ → ℕ
+rowEnd bs = pick (eqb (getD bs 0 0) 10) 1 0
+
+-- behind the last value: a row end; behind another: a comma, where `more` reads on
+unfoldable pub ended : List ℕ → List ℕ → Row
+ended v bs = pick (eqb (rowEnd bs) 0) malformed (row (v ∷ []) (drop (rowEnd bs) bs))
+
+unfoldable pub parted : (List ℕ → Row) → List ℕ → List ℕ → Row
+parted more v [] = malformed
+parted more v (b ∷ r) = pick (eqb b 44) (front v (more r)) malformed
+
+-- behind a value that is the last, or has n behind it
+abbrev pub next : ℕ → (List ℕ → Row) → Got → Row
+next zero more bad = malformed
+next (suc n) more bad = malformed
+next zero more (got v r) = ended v r
+next (suc n) more (got v r) = parted more v r
+
+-- the row of n values at the front of bs
+unfoldable pub values : ℕ → List ℕ → Row
+values zero bs = malformed
+values (suc n) bs = next n (values n) (fieldAt bs)
