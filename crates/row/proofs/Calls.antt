@@ -1,0 +1,78 @@
+-- The calls' answers, one lemma a case.
+use Prim.Native.Nat.{ℕ, zero, suc, _+_, _-_, _≤_, _<_, min}
+use native.Mathlib.Omega.{arith}
+use mathlib.Core.Path.{_≡_, refl, sym, ap, _∙_}
+use mathlib.Core.List.{List}
+use lib.Dec.{eqb, leb}
+use lib.ListN.{length}
+use lib.Seq.{sets}
+use borrow.Author.Tests.{eq-eqb, ne-eqb, le-leb, lt-leb}
+use Rattle.number.specs.Number.{pick}
+use Rattle.leaf.specs.Bytes.{written}
+use Rattle.leaf.proofs.Laws.{written-sets}
+use Rattle.csv.specs.Write.{rowOf}
+use Rattle.refusal.specs.declared.Refusal.the-variants.{Argument, Small, Row}
+use Rattle.row.specs.declared.RowAnswer.{RowAnswer}
+use Rattle.row.specs.declared.RowAnswer.the-variants.{Written, Refused}
+use Rattle.row.specs.Columns.{maxTable, columnCount, namesLine}
+use Rattle.row.specs.Write.{maxRow, handed, within, after, namesAnswer, rowAnswer}
+
+-- ---- bytes into an output
+
+module _ (bytes out : List ℕ) where
+  pub no-room : length out < length bytes → (Refused Small ≡ within (length out) bytes) × (out ≡ after (Refused Small) bytes out)
+  unfolding within
+  no-room h = (rw (lt-leb (length bytes) (length out) h), refl)
+
+  pub put-there : (n : ℕ) (o : List ℕ) → n ≡ length bytes → length bytes ≤ length out → o ≡ sets out 0 bytes
+      → (Written n ≡ within (length out) bytes) × (o ≡ after (Written n) bytes out)
+  unfolding within
+  put-there n o e h p = (rw (le-leb (length bytes) (length out) h) (ap Written e), p ∙ sym (written-sets out 0 bytes (omega arith)))
+
+-- ---- names_line
+
+module _ (table : ℕ) (out : List ℕ) where
+  pub names-past : 7 < table → (Refused Argument ≡ namesAnswer table (length out)) × (out ≡ after (Refused Argument) (namesLine table) out)
+  unfolding namesAnswer
+  names-past h = (rw (lt-leb table maxTable h), refl)
+
+  pub names-there : table ≤ 7 → (r : RowAnswer) → r ≡ within (length out) (namesLine table) → r ≡ namesAnswer table (length out)
+  unfolding namesAnswer
+  names-there h r e = rw (le-leb table maxTable h) e
+
+-- ---- row
+
+module _ (table : ℕ) (texts lengths out : List ℕ) where
+  pub row-past : 7 < table → (Refused Argument ≡ rowAnswer table texts lengths (length out)) × (out ≡ after (Refused Argument) (rowOf (handed texts lengths)) out)
+  unfolding rowAnswer
+  row-past h = (rw (lt-leb table maxTable h), refl)
+
+  module _ (t : table ≤ 7) where
+    pub row-count : (length lengths ≡ columnCount table → ⊥)
+        → (Refused Row ≡ rowAnswer table texts lengths (length out)) × (out ≡ after (Refused Row) (rowOf (handed texts lengths)) out)
+    unfolding rowAnswer
+    row-count h = (rw (le-leb table maxTable t, ne-eqb (length lengths) (columnCount table) h), refl)
+
+    module _ (h : length lengths ≡ columnCount table) (n : ℕ) (e : n ≡ min 8193 (length (rowOf (handed texts lengths)))) where
+      pub row-long : 8192 < n → (Refused Row ≡ rowAnswer table texts lengths (length out)) × (out ≡ after (Refused Row) (rowOf (handed texts lengths)) out)
+      unfolding rowAnswer
+      row-long l =
+          let m : maxRow < length (rowOf (handed texts lengths)) = omega arith in
+          (rw (le-leb table maxTable t, eq-eqb (length lengths) (columnCount table) h, lt-leb (length (rowOf (handed texts lengths))) maxRow m), refl)
+
+      fits : n ≤ 8192 → rowAnswer table texts lengths (length out) ≡ within (length out) (rowOf (handed texts lengths))
+      unfolding rowAnswer
+      fits l =
+          let m : length (rowOf (handed texts lengths)) ≤ maxRow = omega arith in
+          rw (le-leb table maxTable t, eq-eqb (length lengths) (columnCount table) h, le-leb (length (rowOf (handed texts lengths))) maxRow m)
+
+      pub row-room : n ≤ 8192 → length out < n
+          → (Refused Small ≡ rowAnswer table texts lengths (length out)) × (out ≡ after (Refused Small) (rowOf (handed texts lengths)) out)
+      row-room l r = let k : length out < length (rowOf (handed texts lengths)) = omega arith in (no-room (rowOf (handed texts lengths)) out k .0 ∙ sym (fits l), refl)
+
+      pub row-fits : n ≤ 8192 → n ≤ length out → (o : List ℕ) → o ≡ sets out 0 (rowOf (handed texts lengths))
+          → (Written n ≡ rowAnswer table texts lengths (length out)) × (o ≡ after (Written n) (rowOf (handed texts lengths)) out)
+      row-fits l r o p =
+          let z : n ≡ length (rowOf (handed texts lengths)) = omega arith in
+          let w = put-there (rowOf (handed texts lengths)) out n o z (omega arith) p in
+          (w .0 ∙ sym (fits l), w .1)

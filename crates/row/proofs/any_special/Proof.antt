@@ -1,0 +1,55 @@
+use mathlib.Core.Path.{_≡_, refl, sym, ap, _∙_}
+use mathlib.Core.Bool.{_||_}
+use Prim.Native.Nat.{_≤_, _-_}
+use native.Mathlib.Omega.{arith}
+use lib.ListN.{length, drop}
+use Rattle.csv.specs.Write.{anySpecial}
+use Rattle.row.proofs.Laws.{any-turn, any-out}
+use borrow.Author.Needs.{needs}
+use Rattle.row.proofs.any_special.Statement.{statement}
+use Rattle.row.proofs.any_special.Tie as tie
+
+abbrev Inv-loop : tie.InvT-loop
+Inv-loop v any₀ i₀ any i = (i ≤ length v) × (anySpecial v ≡ (any || anySpecial (drop i v)))
+
+abbrev μ-loop : tie.MeasureT-loop
+μ-loop v any₀ i₀ any i = length v - i
+
+loop-holds : tie.Need-loop-holds Inv-loop μ-loop
+loop-holds c = (omega arith, refl)
+
+shared-slice-read-is-special : tie.Need-shared-slice-read-is-special Inv-loop μ-loop
+shared-slice-read-is-special c = omega arith
+
+is-special-requires : tie.Need-is-special-requires Inv-loop μ-loop
+is-special-requires c κs = search needs
+
+add-i : tie.Need-add-i Inv-loop μ-loop
+add-i c = omega arith
+
+loop-less : tie.Need-loop-less Inv-loop μ-loop
+loop-less c = omega arith
+
+loop-again : tie.Need-loop-again Inv-loop μ-loop
+loop-again c =
+    let l = c .before .before .before .loop in
+    (omega arith, l .inv .1 ∙ rw (c .is-special .ensures) (any-turn (c .before .before .before .before .before .args .v .now) (l .i) (l .any) (omega arith)))
+
+returns : tie.Need-returns Inv-loop μ-loop
+returns c =
+    let l = c .before .loop in
+    any-out (c .before .before .before .args .v .now) (l .i) (l .any) (omega arith) ∙ sym (l .inv .1)
+
+pub any-special-spec : {M : Type 1} → statement M
+any-special-spec =
+    tie.close
+    (tie.spec
+    Inv-loop
+    μ-loop
+    loop-holds
+    shared-slice-read-is-special
+    is-special-requires
+    add-i
+    loop-less
+    loop-again
+    returns)

@@ -1,0 +1,80 @@
+use mathlib.Core.Path.{_≡_, refl, sym, ap, _∙_}
+use mathlib.Core.Bool.{true}
+use Prim.Native.Nat.{_+_}
+use native.Mathlib.Omega.{arith}
+use lib.ListN.{length, set, length-set}
+use lib.Seq.{sets, length-sets}
+use Rattle.csv.specs.Write.{anySpecial, doubled, fieldOf}
+use Rattle.row.proofs.Laws.{field-plain, field-special, quoted-size, quoted-sets}
+use borrow.Author.Needs.{needs}
+use Rattle.row.proofs.put_field.Statement.{statement}
+use Rattle.row.proofs.put_field.Tie as tie
+
+copy-requires : tie.Need-copy-requires
+copy-requires c κs = search needs
+
+same-length : tie.Need-same-length
+same-length c = search needs
+
+returns : tie.Need-returns
+returns c =
+    let a = c .before .before .before .before .before .before .before .args in
+    let q : fieldOf (a .v .now) ≡ a .v .now = field-plain (a .v .now) (sym (c .before .before .before .before .before .before .before .pre .0) ∙ c .before .before .before .before .if1 .taken) in
+    c .before .before .copy .ensures ∙ ap (sets (a .out .now) (a .to)) (sym q)
+
+slice-write-out : tie.Need-slice-write-out
+slice-write-out c =
+    let a = c .before .before .before .args in
+    let p = c .before .before .before .pre in
+    let q : anySpecial (a .v .now) ≡ true = field-special (a .v .now) (λ e. c .if1 .left (p .0 ∙ e)) in
+    let z = quoted-size (a .v .now) q in
+    omega arith
+
+add-put-doubled : tie.Need-add-put-doubled
+add-put-doubled c = search needs
+
+put-doubled-requires : tie.Need-put-doubled-requires
+put-doubled-requires c κs =
+    let a = c .before .before .before .before .args in
+    let p = c .before .before .before .before .pre in
+    let q : anySpecial (a .v .now) ≡ true = field-special (a .v .now) (λ e. c .before .if1 .left (p .0 ∙ e)) in
+    let z = quoted-size (a .v .now) q in
+    omega (arith, length-set (a .out .now) (a .to) 34)
+
+slice-write-out-2 : tie.Need-slice-write-out-2
+slice-write-out-2 c =
+    let a = c .before .before .before .before .before .before .before .args in
+    let p = c .before .before .before .before .before .before .before .pre in
+    let q : anySpecial (a .v .now) ≡ true = field-special (a .v .now) (λ e. c .before .before .before .before .if1 .left (p .0 ∙ e)) in
+    let z = quoted-size (a .v .now) q in
+    let e = c .before .before .put-doubled .ensures in
+    omega (arith, e .1, ap length (e .0), length-sets (set (a .out .now) (a .to) 34) (a .to + 1) (doubled (a .v .now)), length-set (a .out .now) (a .to) 34)
+
+same-length-2 : tie.Need-same-length-2
+same-length-2 c =
+    let a = c .before .before .before .before .before .before .before .args in
+    let e = c .before .before .put-doubled .ensures in
+    simp length-set (ap length (e .0) ∙ length-sets (set (a .out .now) (a .to) 34) (a .to + 1) (doubled (a .v .now)) ∙ length-set (a .out .now) (a .to) 34)
+
+returns-2 : tie.Need-returns-2
+returns-2 c =
+    let a = c .before .before .before .before .before .before .before .args in
+    let p = c .before .before .before .before .before .before .before .pre in
+    let q : anySpecial (a .v .now) ≡ true = field-special (a .v .now) (λ e. c .before .before .before .before .if1 .left (p .0 ∙ e)) in
+    let z = quoted-size (a .v .now) q in
+    let e = c .before .before .put-doubled .ensures in
+    rw (e .0, e .1) (sym (quoted-sets (a .out .now) (a .to) (a .v .now) q))
+
+pub put-field-spec : {M : Type 1} → statement M
+put-field-spec =
+    tie.close
+    (tie.spec
+    copy-requires
+    same-length
+    returns
+    slice-write-out
+    add-put-doubled
+    put-doubled-requires
+    slice-write-out-2
+    same-length-2
+    returns-2)

@@ -1,0 +1,4 @@
+pub mod Columns
+pub mod Write
+pub mod Steps
+pub mod Claims

@@ -1,0 +1,20 @@
+-- What the private functions promise each other. Nothing here says what a row is.
+use Prim.Native.Nat.{ℕ, _+_}
+use mathlib.Core.Path.{_≡_}
+use mathlib.Core.List.{List, [], _∷_, _++_}
+use lib.ListN.{length, getD}
+use Rattle.csv.specs.Write.{fieldOf}
+use Rattle.row.specs.Columns.{columns, line}
+
+-- the names lines of tables, one behind the other
+unfoldable pub lines : List (List (List ℕ)) → List ℕ
+lines [] = []
+lines (c ∷ cs) = line c ++ lines cs
+
+unfoldable pub allLines : List ℕ
+allLines = lines columns
+
+-- sizes has from place k on the sizes of the fields of some values
+abbrev pub Sizes : List ℕ → ℕ → List (List ℕ) → Type 0
+Sizes sizes k [] = Unit {0}
+Sizes sizes k (v ∷ vs) = (getD sizes k 0 ≡ length (fieldOf v)) × Sizes sizes (k + 1) vs

@@ -1,0 +1,47 @@
+-- The calls that write: a table's names line, and a row.
+use Prim.Native.Nat.{ℕ}
+use lib.Dec.{eqb, leb}
+use mathlib.Core.List.{List, [], _∷_}
+use lib.ListN.{length, take, drop}
+use Rattle.number.specs.Number.{pick}
+use Rattle.leaf.specs.Bytes as Bytes
+use Rattle.csv.specs.Write.{rowOf}
+use Rattle.refusal.specs.declared.Refusal.the-variants.{Argument, Small, Row}
+use Rattle.row.specs.declared.RowAnswer.{RowAnswer}
+use Rattle.row.specs.declared.RowAnswer.the-variants.{Written, Refused}
+use Rattle.row.specs.Columns.{maxTable, columnCount, namesLine}
+
+-- how many bytes a row may have, with its LF
+abbrev pub maxRow : ℕ
+maxRow = 8192
+
+-- the values as handed over, texts in a row with their lengths: each has as many bytes as its length says, behind the values before it;
+-- where the bytes end, the value ends
+unfoldable pub cutBy : List ℕ → List ℕ → List (List ℕ)
+cutBy [] t = []
+cutBy (n ∷ ns) t = take n t ∷ cutBy ns (drop n t)
+
+abbrev pub handed : List ℕ → List ℕ → List (List ℕ)
+handed texts lengths = cutBy lengths texts
+
+-- bytes where there is room for them, else 9
+unfoldable pub within : ℕ → List ℕ → RowAnswer
+within room bytes = pick (leb (length bytes) room) (Written (length bytes)) (Refused Small)
+
+-- the output after a call: the bytes at its start, and past them as before; on a refusal as before
+abbrev pub after : RowAnswer → List ℕ → List ℕ → List ℕ
+after (Written n) bytes out = Bytes.written out 0 bytes
+after (Refused r) bytes out = out
+
+-- `names_line`: 2 for a table above 7, then 9, else how many bytes were written
+unfoldable pub namesAnswer : ℕ → ℕ → RowAnswer
+namesAnswer table room = pick (leb table maxTable) (within room (namesLine table)) (Refused Argument)
+
+-- `row`: 2 for a table above 7, then 14 for a wrong number of values or a row that is too long, then 9
+unfoldable pub rowAnswer : ℕ → List ℕ → List ℕ → ℕ → RowAnswer
+rowAnswer table texts lengths room =
+    pick (leb table maxTable)
+    (pick (eqb (length lengths) (columnCount table))
+    (pick (leb (length (rowOf (handed texts lengths))) maxRow) (within room (rowOf (handed texts lengths))) (Refused Row))
+    (Refused Row))
+    (Refused Argument)

@@ -1,0 +1,242 @@
+// The lines of a table as they are written: its column names, and a row. Every public function answers whatever it is given.
+ghost use mathlib.Core.Path.{_≡_};
+ghost use Prim.Native.Nat.{_+_, _≤_, _<_, min};
+ghost use lib.Dec.{eqb};
+ghost use lib.ListN.{length};
+ghost use lib.Seq.{sets};
+ghost use Rattle.number.specs.Number.{pick};
+ghost use Rattle.csv.specs.Write.{special, anySpecial, doubled, fieldOf, rowOf};
+ghost use Rattle.row.specs.Columns.{columnCount, namesLine};
+ghost use Rattle.row.specs.Write.{handed, within, after, namesAnswer, rowAnswer};
+ghost use Rattle.row.specs.Steps.{allLines, Sizes};
+use refusal::Refusal;
+
+pub enum RowAnswer {
+    // The line stands in the first so many bytes.
+    Written(usize),
+    Refused(Refusal),
+}
+
+// How many columns each table has.
+const COUNTS: [usize; 8] = [3, 3, 5, 8, 10, 3, 2, 8];
+
+// Where each table's names line starts among all of them, and their end.
+const STARTS: [usize; 9] = [0, 37, 65, 120, 218, 306, 337, 367, 473];
+
+// How many columns a table has, 0 above table 7.
+pub fn column_count(table: u32) -> usize
+    ensures { λ r. ⌜ r ≡ columnCount table ⌝ }
+{
+    if 7 < table {
+        return 0;
+    }
+    let counts = COUNTS;
+    let t = table as usize;
+    counts[t]
+}
+
+// v into out from a place on.
+fn copy(v: &[u8], out: &mut [u8], to: usize)
+    requires { ⌜ to + length (now v) ≤ length (now out) ⌝ }
+    ensures { λ _. ⌜ now (out .exit) ≡ sets (now (out .entry)) to (now (v .entry)) ⌝ }
+{
+    let mut i: usize = 0;
+    while i < v.len() {
+        out[to + i] = v[i];
+        i += 1;
+    }
+}
+
+// The names line of a table, out of all of them, where there is room.
+fn put_line(all: &[u8], table: usize, out: &mut [u8]) -> RowAnswer
+    requires { ⌜ (now all ≡ allLines) × (table < 8) ⌝ }
+    ensures { λ r. ⌜ (r ≡ within (length (now (out .entry))) (namesLine table)) × (now (out .exit) ≡ after r (namesLine table) (now (out .entry))) ⌝ }
+{
+    let starts = STARTS;
+    let from = starts[table];
+    let to = starts[table + 1];
+    let names = &all[from..to];
+    if out.len() < names.len() {
+        return RowAnswer::Refused(Refusal::Small);
+    }
+    copy(names, out, 0);
+    RowAnswer::Written(names.len())
+}
+
+// The names line of a table, into out.
+pub fn names_line(table: u32, out: &mut [u8]) -> RowAnswer
+    ensures { λ r. ⌜ (r ≡ namesAnswer table (length (now (out .entry)))) × (now (out .exit) ≡ after r (namesLine table) (now (out .entry))) ⌝ }
+{
+    if 7 < table {
+        return RowAnswer::Refused(Refusal::Argument);
+    }
+    let all =
+        b"route_id,route_short_name,route_type\nstop_id,stop_code,stop_name\nroute_id,service_id,trip_id,trip_headsign,direction_id\ntrip_id,stop_id,stop_sequence,arrival_time,departure_time,pickup_type,drop_off_type,stop_headsign\nservice_id,monday,tuesday,wednesday,thursday,friday,saturday,sunday,start_date,end_date\nservice_id,date,exception_type\nfeed_start_date,feed_end_date\nfrom_stop_id,to_stop_id,transfer_type,min_transfer_time,from_route_id,to_route_id,from_trip_id,to_trip_id\n";
+    put_line(all, table as usize, out)
+}
+
+// A byte for whose sake its value is quoted: quote, comma, CR, LF.
+fn is_special(b: u8) -> bool
+    ensures { λ r. ⌜ r ≡ special b ⌝ }
+{
+    (b == 34) | ((b == 44) | ((b == 13) | (b == 10)))
+}
+
+// Whether a value is quoted. No way out of the loop, so that many bytes are looked at at once.
+fn any_special(v: &[u8]) -> bool
+    ensures { λ r. ⌜ r ≡ anySpecial (now (v .entry)) ⌝ }
+{
+    let mut any = false;
+    let mut i: usize = 0;
+    while i < v.len() {
+        any = any | is_special(v[i]);
+        i += 1;
+    }
+    any
+}
+
+// How many bytes a value has with its quotes doubled.
+fn doubled_size(v: &[u8]) -> usize
+    requires { ⌜ length (now v) ≤ 8192 ⌝ }
+    ensures { λ r. ⌜ r ≡ length (doubled (now (v .entry))) ⌝ }
+{
+    let mut n: usize = 0;
+    let mut i: usize = 0;
+    while i < v.len() {
+        if v[i] == 34 {
+            n += 1;
+        }
+        n += 1;
+        i += 1;
+    }
+    n
+}
+
+// A value with its quotes doubled, into out from a place on; the place behind it.
+fn put_doubled(v: &[u8], out: &mut [u8], to: usize) -> usize
+    requires { ⌜ to + length (doubled (now v)) ≤ length (now out) ⌝ }
+    ensures { λ r. ⌜ (now (out .exit) ≡ sets (now (out .entry)) to (doubled (now (v .entry)))) × (r ≡ to + length (doubled (now (v .entry)))) ⌝ }
+{
+    let mut n = to;
+    let mut i: usize = 0;
+    while i < v.len() {
+        let b = v[i];
+        if b == 34 {
+            out[n] = 34;
+            n += 1;
+        }
+        out[n] = b;
+        n += 1;
+        i += 1;
+    }
+    n
+}
+
+// How many bytes a value has whose length is n: at most what is left.
+fn cut(left: usize, n: u32) -> usize
+    ensures { λ r. ⌜ r ≡ min n left ⌝ }
+{
+    let m = n as usize;
+    if m < left { m } else { left }
+}
+
+// How many bytes a value's field has.
+fn field_size(v: &[u8]) -> usize
+    requires { ⌜ length (now v) ≤ 8192 ⌝ }
+    ensures { λ r. ⌜ r ≡ length (fieldOf (now (v .entry))) ⌝ }
+{
+    if any_special(v) {
+        return doubled_size(v) + 2;
+    }
+    v.len()
+}
+
+// The field of a value, whose size is given, into out from a place on.
+fn put_field(v: &[u8], size: usize, out: &mut [u8], to: usize)
+    requires { ⌜ (size ≡ length (fieldOf (now v))) × (to + size ≤ length (now out)) ⌝ }
+    ensures { λ _. ⌜ now (out .exit) ≡ sets (now (out .entry)) to (fieldOf (now (v .entry))) ⌝ }
+{
+    if size == v.len() {
+        copy(v, out, to);
+        return;
+    }
+    out[to] = 34;
+    let n = put_doubled(v, out, to + 1);
+    out[n] = 34;
+}
+
+// The row's size, or 8,193 for any above 8,192, with the sizes of its fields.
+fn row_size(texts: &[u8], lengths: &[u32], sizes: &mut [usize]) -> usize
+    requires { ⌜ length (now lengths) ≤ length (now sizes) ⌝ }
+    ensures { λ r. ⌜ (r ≡ min 8193 (length (rowOf (handed (now (texts .entry)) (now (lengths .entry)))))) × (r ≤ 8192 → Sizes (now (sizes .exit)) 0 (handed (now (texts .entry)) (now (lengths .entry)))) ⌝ }
+{
+    let mut total: usize = 0;
+    let mut from: usize = 0;
+    let mut k: usize = 0;
+    while k < lengths.len() {
+        let n = cut(texts.len() - from, lengths[k]);
+        if 8192 < n {
+            return 8193;
+        }
+        let end = from + n;
+        let size = field_size(&texts[from..end]);
+        total = total + size + 1;
+        if 8192 < total {
+            return 8193;
+        }
+        sizes[k] = size;
+        from = end;
+        k += 1;
+    }
+    total
+}
+
+// What stands behind field k of n.
+fn end_byte(k: usize, n: usize) -> u8
+    ensures { λ r. ⌜ r ≡ pick (eqb k n) 10 44 ⌝ }
+{
+    if k == n { 10 } else { 44 }
+}
+
+// The row, with the sizes of its fields, into out.
+fn put_row(texts: &[u8], lengths: &[u32], sizes: &[usize], out: &mut [u8])
+    requires { ⌜ (length (rowOf (handed (now texts) (now lengths))) ≤ length (now out)) × (length (now lengths) ≤ length (now sizes)) × Sizes (now sizes) 0 (handed (now texts) (now lengths)) ⌝ }
+    ensures { λ _. ⌜ now (out .exit) ≡ sets (now (out .entry)) 0 (rowOf (handed (now (texts .entry)) (now (lengths .entry)))) ⌝ }
+{
+    let mut to: usize = 0;
+    let mut from: usize = 0;
+    let mut k: usize = 0;
+    while k < lengths.len() {
+        let n = cut(texts.len() - from, lengths[k]);
+        let end = from + n;
+        let size = sizes[k];
+        put_field(&texts[from..end], size, out, to);
+        let last = to + size;
+        k += 1;
+        out[last] = end_byte(k, lengths.len());
+        to = last + 1;
+        from = end;
+    }
+}
+
+// The row of some values of a table, into out: texts in a row, with their lengths.
+pub fn row(table: u32, texts: &[u8], lengths: &[u32], out: &mut [u8]) -> RowAnswer
+    ensures { λ r. ⌜ (r ≡ rowAnswer table (now (texts .entry)) (now (lengths .entry)) (length (now (out .entry)))) × (now (out .exit) ≡ after r (rowOf (handed (now (texts .entry)) (now (lengths .entry)))) (now (out .entry))) ⌝ }
+{
+    if 7 < table {
+        return RowAnswer::Refused(Refusal::Argument);
+    }
+    if lengths.len() != column_count(table) {
+        return RowAnswer::Refused(Refusal::Row);
+    }
+    let mut sizes: [usize; 10] = [0; 10];
+    let size = row_size(texts, lengths, &mut sizes);
+    if 8192 < size {
+        return RowAnswer::Refused(Refusal::Row);
+    }
+    if out.len() < size {
+        return RowAnswer::Refused(Refusal::Small);
+    }
+    put_row(texts, lengths, &sizes, out);
+    RowAnswer::Written(size)
+}
