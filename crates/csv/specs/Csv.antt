@@ -37,3 +37,7 @@ pub data RowEnd : List ℕ → List ℕ → Type 0 where
 pub data Record : List ℕ → List (List ℕ) → List ℕ → Type 0 where
   last : {bs v e r : List ℕ} → Field bs v e → RowEnd e r → Record bs (v ∷ []) r
   more : {bs v w cs r : List ℕ} {ws : List (List ℕ)} → Field bs v (44 ∷ cs) → Record cs (w ∷ ws) r → Record bs (v ∷ w ∷ ws) r
+
+-- 01's limit: how many bytes a row may have, with its LF
+abbrev pub maxRow : ℕ
+maxRow = 8192

@@ -10,12 +10,13 @@ use borrow.Author.Tests.{eq-eqb, ne-eqb, le-leb, lt-leb}
 use Rattle.number.specs.Number.{pick}
 use Rattle.leaf.specs.Bytes.{written}
 use Rattle.leaf.proofs.Laws.{written-sets}
+use Rattle.csv.specs.Csv.{maxRow}
 use Rattle.csv.specs.Write.{rowOf}
 use Rattle.refusal.specs.declared.Refusal.the-variants.{Argument, Small, Row}
 use Rattle.row.specs.declared.RowAnswer.{RowAnswer}
 use Rattle.row.specs.declared.RowAnswer.the-variants.{Written, Refused}
 use Rattle.row.specs.Columns.{maxTable, columnCount, namesLine}
-use Rattle.row.specs.Write.{maxRow, handed, within, after, namesAnswer, rowAnswer}
+use Rattle.row.specs.Write.{handed, within, after, namesAnswer, rowAnswer}
 
 -- ---- bytes into an output
 

@@ -5,15 +5,12 @@ use mathlib.Core.List.{List, [], _∷_}
 use lib.ListN.{length, take, drop}
 use Rattle.number.specs.Number.{pick}
 use Rattle.leaf.specs.Bytes as Bytes
+use Rattle.csv.specs.Csv.{maxRow}
 use Rattle.csv.specs.Write.{rowOf}
 use Rattle.refusal.specs.declared.Refusal.the-variants.{Argument, Small, Row}
 use Rattle.row.specs.declared.RowAnswer.{RowAnswer}
 use Rattle.row.specs.declared.RowAnswer.the-variants.{Written, Refused}
 use Rattle.row.specs.Columns.{maxTable, columnCount, namesLine}
-
--- how many bytes a row may have, with its LF
-abbrev pub maxRow : ℕ
-maxRow = 8192
 
 -- the values as handed over, texts in a row with their lengths: each has as many bytes as its length says, behind the values before it;
 -- where the bytes end, the value ends

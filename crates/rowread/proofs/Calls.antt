@@ -1,0 +1,125 @@
+-- The call's answers, one lemma a case.
+use Prim.Native.Nat.{ℕ, _+_, _-_, _≤_, _<_, min}
+use native.Mathlib.Omega.{arith}
+use native.Mathlib.Decide.{decLt}
+use mathlib.Core.Path.{_≡_, refl, sym, ap, _∙_}
+use mathlib.Core.List.{List, [], _∷_, _++_}
+use lib.Dec.{eqb, leb}
+use lib.ListN.{length, take, drop, length-drop}
+use lib.Seq.{sets, take-all}
+use borrow.Author.Tests.{lt-leb, le-leb, eq-eqb, ne-eqb}
+use Rattle.leaf.specs.Bytes.{written}
+use Rattle.leaf.proofs.Laws.{written-sets}
+use Rattle.csv.specs.Read as Csv
+use Rattle.csv.proofs.Grammar.{sound}
+use Rattle.refusal.specs.declared.Refusal.the-variants.{Small, Row}
+use Rattle.rowread.specs.declared.Scan.{Scan}
+use Rattle.rowread.specs.declared.Scan.the-variants.{Whole, Broken}
+use Rattle.rowread.specs.declared.ReadAnswer.{ReadAnswer}
+use Rattle.rowread.specs.declared.ReadAnswer.the-variants.{Stored, End, Refused}
+use Rattle.rowread.specs.Stored.{partAt, rowAt, valuesOf, valuesAt, joined, endsOf, found, readAnswer, after}
+use Rattle.rowread.specs.Steps.{scanFrom, scanOf, IsRow}
+
+take-min : (n : ℕ) (l : List ℕ) → take (min n (length l)) l ≡ take n l
+take-min n l = go (decLt n (length l))
+  where
+    go : Dec (n < length l) → take (min n (length l)) l ≡ take n l
+    go (yes h) = let e : min n (length l) ≡ n = omega arith in rw e
+    go (no h) = take-all (min n (length l)) l (omega arith) ∙ sym (take-all n l (omega arith))
+
+pub part-is : (table : List ℕ) (place end : ℕ) → place ≤ length table → end ≡ place + min 8192 (length table - place) → take (end - place) (drop place table) ≡ partAt table place
+part-is table place end h e =
+    let n : end - place ≡ min 8192 (length (drop place table)) = omega (arith, length-drop place table) in
+    rw n (take-min 8192 (drop place table))
+
+pub length-ends : (from : ℕ) (vs : List (List ℕ)) → length (endsOf from vs) ≡ length vs
+unfolding endsOf
+length-ends from [] = refl
+length-ends from (v ∷ vs) = ap Prim.Native.Nat.suc (length-ends (from + length v) vs)
+
+-- what the call promises: the answer, and both outputs
+pub record Answers (table : List ℕ) (width place : ℕ) (out ends : List ℕ) (r : ReadAnswer) (o e : List ℕ) : Type 0 where
+  pub is : r ≡ readAnswer table width place (length out) (length ends)
+  pub bytes : o ≡ after r (joined (valuesAt table width place)) out
+  pub marks : e ≡ after r (endsOf 0 (valuesAt table width place)) ends
+
+module _ (table : List ℕ) (width place : ℕ) (out ends : List ℕ) where
+  pub read-past : length table < place → Answers table width place out ends (Refused Row) out ends
+  unfolding readAnswer
+  read-past h = record { is = rw (lt-leb place (length table) h); bytes = refl; marks = refl }
+
+  pub read-end : place ≤ length table → place ≡ length table → Answers table width place out ends End out ends
+  unfolding readAnswer
+  read-end h e = record { is = rw (le-leb place (length table) h, eq-eqb place (length table) e); bytes = refl; marks = refl }
+
+  module _ (h : place ≤ length table) (e : place ≡ length table → ⊥) where
+    inside : readAnswer table width place (length out) (length ends) ≡ found place (length (partAt table place)) (length out) (length ends) (rowAt table width place)
+    unfolding readAnswer
+    inside = rw (le-leb place (length table) h, ne-eqb place (length table) e)
+
+    pub read-broken : Broken ≡ scanOf width (partAt table place) → Answers table width place out ends (Refused Row) out ends
+    unfolding scanOf
+    read-broken q = record { is = go (rowAt table width place) q ∙ sym inside; bytes = refl; marks = refl }
+      where
+        go : (g : Csv.Row) → Broken ≡ scanFrom (length (partAt table place)) 0 g → Refused Row ≡ found place (length (partAt table place)) (length out) (length ends) g
+        go Csv.malformed i = refl
+        go (Csv.row vs r) i = absurd (let z : _≡_ {A = ℕ} 0 1 = cc in omega arith)
+
+    module _ (next size : ℕ) (q : Whole next size ≡ scanOf width (partAt table place)) where
+      pub record Read : Type 0 where
+        pub values : List (List ℕ)
+        pub rest : List ℕ
+        pub is : rowAt table width place ≡ Csv.row values rest
+        pub to : next ≡ length (partAt table place) - length rest
+        pub bytes : size ≡ length (joined values)
+        pub many : length values ≡ width
+
+      pub the-row : Read
+      unfolding scanOf
+      the-row = go (rowAt table width place) refl q
+        where
+          go : (g : Csv.Row) → rowAt table width place ≡ g → Whole next size ≡ scanFrom (length (partAt table place)) 0 g → Read
+          go Csv.malformed d i = absurd (let z : _≡_ {A = ℕ} 0 1 = cc in omega arith)
+          go (Csv.row vs r) d i =
+              let a : next ≡ length (partAt table place) - length r = cc in
+              let b : size ≡ 0 + length (joined vs) = cc in
+              record { values = vs; rest = r; is = d; to = a; bytes = omega arith; many = sound width (partAt table place) vs r d .1 }
+
+      pub is-row : IsRow (rowAt table width place)
+      is-row = rw (the-row .is) tt
+
+      pub row-bytes : length (joined (valuesAt table width place)) ≡ size
+      row-bytes = rw (the-row .is) (sym (the-row .bytes))
+
+      pub next-inside : next ≤ length (partAt table place)
+      next-inside = omega (arith, the-row .to)
+
+      here : readAnswer table width place (length out) (length ends) ≡ found place (length (partAt table place)) (length out) (length ends) (Csv.row (the-row .values) (the-row .rest))
+      here = inside ∙ rw (the-row .is)
+
+      pub read-short : length out < size → Answers table width place out ends (Refused Small) out ends
+      read-short l =
+          let k : length out < length (joined (the-row .values)) = omega (arith, the-row .bytes) in
+          record { is = sym (here ∙ rw (lt-leb (length (joined (the-row .values))) (length out) k)); bytes = refl; marks = refl }
+
+      module _ (l : size ≤ length out) where
+        fits : length (joined (the-row .values)) ≤ length out
+        fits = omega (arith, the-row .bytes)
+
+        pub read-few : length ends < width → Answers table width place out ends (Refused Small) out ends
+        read-few m =
+            let k : length ends < length (the-row .values) = omega (arith, the-row .many) in
+            record { is = sym (here ∙ rw (le-leb (length (joined (the-row .values))) (length out) fits, lt-leb (length (the-row .values)) (length ends) k)); bytes = refl; marks = refl }
+
+        pub read-whole : width ≤ length ends → (o s : List ℕ) → o ≡ sets out 0 (joined (valuesAt table width place)) → s ≡ sets ends 0 (endsOf 0 (valuesAt table width place))
+            → Answers table width place out ends (Stored (place + next) size) o s
+        read-whole m o s p w =
+            let k : length (the-row .values) ≤ length ends = omega (arith, the-row .many) in
+            let v : valuesAt table width place ≡ the-row .values = ap valuesOf (the-row .is) in
+            let y = row-bytes in
+            let x : length (endsOf 0 (valuesAt table width place)) ≡ width = length-ends 0 (valuesAt table width place) ∙ ap length v ∙ the-row .many in
+            record {
+              is = sym (here ∙ rw (le-leb (length (joined (the-row .values))) (length out) fits, le-leb (length (the-row .values)) (length ends) k, ← the-row .to, ← the-row .bytes));
+              bytes = p ∙ sym (written-sets out 0 (joined (valuesAt table width place)) (omega arith));
+              marks = w ∙ sym (written-sets ends 0 (endsOf 0 (valuesAt table width place)) (omega arith));
+            }

@@ -1,0 +1,214 @@
+-- What a turn of a loop that copies does to what is left to copy.
+use Prim.Native.Nat.{ℕ, zero, suc, _+_, _-_, _≤_, _<_}
+use native.Mathlib.Omega.{arith}
+use native.Mathlib.Decide.{decLt}
+use native.Mathlib.Numerals.{add-one}
+use mathlib.Core.Path.{_≡_, refl, sym, ap, _∙_}
+use mathlib.Core.Bool.{true, false}
+use mathlib.Core.List.{List, [], _∷_, _++_}
+use lib.ListN.{length, drop, getD, set, drop-of-length-le, length-drop, length-append}
+use lib.Seq.{sets, drop-cons, drop-drop}
+use Rattle.csv.specs.Csv.{isText, RowEnd, lf, Record, last, more}
+use Rattle.csv.specs.Read.{plainValue, plainRest, Got, got, bad, push, inner, fieldAt, Row, row, malformed, values}
+use Rattle.csv.proofs.Grammar.{field-complete, comma-stops, lf-stops, sound}
+use Rattle.csv.proofs.Laws.{sets-append}
+use Rattle.csv.proofs.Places.{field-place}
+use Rattle.rowread.specs.Stored.{valuesOf, joined, endsOf}
+use Rattle.rowread.specs.Steps.{valueOf, restOf, IsRow}
+use Rattle.rowread.proofs.Laws.{inner-out, inner-byte, inner-twice, inner-close, past, plain-all, field-plain}
+
+-- ---- a value without quotes
+
+pub plain-next : (t : List ℕ) (i : ℕ) → i < length t → isText (getD t i 0) ≡ true → plainValue (drop i t) ≡ getD t i 0 ∷ plainValue (drop (i + 1) t)
+unfolding plainValue
+plain-next t i h e = rw (add-one i, drop-cons t i 0 h) (simp e)
+
+pub plain-stops : (t : List ℕ) (i : ℕ) → i < length t → isText (getD t i 0) ≡ false → plainValue (drop i t) ≡ []
+unfolding plainValue
+plain-stops t i h e = rw (drop-cons t i 0 h) (simp e)
+
+pub plain-ends : (t : List ℕ) (i : ℕ) → length t ≤ i → plainValue (drop i t) ≡ []
+unfolding plainValue
+plain-ends t i h = rw (drop-of-length-le t h)
+
+-- where it ends
+pub plain-place : (t : List ℕ) (from : ℕ) → from ≤ length t → (getD t from 0 ≡ 34 → ⊥) → from + length (plainValue (drop from t)) ≡ length t - length (restOf (fieldAt (drop from t)))
+plain-place t from h e =
+    let d : length (plainValue (drop from t)) + length (plainRest (drop from t)) ≡ length t - from =
+    sym (length-append (plainValue (drop from t)) (plainRest (drop from t))) ∙ ap length (plain-all (drop from t)) ∙ length-drop from t in
+    omega (arith, d, ap (λ (g : Got). length (restOf g)) (field-plain t from e))
+
+-- ---- a quoted value
+
+-- g is a value with r behind it
+abbrev pub Has : Got → List ℕ → Type 0
+Has g r = g ≡ got (valueOf g) r
+
+has-same : (g h : Got) (r : List ℕ) → g ≡ h → Has g r → Has h r
+has-same g h r e p = rw e at p
+
+not-bad : (r : List ℕ) → Has bad r → ⊥
+not-bad r p = let z : _≡_ {A = ℕ} 0 1 = cc in omega arith
+
+push-has : (b : ℕ) (g : Got) (r : List ℕ) → Has (push b g) r → Has g r × (valueOf (push b g) ≡ b ∷ valueOf g)
+push-has b bad r p = absurd (not-bad r p)
+push-has b (got v s) r p = let e : s ≡ r = cc in (ap (got v) e, refl)
+
+module _ (t : List ℕ) (p : ℕ) (r : List ℕ) (h : Has (inner (drop p t)) r) where
+  pub copy-inside : p < length t
+  copy-inside = go (decLt p (length t))
+    where
+      go : Dec (p < length t) → p < length t
+      go (yes d) = d
+      go (no d) = absurd (not-bad r (has-same (inner (drop p t)) bad r (inner-out t p (omega arith)) h))
+
+  pub copy-byte : (getD t p 0 ≡ 34 → ⊥) → Has (inner (drop (p + 1) t)) r × (valueOf (inner (drop p t)) ≡ getD t p 0 ∷ valueOf (inner (drop (p + 1) t)))
+  copy-byte e =
+      let q = inner-byte t p copy-inside e in
+      let w = push-has (getD t p 0) (inner (drop (p + 1) t)) r (has-same _ _ r q h) in
+      (w .0, ap valueOf q ∙ w .1)
+
+  -- two quotes are one
+  pub copy-twice : getD t p 0 ≡ 34 → getD t (p + 1) 0 ≡ 34
+      → (p + 1 < length t) × Has (inner (drop (p + 1 + 1) t)) r × (valueOf (inner (drop p t)) ≡ getD t p 0 ∷ valueOf (inner (drop (p + 1 + 1) t)))
+  copy-twice e d =
+      let q = inner-twice t p copy-inside e d in
+      let w = push-has 34 (inner (drop (p + 1 + 1) t)) r (has-same _ _ r q h) in
+      (past t (p + 1) 33 d, w .0, ap valueOf q ∙ w .1 ∙ rw e)
+
+  -- a quote that no other follows closes
+  pub copy-close : getD t p 0 ≡ 34 → (getD t (p + 1) 0 ≡ 34 → ⊥) → (valueOf (inner (drop p t)) ≡ []) × (p + 1 ≡ length t - length r)
+  copy-close e d =
+      let i : inner (drop p t) ≡ got [] (drop (p + 1) t) = inner-close t p copy-inside e d in
+      let q : r ≡ drop (p + 1) t = cc in
+      (ap valueOf i, omega (arith, ap length q, length-drop (p + 1) t, copy-inside))
+
+pub sets-turn : (out : List ℕ) (n b : ℕ) (v w : List ℕ) → v ≡ b ∷ w → sets out n v ≡ sets (set out n b) (n + 1) w
+sets-turn out n b v w e = rw (e, add-one n)
+
+pub sets-done : (out : List ℕ) (n : ℕ) (v : List ℕ) → v ≡ [] → sets out n v ≡ out
+sets-done out n v e = rw e
+
+-- ---- the values of a row, one by one
+
+-- values that stand in t from a place on, one after the other
+pub data Fields (t : List ℕ) : ℕ → List (List ℕ) → Type 0 where
+  none : {from : ℕ} → Fields t from []
+  one : {from place : ℕ} {v : List ℕ} {vs : List (List ℕ)} → from ≤ length t → place < length t → fieldAt (drop from t) ≡ got v (drop place t)
+      → Fields t (place + 1) vs → Fields t from (v ∷ vs)
+
+-- a rest that is not empty starts inside
+starts : (t r : List ℕ) (b : ℕ) → b ∷ r ≡ drop (length t - length (b ∷ r)) t → length t - length (b ∷ r) < length t
+starts t r b e = omega (arith, ap length e, length-drop (length t - length (b ∷ r)) t)
+
+fields-of : (t : List ℕ) {bs r : List ℕ} {vs : List (List ℕ)} → Record bs vs r → (from : ℕ) → bs ≡ drop from t → from ≤ length t → Fields t from vs
+fields-of t (last {v = v} {r = r} f lf) from b h =
+    let q : fieldAt (drop from t) ≡ got v (10 ∷ r) = ap fieldAt (sym b) ∙ field-complete f lf-stops in
+    let p = field-place t from v (10 ∷ r) h q in
+    one h (starts t r 10 (p .0)) (q ∙ ap (got v) (p .0)) none
+fields-of t (more {v = v} {w = w} {cs = cs} {ws = ws} f g) from b h =
+    let q : fieldAt (drop from t) ≡ got v (44 ∷ cs) = ap fieldAt (sym b) ∙ field-complete f comma-stops in
+    let p = field-place t from v (44 ∷ cs) h q in
+    let i = starts t cs 44 (p .0) in
+    let d : cs ≡ drop (length t - length (44 ∷ cs) + 1) t = ap (drop 1) (p .0) ∙ drop-drop 1 (length t - length (44 ∷ cs)) t in
+    one h i (q ∙ ap (got v) (p .0)) (fields-of t g (length t - length (44 ∷ cs) + 1) d (omega arith))
+
+-- the first of several
+pub record First (t : List ℕ) (from : ℕ) (ws : List (List ℕ)) : Type 0 where
+  pub value : List ℕ
+  pub others : List (List ℕ)
+  pub place : ℕ
+  pub split : ws ≡ value ∷ others
+  pub start : from ≤ length t
+  pub inside : place < length t
+  pub read : fieldAt (drop from t) ≡ got value (drop place t)
+  pub left : Fields t (place + 1) others
+
+pub first-of : {t : List ℕ} {from : ℕ} {ws : List (List ℕ)} → Fields t from ws → 0 < length ws → First t from ws
+first-of none h = absurd (omega arith)
+first-of (one {place = place} {v = v} {vs = vs} s i r l) h = record { value = v; others = vs; place = place; split = refl; start = s; inside = i; read = r; left = l }
+
+pub is-got : (g : Got) (v r : List ℕ) → g ≡ got v r → g ≡ got (valueOf g) (restOf g)
+is-got g v r e = rw e
+
+pub place-of : (t : List ℕ) (g : Got) (v : List ℕ) (place : ℕ) → place < length t → g ≡ got v (drop place t) → length t - length (restOf g) ≡ place
+place-of t g v place h e = rw e (omega (arith, length-drop place t))
+
+-- what is left to copy: values from a place on, behind `to` bytes and k ends
+pub record Left (t out₀ ends₀ : List ℕ) (width : ℕ) (out ends : List ℕ) (from to k : ℕ) : Type 0 where
+  pub values : List (List ℕ)
+  pub fields : Fields t from values
+  pub many : k + length values ≡ width
+  pub same : length out ≡ length out₀
+  pub alike : length ends ≡ length ends₀
+  pub room : to + length (joined values) ≤ length out
+  pub bytes : sets out₀ 0 (joined (valuesOf (Rattle.csv.specs.Read.values width t))) ≡ sets out to (joined values)
+  pub marks : sets ends₀ 0 (endsOf 0 (valuesOf (Rattle.csv.specs.Read.values width t))) ≡ sets ends k (endsOf to values)
+
+pub left-all : (t out ends : List ℕ) (width : ℕ) → IsRow (values width t) → length (joined (valuesOf (values width t))) ≤ length out → Left t out ends width out ends 0 0 0
+left-all t out ends width h n = go (values width t) refl h n
+  where
+    go : (g : Row) → values width t ≡ g → IsRow g → length (joined (valuesOf g)) ≤ length out → Left t out ends width out ends 0 0 0
+    go malformed q i m = absurd i
+    go (row vs r) q i m =
+        let s = sound width t vs r q in
+        record { values = vs; fields = fields-of t (s .0) 0 refl (omega arith); many = omega (arith, s .1); same = refl; alike = refl; room = omega arith; bytes = rw q; marks = rw q }
+
+joined-split : (ws : List (List ℕ)) (v : List ℕ) (vs : List (List ℕ)) → ws ≡ v ∷ vs → length (joined ws) ≡ length v + length (joined vs)
+unfolding joined
+joined-split ws v vs e = rw e (length-append v (joined vs))
+
+sets-split : (out : List ℕ) (to : ℕ) (ws : List (List ℕ)) (v : List ℕ) (vs : List (List ℕ)) → ws ≡ v ∷ vs → sets out to (joined ws) ≡ sets (sets out to v) (to + length v) (joined vs)
+unfolding joined
+sets-split out to ws v vs e = rw e (sets-append out to v (joined vs))
+
+ends-split : (ends : List ℕ) (k to : ℕ) (ws : List (List ℕ)) (v : List ℕ) (vs : List (List ℕ)) → ws ≡ v ∷ vs → sets ends k (endsOf to ws) ≡ sets (set ends k (to + length v)) (k + 1) (endsOf (to + length v) vs)
+unfolding endsOf
+ends-split ends k to ws v vs e = rw (e, add-one k)
+
+module _ {t out₀ ends₀ : List ℕ} {width : ℕ} {out ends : List ℕ} {from to k : ℕ} (l : Left t out₀ ends₀ width out ends from to k) where
+  module _ (h : k < width) where
+    pub here : First t from (l .values)
+    here = first-of (l .fields) (omega (arith, l .many))
+
+    read-value : valueOf (fieldAt (drop from t)) ≡ here .value
+    read-value = ap valueOf (here .read)
+
+    pub here-got : fieldAt (drop from t) ≡ got (valueOf (fieldAt (drop from t))) (restOf (fieldAt (drop from t)))
+    here-got = is-got (fieldAt (drop from t)) (here .value) (drop (here .place) t) (here .read)
+
+    pub here-room : to + length (valueOf (fieldAt (drop from t))) ≤ length out
+    here-room = omega (arith, ap length read-value, l .room, joined-split (l .values) (here .value) (here .others) (here .split))
+
+    pub here-place : length t - length (restOf (fieldAt (drop from t))) ≡ here .place
+    here-place = place-of t (fieldAt (drop from t)) (here .value) (here .place) (here .inside) (here .read)
+
+    pub left-next : (o : List ℕ) (place end : ℕ) → o ≡ sets out to (valueOf (fieldAt (drop from t))) → place ≡ length t - length (restOf (fieldAt (drop from t)))
+        → end ≡ to + length (valueOf (fieldAt (drop from t))) → length o ≡ length out → length (set ends k end) ≡ length ends → Left t out₀ ends₀ width o (set ends k end) (place + 1) end (k + 1)
+    left-next o place end e p q m n =
+        let f = here in
+        let z : place ≡ f .place = p ∙ here-place in
+        let y : end ≡ to + length (f .value) = q ∙ rw read-value in
+        let x : o ≡ sets out to (f .value) = e ∙ rw read-value in
+        let w = joined-split (l .values) (f .value) (f .others) (f .split) in
+        record {
+          values = f .others;
+          fields = rw z (f .left);
+          many = omega (arith, l .many, ap length (f .split));
+          same = m ∙ l .same;
+          alike = n ∙ l .alike;
+          room = omega (arith, y, w, l .room, m);
+          bytes = l .bytes ∙ rw (x, y) (sets-split out to (l .values) (f .value) (f .others) (f .split));
+          marks = l .marks ∙ rw y (ends-split ends k to (l .values) (f .value) (f .others) (f .split));
+        }
+
+  none-left : width ≤ k → l .values ≡ []
+  none-left h = go (l .values) (omega (arith, l .many))
+    where
+      go : (vs : List (List ℕ)) → length vs ≡ 0 → vs ≡ []
+      go [] e = refl
+      go (v ∷ vs) e = absurd (omega arith)
+
+  pub left-none : width ≤ k → (out ≡ sets out₀ 0 (joined (valuesOf (values width t)))) × (ends ≡ sets ends₀ 0 (endsOf 0 (valuesOf (values width t))))
+  unfolding joined endsOf
+  left-none h = (sym (l .bytes ∙ rw (none-left h)), sym (l .marks ∙ rw (none-left h)))

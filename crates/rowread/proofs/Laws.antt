@@ -1,0 +1,237 @@
+-- What a loop's turn does to what is left to read.
+use Prim.Native.Nat.{ℕ, zero, suc, _+_, _-_, _≤_, _<_}
+use native.Mathlib.Omega.{arith}
+use native.Mathlib.Decide.{decLt}
+use native.Mathlib.Numerals.{add-one}
+use native.Mathlib.Nat.{add-zero}
+use mathlib.Core.Bool.{Bool, true, false}
+use mathlib.Core.Path.{_≡_, refl, sym, ap, _∙_}
+use mathlib.Core.List.{List, [], _∷_, _++_}
+use lib.Dec.{eqb}
+use lib.ListN.{length, drop, getD, drop-of-length-le, length-drop, length-append, List·getD-eq-default}
+use lib.Seq.{drop-cons, getD-drop, drop-drop}
+use borrow.Author.Tests.{eq-eqb, ne-eqb, eqb-true}
+use Rattle.number.specs.Number.{pick}
+use Rattle.csv.specs.Csv.{isText}
+use Rattle.csv.specs.Read.{Got, got, bad, push, plainValue, plainRest, inner, closing, fieldAt, Row, row, malformed, front, rowEnd, ended, parted, next, values}
+use Rattle.csv.proofs.Places.{field-place}
+use Rattle.rowread.specs.declared.Piece.{Piece}
+use Rattle.rowread.specs.declared.Piece.the-variants.{Value, Bad}
+use Rattle.rowread.specs.declared.Scan.{Scan}
+use Rattle.rowread.specs.declared.Scan.the-variants.{Whole, Broken}
+use Rattle.rowread.specs.Stored.{joined}
+use Rattle.rowread.specs.Steps.{pieceOf, scanFrom, scanOf}
+
+-- ---- a value without quotes
+
+pub plain-out : (t : List ℕ) (i : ℕ) → length t ≤ i → i ≡ i + length (plainValue (drop i t))
+unfolding plainValue
+plain-out t i h = rw (drop-of-length-le t h) (omega arith)
+
+pub plain-stop : (t : List ℕ) (i : ℕ) → i < length t → isText (getD t i 0) ≡ false → i ≡ i + length (plainValue (drop i t))
+unfolding plainValue
+plain-stop t i h e = rw (drop-cons t i 0 h) (simp e (omega arith))
+
+pub plain-turn : (t : List ℕ) (i : ℕ) → i < length t → isText (getD t i 0) ≡ true → i + length (plainValue (drop i t)) ≡ i + 1 + length (plainValue (drop (i + 1) t))
+unfolding plainValue
+plain-turn t i h e = rw (add-one i, drop-cons t i 0 h) (simp e (omega arith))
+
+-- ---- a quoted value
+
+closing-yes : (bs : List ℕ) → getD bs 0 0 ≡ 34 → closing bs ≡ push 34 (inner (drop 1 bs))
+unfolding closing
+closing-yes [] h = absurd (omega arith)
+closing-yes (b ∷ bs) h = simp (eq-eqb b 34 h)
+
+closing-no : (bs : List ℕ) → (getD bs 0 0 ≡ 34 → ⊥) → closing bs ≡ got [] bs
+unfolding closing
+closing-no [] h = refl
+closing-no (b ∷ bs) h = simp (ne-eqb b 34 h)
+
+first : (t : List ℕ) (i : ℕ) → getD (drop i t) 0 0 ≡ getD t i 0
+first t i = rw (getD-drop i t 0 0, add-zero i)
+
+pub inner-out : (t : List ℕ) (i : ℕ) → length t ≤ i → inner (drop i t) ≡ bad
+unfolding inner
+inner-out t i h = rw (drop-of-length-le t h)
+
+pub inner-byte : (t : List ℕ) (i : ℕ) → i < length t → (getD t i 0 ≡ 34 → ⊥) → inner (drop i t) ≡ push (getD t i 0) (inner (drop (i + 1) t))
+unfolding inner
+inner-byte t i h e = rw (add-one i, drop-cons t i 0 h) (simp (ne-eqb (getD t i 0) 34 e))
+
+pub inner-quote : (t : List ℕ) (i : ℕ) → i < length t → getD t i 0 ≡ 34 → inner (drop i t) ≡ closing (drop (i + 1) t)
+unfolding inner
+inner-quote t i h e = rw (add-one i, drop-cons t i 0 h) (simp (eq-eqb (getD t i 0) 34 e))
+
+pub inner-twice : (t : List ℕ) (i : ℕ) → i < length t → getD t i 0 ≡ 34 → getD t (i + 1) 0 ≡ 34 → inner (drop i t) ≡ push 34 (inner (drop (i + 1 + 1) t))
+inner-twice t i h e k = inner-quote t i h e ∙ closing-yes (drop (i + 1) t) (first t (i + 1) ∙ k) ∙ rw (drop-drop 1 (i + 1) t)
+
+pub inner-close : (t : List ℕ) (i : ℕ) → i < length t → getD t i 0 ≡ 34 → (getD t (i + 1) 0 ≡ 34 → ⊥) → inner (drop i t) ≡ got [] (drop (i + 1) t)
+inner-close t i h e k = inner-quote t i h e ∙ closing-no (drop (i + 1) t) (λ q. k (sym (first t (i + 1)) ∙ q))
+
+abbrev pub add : ℕ → Piece → Piece
+add k (Value n s) = Value n (k + s)
+add k Bad = Bad
+
+pub add-zero-piece : (p : Piece) → p ≡ add 0 p
+add-zero-piece (Value n s) = ap (Value n) (omega arith)
+add-zero-piece Bad = refl
+
+pub add-push : (k n b : ℕ) (g : Got) → add k (pieceOf n (push b g)) ≡ add (k + 1) (pieceOf n g)
+add-push k n b (got v r) = ap (Value (n - length r)) (omega arith)
+add-push k n b bad = refl
+
+pub past : (t : List ℕ) (i b : ℕ) → getD t i 0 ≡ suc b → i < length t
+past t i b e = go (decLt i (length t))
+  where
+    go : Dec (i < length t) → i < length t
+    go (yes h) = h
+    go (no h) = absurd (let z : getD t i 0 ≡ 0 = List·getD-eq-default t 0 {n = i} (omega arith) in omega arith)
+
+pub closed : (t : List ℕ) (i k : ℕ) → i ≤ length t → Value i k ≡ add k (pieceOf (length t) (got [] (drop i t)))
+closed t i k h = rw (length-drop i t) (let e : length t - (length t - i) ≡ i = omega arith in rw e (ap (Value i) (omega arith)))
+
+pub turn-byte : (t : List ℕ) (i k : ℕ) → i < length t → (getD t i 0 ≡ 34 → ⊥) → add k (pieceOf (length t) (inner (drop i t))) ≡ add (k + 1) (pieceOf (length t) (inner (drop (i + 1) t)))
+turn-byte t i k h e = rw (inner-byte t i h e) (add-push k (length t) (getD t i 0) (inner (drop (i + 1) t)))
+
+pub turn-twice : (t : List ℕ) (i k : ℕ) → i < length t → getD t i 0 ≡ 34 → getD t (i + 1) 0 ≡ 34 → add k (pieceOf (length t) (inner (drop i t))) ≡ add (k + 1) (pieceOf (length t) (inner (drop (i + 1 + 1) t)))
+turn-twice t i k h e f = rw (inner-twice t i h e f) (add-push k (length t) 34 (inner (drop (i + 1 + 1) t)))
+
+pub turn-close : (t : List ℕ) (i k : ℕ) → i < length t → getD t i 0 ≡ 34 → (getD t (i + 1) 0 ≡ 34 → ⊥) → Value (i + 1) k ≡ add k (pieceOf (length t) (inner (drop i t)))
+turn-close t i k h e f = rw (inner-close t i h e f) (closed t (i + 1) k (omega arith))
+
+pub turn-out : (t : List ℕ) (i k : ℕ) → length t ≤ i → Bad ≡ add k (pieceOf (length t) (inner (drop i t)))
+turn-out t i k h = rw (inner-out t i h)
+
+-- ---- a row end
+
+pub end-yes : (t : List ℕ) (i : ℕ) → getD t i 0 ≡ 10 → 1 ≡ rowEnd (drop i t)
+unfolding rowEnd
+end-yes t i e = rw (first t i) (simp (eq-eqb (getD t i 0) 10 e))
+
+pub end-no : (t : List ℕ) (i : ℕ) → (getD t i 0 ≡ 10 → ⊥) → 0 ≡ rowEnd (drop i t)
+unfolding rowEnd
+end-no t i e = rw (first t i) (simp (ne-eqb (getD t i 0) 10 e))
+
+-- ---- a field
+
+pub plain-all : (bs : List ℕ) → plainValue bs ++ plainRest bs ≡ bs
+unfolding plainValue plainRest
+plain-all [] = refl
+plain-all (b ∷ bs) = go (isText b) (plain-all bs)
+  where
+    go : (q : Bool) → plainValue bs ++ plainRest bs ≡ bs → pick q (b ∷ plainValue bs) [] ++ pick q (plainRest bs) (b ∷ bs) ≡ b ∷ bs
+    go true e = ap (λ (l : List ℕ). b ∷ l) e
+    go false e = refl
+
+field-not : (bs : List ℕ) → (getD bs 0 0 ≡ 34 → ⊥) → fieldAt bs ≡ got (plainValue bs) (plainRest bs)
+unfolding fieldAt plainValue plainRest
+field-not [] h = refl
+field-not (b ∷ bs) h = simp (ne-eqb b 34 h)
+
+pub field-quote : (t : List ℕ) (i : ℕ) → getD t i 0 ≡ 34 → fieldAt (drop i t) ≡ inner (drop (i + 1) t)
+unfolding fieldAt
+field-quote t i e = rw (add-one i, drop-cons t i 0 (past t i 33 e)) (simp (eq-eqb (getD t i 0) 34 e))
+
+pub field-plain : (t : List ℕ) (i : ℕ) → (getD t i 0 ≡ 34 → ⊥) → fieldAt (drop i t) ≡ got (plainValue (drop i t)) (plainRest (drop i t))
+field-plain t i e = field-not (drop i t) (λ q. e (sym (first t i) ∙ q))
+
+pub plain-piece : (t : List ℕ) (i e : ℕ) → i ≤ length t → (getD t i 0 ≡ 34 → ⊥) → e ≡ i + length (plainValue (drop i t)) → Value e (e - i) ≡ pieceOf (length t) (fieldAt (drop i t))
+plain-piece t i e l h q =
+    let d : length (plainValue (drop i t)) + length (plainRest (drop i t)) ≡ length t - i = sym (length-append (plainValue (drop i t)) (plainRest (drop i t))) ∙ ap length (plain-all (drop i t)) ∙ length-drop i t in
+    let a : length t - length (plainRest (drop i t)) ≡ e = omega arith in
+    let b : length (plainValue (drop i t)) ≡ e - i = omega arith in
+    rw (field-plain t i h, a, b)
+
+-- ---- a row
+
+-- what a piece tells of the value
+pub record IsValue (t : List ℕ) (from to size : ℕ) : Type 0 where
+  pub value : List ℕ
+  pub read : fieldAt (drop from t) ≡ got value (drop to t)
+  pub sized : length value ≡ size
+  pub grows : from + size ≤ to
+  pub inside : to ≤ length t
+
+pub is-value : (t : List ℕ) (from to size : ℕ) → from ≤ length t → Value to size ≡ pieceOf (length t) (fieldAt (drop from t)) → IsValue t from to size
+is-value t from to size h e = go (fieldAt (drop from t)) refl e
+  where
+    go : (g : Got) → fieldAt (drop from t) ≡ g → Value to size ≡ pieceOf (length t) g → IsValue t from to size
+    go bad q p = absurd (let z : _≡_ {A = ℕ} 0 1 = cc in omega arith)
+    go (got v r) q p =
+        let w = field-place t from v r h q in
+        let a : to ≡ length t - length r = cc in
+        let b : length v ≡ size = cc in
+        record { value = v; read = rw a (q ∙ ap (got v) (w .0)); sized = b; grows = omega (arith, w .1); inside = omega (arith, w .2) }
+
+pub is-bad : (t : List ℕ) (from : ℕ) → Bad ≡ pieceOf (length t) (fieldAt (drop from t)) → fieldAt (drop from t) ≡ bad
+is-bad t from e = go (fieldAt (drop from t)) e
+  where
+    go : (g : Got) → Bad ≡ pieceOf (length t) g → g ≡ bad
+    go bad p = refl
+    go (got v r) p = absurd (let z : _≡_ {A = ℕ} 0 1 = cc in omega arith)
+
+values-bad : (n : ℕ) (bs : List ℕ) → fieldAt bs ≡ bad → values (suc n) bs ≡ malformed
+unfolding values
+values-bad zero bs e = simp e
+values-bad (suc n) bs e = simp e
+
+scan-front : (L s : ℕ) (v : List ℕ) (g : Row) → scanFrom L s (front v g) ≡ scanFrom L (s + length v) g
+unfolding joined
+scan-front L s v malformed = refl
+scan-front L s v (row vs r) =
+    let e : s + length (v ++ joined vs) ≡ s + length v + length (joined vs) = simp length-append (omega arith) in
+    rw e
+
+parted-yes : (t : List ℕ) (n to : ℕ) (v : List ℕ) → getD t to 0 ≡ 44 → parted (values n) v (drop to t) ≡ front v (values n (drop (to + 1) t))
+unfolding parted
+parted-yes t n to v e = rw (add-one to, drop-cons t to 0 (past t to 43 e)) (simp (eq-eqb (getD t to 0) 44 e))
+
+parted-no : (n : ℕ) (v bs : List ℕ) → (getD bs 0 0 ≡ 44 → ⊥) → parted (values n) v bs ≡ malformed
+unfolding parted
+parted-no n v [] e = refl
+parted-no n v (b ∷ bs) e = simp (ne-eqb b 44 e)
+
+-- a row of no values
+pub scan-none : (t : List ℕ) (width : ℕ) → width ≡ 0 → Broken ≡ scanOf width t
+unfolding scanOf values
+scan-none t width e = rw e
+
+-- m values are left to read, at least two
+module _ (t : List ℕ) (s from m n : ℕ) (left : m ≡ suc (suc n)) where
+  pub scan-turn : {to size : ℕ} → IsValue t from to size → getD t to 0 ≡ 44
+      → scanFrom (length t) s (values m (drop from t)) ≡ scanFrom (length t) (s + size) (values (suc n) (drop (to + 1) t))
+  unfolding values
+  scan-turn {to} {size} p e =
+      rw left (simp (p .read) (rw (parted-yes t (suc n) to (p .value) e) (scan-front (length t) s (p .value) (values (suc n) (drop (to + 1) t)) ∙ rw (p .sized))))
+
+  pub scan-no-comma : {to size : ℕ} → IsValue t from to size → (getD t to 0 ≡ 44 → ⊥) → Broken ≡ scanFrom (length t) s (values m (drop from t))
+  unfolding values
+  scan-no-comma {to} {size} p e = rw left (simp (p .read) (rw (parted-no (suc n) (p .value) (drop to t) (λ q. e (sym (first t to) ∙ q)))))
+
+pub scan-bad : (t : List ℕ) (s from m n : ℕ) → m ≡ suc n → fieldAt (drop from t) ≡ bad → Broken ≡ scanFrom (length t) s (values m (drop from t))
+scan-bad t s from m n left e = rw (left, values-bad n (drop from t) e)
+
+pub end-inside : (t : List ℕ) (to : ℕ) → (rowEnd (drop to t) ≡ 0 → ⊥) → to + rowEnd (drop to t) ≤ length t
+unfolding rowEnd
+end-inside t to h = rw (first t to) (go (eqb (getD t to 0) 10) refl (λ q. h (rw (first t to) q)))
+  where
+    go : (q : Bool) → eqb (getD t to 0) 10 ≡ q → (_≡_ {A = ℕ} (pick q 1 0) 0 → ⊥) → to + pick q 1 0 ≤ length t
+    go true e n = let p : to < length t = past t to 9 (eqb-true (getD t to 0) 10 e) in omega arith
+    go false e n = absurd (n refl)
+
+-- one value is left
+module _ (t : List ℕ) (s from to size : ℕ) (p : IsValue t from to size) where
+  pub scan-last : (e : ℕ) → e ≡ rowEnd (drop to t) → (e ≡ 0 → ⊥) → Whole (to + e) (s + size) ≡ scanFrom (length t) s (values 1 (drop from t))
+  unfolding values ended joined
+  scan-last e q h =
+      let n : rowEnd (drop to t) ≡ 0 → ⊥ = λ z. h (q ∙ z) in
+      let i : to + rowEnd (drop to t) ≤ length t = end-inside t to n in
+      let d : drop (rowEnd (drop to t)) (drop to t) ≡ drop (to + e) t = drop-drop (rowEnd (drop to t)) to t ∙ rw (← q) in
+      let m : length t - length (drop (to + e) t) ≡ to + e = rw (length-drop (to + e) t) (omega arith) in
+      let z : s + length (p .value ++ []) ≡ s + size = simp length-append (omega (arith, p .sized)) in
+      simp (p .read) (rw (ne-eqb (rowEnd (drop to t)) 0 n, d, m, z))
+
+  pub scan-no-end : rowEnd (drop to t) ≡ 0 → Broken ≡ scanFrom (length t) s (values 1 (drop from t))
+  unfolding values ended
+  scan-no-end h = simp (p .read) (rw (eq-eqb (rowEnd (drop to t)) 0 h))

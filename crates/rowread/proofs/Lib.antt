@@ -1,0 +1,4 @@
+pub mod Laws
+pub mod Copies
+pub mod Calls
+pub mod Table

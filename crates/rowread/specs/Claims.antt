@@ -1,0 +1,50 @@
+-- What is proved of the reading, beside the call's promise (proofs/Table.antt).
+use Prim.Native.Nat.{ℕ, _+_, _≤_}
+use mathlib.Core.Path.{_≡_}
+use mathlib.Core.List.{List, [], _∷_, _++_}
+use lib.ListN.{length, drop}
+use Rattle.csv.specs.Csv.{Record, maxRow}
+use Rattle.csv.specs.Write.{rowOf}
+use Rattle.rowread.specs.declared.ReadAnswer.the-variants.{Stored, End}
+use Rattle.rowread.specs.Stored.{valuesAt, joined, readAnswer}
+
+abbrev Text : Type 0
+Text = List ℕ
+
+-- a row of some values that the writer writes, and for which there is room
+pub record Fits (width room slots : ℕ) (vs : List Text) : Type 0 where
+  pub some : 1 ≤ width
+  pub wide : length vs ≡ width
+  pub short : length (rowOf vs) ≤ maxRow
+  pub bytes : length (joined vs) ≤ room
+  pub ends : width ≤ slots
+
+-- where a written row stands, whatever stands before and behind it, its values are read, and the place behind it (reads-written)
+abbrev pub ReadsWritten : Type 0
+ReadsWritten = (before behind : Text) (vs : List Text) (width room slots : ℕ) → Fits width room slots vs
+    → (readAnswer (before ++ (rowOf vs ++ behind)) width (length before) room slots ≡ Stored (length before + length (rowOf vs)) (length (joined vs)))
+    × (valuesAt (before ++ (rowOf vs ++ behind)) width (length before) ≡ vs)
+
+-- the rows of a table, one behind the other
+unfoldable pub tableOf : List (List Text) → Text
+tableOf [] = []
+tableOf (vs ∷ rows) = rowOf vs ++ tableOf rows
+
+-- from a place on, rows are read one by one, each where the one before it said, and then the table's end is met
+pub data Reads (table : Text) (width room slots : ℕ) : ℕ → List (List Text) → Type 0 where
+  atEnd : {place : ℕ} → readAnswer table width place room slots ≡ End → Reads table width room slots place []
+  onward : {place next size : ℕ} {vs : List Text} {rows : List (List Text)} → readAnswer table width place room slots ≡ Stored next size
+      → valuesAt table width place ≡ vs → Reads table width room slots next rows → Reads table width room slots place (vs ∷ rows)
+
+abbrev pub AllFit : ℕ → ℕ → ℕ → List (List Text) → Type 0
+AllFit width room slots [] = Unit {0}
+AllFit width room slots (vs ∷ rows) = Fits width room slots vs × AllFit width room slots rows
+
+-- a table of rows reads row by row to its end (reads-table)
+abbrev pub ReadsTable : Type 0
+ReadsTable = (width room slots : ℕ) (rows : List (List Text)) → AllFit width room slots rows → Reads (tableOf rows) width room slots 0 rows
+
+-- what is read as a row is one by the grammar, which has one reading (stored-is-a-row; csv's Claims: oneReading)
+abbrev pub StoredIsARow : Type 0
+StoredIsARow = (table : Text) (width place room slots next size : ℕ) → readAnswer table width place room slots ≡ Stored next size
+    → Record (drop place table) (valuesAt table width place) (drop next table)

@@ -1,0 +1,64 @@
+-- The call that reads a stored row: at a place of a table, a row of so many values.
+use Prim.Native.Nat.{ℕ, _+_, _-_}
+use lib.Dec.{eqb, leb}
+use mathlib.Core.List.{List, [], _∷_, _++_}
+use lib.ListN.{length, take, drop}
+use Rattle.number.specs.Number.{pick}
+use Rattle.leaf.specs.Bytes.{written}
+use Rattle.csv.specs.Csv.{maxRow}
+use Rattle.csv.specs.Read as Csv
+use Rattle.refusal.specs.declared.Refusal.the-variants.{Small, Row}
+use Rattle.rowread.specs.declared.ReadAnswer.{ReadAnswer}
+use Rattle.rowread.specs.declared.ReadAnswer.the-variants.{Stored, End, Refused}
+
+-- ---- the row
+
+-- the bytes among which a row may stand that starts at a place: one that goes on behind them is too long, and ends before its LF here
+abbrev pub partAt : List ℕ → ℕ → List ℕ
+partAt table place = take maxRow (drop place table)
+
+-- the row of so many values at a place
+abbrev pub rowAt : List ℕ → ℕ → ℕ → Csv.Row
+rowAt table width place = Csv.values width (partAt table place)
+
+-- the values of a row, none where there is no row
+abbrev pub valuesOf : Csv.Row → List (List ℕ)
+valuesOf (Csv.row vs rest) = vs
+valuesOf Csv.malformed = []
+
+abbrev pub valuesAt : List ℕ → ℕ → ℕ → List (List ℕ)
+valuesAt table width place = valuesOf (rowAt table width place)
+
+-- ---- what is handed out
+
+-- the values joined
+unfoldable pub joined : List (List ℕ) → List ℕ
+joined [] = []
+joined (v ∷ vs) = v ++ joined vs
+
+-- where each value ends among the values joined, the first starting at `from`
+unfoldable pub endsOf : ℕ → List (List ℕ) → List ℕ
+endsOf from [] = []
+endsOf from (v ∷ vs) = (from + length v) ∷ endsOf (from + length v) vs
+
+-- a row read within n bytes from a place on: 14 where it is malformed; then 9 where the values joined, or their ends, don't fit; else
+-- the place behind the row, and how many bytes the values have
+abbrev pub found : ℕ → ℕ → ℕ → ℕ → Csv.Row → ReadAnswer
+found place n room slots Csv.malformed = Refused Row
+found place n room slots (Csv.row vs rest) =
+    pick (leb (length (joined vs)) room)
+    (pick (leb (length vs) slots) (Stored (place + (n - length rest)) (length (joined vs))) (Refused Small))
+    (Refused Small)
+
+-- the answer: 14 past the table's end; no row at its end; else what is found
+unfoldable pub readAnswer : List ℕ → ℕ → ℕ → ℕ → ℕ → ReadAnswer
+readAnswer table width place room slots =
+    pick (leb place (length table))
+    (pick (eqb place (length table)) End (found place (length (partAt table place)) room slots (rowAt table width place)))
+    (Refused Row)
+
+-- a lent output after the call: where a row was read, what is handed out at its start, and past that as before; else as before
+abbrev pub after : ReadAnswer → List ℕ → List ℕ → List ℕ
+after (Stored next size) new out = written out 0 new
+after End new out = out
+after (Refused r) new out = out
