@@ -5,10 +5,10 @@ use native.Mathlib.Omega.{arith}
 use mathlib.Core.Bool.{Bool, true, false, not, _||_, true≢false}
 use Rattle.number.specs.Number.{pick}
 use borrow.Author.Tests.{eqb-true}
-use mathlib.Core.Path.{_≡_, refl, sym, ap, _∙_}
+use mathlib.Core.Path.{_≡_, refl, sym, ap}
 use mathlib.Core.List.{List, [], _∷_, _++_, append-assoc}
 use lib.ListN.{length, drop}
-use Rattle.csv.specs.Csv.{isText, NonEscaped, none, text, Inner, close, byte, twice, Field, escaped, nonEscaped, RowEnd, lf, Record, last, more}
+use Rattle.csv.specs.Csv.{isText, NonEscaped, none, text, Inner, close, byte, twice, Field, escaped, nonEscaped, lf, Record, last, more}
 use Rattle.csv.specs.Write.{special, anySpecial, doubled, fieldOf, rowOf}
 use Rattle.csv.specs.Read.{Got, got, bad, push, plainValue, plainRest, inner, closing, fieldAt, Row, row, malformed, front, rowEnd, ended, parted, next, values}
 

@@ -1,9 +1,8 @@
 -- A row as it is read. It reads the grammar, no more and no less (specs/Claims.antt: sound, complete).
 use Prim.Native.Nat.{ℕ, zero, suc}
 use lib.Dec.{eqb}
-use mathlib.Core.Bool.{Bool, true, false}
 use Rattle.number.specs.Number.{pick}
-use mathlib.Core.List.{List, [], _∷_, _++_}
+use mathlib.Core.List.{List, [], _∷_}
 use lib.ListN.{getD, drop}
 use Rattle.csv.specs.Csv.{isText}
 

@@ -1,7 +1,7 @@
 -- A row as it is written. It is in the grammar (specs/Claims.antt: written).
 use Prim.Native.Nat.{ℕ}
 use lib.Dec.{eqb}
-use mathlib.Core.Bool.{Bool, true, false, _||_}
+use mathlib.Core.Bool.{Bool, false, _||_}
 use Rattle.number.specs.Number.{pick}
 use mathlib.Core.List.{List, [], _∷_, _++_}
 

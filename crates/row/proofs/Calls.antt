@@ -1,14 +1,11 @@
 -- The calls' answers, one lemma a case.
-use Prim.Native.Nat.{ℕ, zero, suc, _+_, _-_, _≤_, _<_, min}
+use Prim.Native.Nat.{ℕ, _≤_, _<_, min}
 use native.Mathlib.Omega.{arith}
 use mathlib.Core.Path.{_≡_, refl, sym, ap, _∙_}
 use mathlib.Core.List.{List}
-use lib.Dec.{eqb, leb}
 use lib.ListN.{length}
 use lib.Seq.{sets}
 use borrow.Author.Tests.{eq-eqb, ne-eqb, le-leb, lt-leb}
-use Rattle.number.specs.Number.{pick}
-use Rattle.leaf.specs.Bytes.{written}
 use Rattle.leaf.proofs.Laws.{written-sets}
 use Rattle.csv.specs.Csv.{maxRow}
 use Rattle.csv.specs.Write.{rowOf}

@@ -2,10 +2,10 @@
 use Prim.Native.Nat.{ℕ, zero, suc, _+_, _-_, _≤_, _<_}
 use native.Mathlib.Omega.{arith}
 use native.Mathlib.Decide.{decLt}
-use mathlib.Core.Path.{_≡_, refl, sym, ap, _∙_}
+use mathlib.Core.Path.{_≡_, refl, sym, ap}
 use mathlib.Core.List.{List, [], _∷_}
 use lib.ListN.{length, take, drop, getD, List·getD-eq-default}
-use Rattle.csv.specs.Write.{special, anySpecial, doubled, fieldOf, rowOf}
+use Rattle.csv.specs.Write.{special, anySpecial, fieldOf, rowOf}
 use Rattle.row.specs.Columns.{columns, columnsOf, columnCount, line, namesLine}
 use Rattle.row.specs.Steps.{lines, allLines}
 use Rattle.row.specs.Claims.{NamesAreARow}

@@ -1,5 +1,5 @@
 -- What is proved of the columns beyond the calls' promises (proofs/Names.antt).
-use Prim.Native.Nat.{ℕ, _≤_}
+use Prim.Native.Nat.{ℕ}
 use mathlib.Core.Path.{_≡_}
 use Rattle.csv.specs.Write.{rowOf}
 use Rattle.row.specs.Columns.{columnsOf, namesLine}

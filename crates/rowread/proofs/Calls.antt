@@ -3,17 +3,14 @@ use Prim.Native.Nat.{ℕ, _+_, _-_, _≤_, _<_, min}
 use native.Mathlib.Omega.{arith}
 use native.Mathlib.Decide.{decLt}
 use mathlib.Core.Path.{_≡_, refl, sym, ap, _∙_}
-use mathlib.Core.List.{List, [], _∷_, _++_}
-use lib.Dec.{eqb, leb}
+use mathlib.Core.List.{List, [], _∷_}
 use lib.ListN.{length, take, drop, length-drop}
 use lib.Seq.{sets, take-all}
 use borrow.Author.Tests.{lt-leb, le-leb, eq-eqb, ne-eqb}
-use Rattle.leaf.specs.Bytes.{written}
 use Rattle.leaf.proofs.Laws.{written-sets}
 use Rattle.csv.specs.Read as Csv
 use Rattle.csv.proofs.Grammar.{sound}
 use Rattle.refusal.specs.declared.Refusal.the-variants.{Small, Row}
-use Rattle.rowread.specs.declared.Scan.{Scan}
 use Rattle.rowread.specs.declared.Scan.the-variants.{Whole, Broken}
 use Rattle.rowread.specs.declared.ReadAnswer.{ReadAnswer}
 use Rattle.rowread.specs.declared.ReadAnswer.the-variants.{Stored, End, Refused}

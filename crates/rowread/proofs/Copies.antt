@@ -1,14 +1,14 @@
 -- What a turn of a loop that copies does to what is left to copy.
-use Prim.Native.Nat.{ℕ, zero, suc, _+_, _-_, _≤_, _<_}
+use Prim.Native.Nat.{ℕ, _+_, _-_, _≤_, _<_}
 use native.Mathlib.Omega.{arith}
 use native.Mathlib.Decide.{decLt}
 use native.Mathlib.Numerals.{add-one}
 use mathlib.Core.Path.{_≡_, refl, sym, ap, _∙_}
 use mathlib.Core.Bool.{true, false}
-use mathlib.Core.List.{List, [], _∷_, _++_}
+use mathlib.Core.List.{List, [], _∷_}
 use lib.ListN.{length, drop, getD, set, drop-of-length-le, length-drop, length-append}
 use lib.Seq.{sets, drop-cons, drop-drop}
-use Rattle.csv.specs.Csv.{isText, RowEnd, lf, Record, last, more}
+use Rattle.csv.specs.Csv.{isText, lf, Record, last, more}
 use Rattle.csv.specs.Read.{plainValue, plainRest, Got, got, bad, push, inner, fieldAt, Row, row, malformed, values}
 use Rattle.csv.proofs.Grammar.{field-complete, comma-stops, lf-stops, sound}
 use Rattle.csv.proofs.Laws.{sets-append}

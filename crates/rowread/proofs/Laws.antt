@@ -13,11 +13,10 @@ use lib.Seq.{drop-cons, getD-drop, drop-drop}
 use borrow.Author.Tests.{eq-eqb, ne-eqb, eqb-true}
 use Rattle.number.specs.Number.{pick}
 use Rattle.csv.specs.Csv.{isText}
-use Rattle.csv.specs.Read.{Got, got, bad, push, plainValue, plainRest, inner, closing, fieldAt, Row, row, malformed, front, rowEnd, ended, parted, next, values}
+use Rattle.csv.specs.Read.{Got, got, bad, push, plainValue, plainRest, inner, closing, fieldAt, Row, row, malformed, front, rowEnd, ended, parted, values}
 use Rattle.csv.proofs.Places.{field-place}
 use Rattle.rowread.specs.declared.Piece.{Piece}
 use Rattle.rowread.specs.declared.Piece.the-variants.{Value, Bad}
-use Rattle.rowread.specs.declared.Scan.{Scan}
 use Rattle.rowread.specs.declared.Scan.the-variants.{Whole, Broken}
 use Rattle.rowread.specs.Stored.{joined}
 use Rattle.rowread.specs.Steps.{pieceOf, scanFrom, scanOf}

@@ -1,11 +1,11 @@
 -- The claims: what was written is read, row by row to the table's end; what is read is a row.
-use Prim.Native.Nat.{ℕ, zero, suc, _+_, _-_, _≤_, _<_}
+use Prim.Native.Nat.{ℕ, _+_, _-_, _≤_}
 use native.Mathlib.Omega.{arith}
 use mathlib.Core.Bool.{Bool, true, false}
 use mathlib.Core.Path.{_≡_, refl, sym, ap, _∙_}
 use mathlib.Core.List.{List, [], _∷_, _++_, append-assoc, append-nil}
 use lib.Dec.{eqb, leb}
-use lib.ListN.{length, take, drop, length-append, length-drop, take-append-drop}
+use lib.ListN.{length, take, drop, length-append, take-append-drop}
 use lib.Seq.{take-append-add, drop-append-seam, drop-drop}
 use borrow.Author.Tests.{le-leb, eq-eqb, ne-eqb}
 use Rattle.number.specs.Number.{pick}
@@ -15,10 +15,9 @@ use Rattle.csv.specs.Read as Csv
 use Rattle.csv.proofs.Grammar.{read-back, sound}
 use Rattle.csv.proofs.Frame.{frame}
 use Rattle.refusal.specs.declared.Refusal.the-variants.{Small, Row}
-use Rattle.rowread.specs.declared.ReadAnswer.{ReadAnswer}
 use Rattle.rowread.specs.declared.ReadAnswer.the-variants.{Stored, End, Refused}
 use Rattle.rowread.specs.Stored.{partAt, rowAt, valuesOf, valuesAt, joined, found, readAnswer}
-use Rattle.rowread.specs.Claims.{Fits, ReadsWritten, tableOf, Reads, atEnd, onward, AllFit, ReadsTable, StoredIsARow}
+use Rattle.rowread.specs.Claims.{ReadsWritten, tableOf, Reads, atEnd, onward, AllFit, ReadsTable, StoredIsARow}
 
 abbrev Text : Type 0
 Text = List ℕ

@@ -1,7 +1,7 @@
 -- What the private functions promise each other. Nothing here says what a row is.
 use Prim.Native.Nat.{ℕ, _+_, _-_}
 use mathlib.Core.Path.{_≡_}
-use mathlib.Core.List.{List, [], _∷_}
+use mathlib.Core.List.{List, []}
 use lib.ListN.{length}
 use Rattle.csv.specs.Read.{Got, got, bad, Row, row, malformed, values}
 use Rattle.rowread.specs.declared.Piece.{Piece}

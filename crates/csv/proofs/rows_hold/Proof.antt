@@ -1,4 +1,3 @@
-use mathlib.Core.Path.{_≡_}
 use Rattle.csv.specs.Claims.{Claims}
 use Rattle.csv.proofs.Grammar.{writes, sound, complete, read-back, one-reading}
 use Rattle.csv.proofs.Frame.{row-in-front, front-in-row}

@@ -1,9 +1,6 @@
-use mathlib.Core.Path.{_≡_, refl, sym, ap, _∙_}
-use Prim.Native.Nat.{ℕ, suc, _≤_, _<_, _-_, _+_}
+use mathlib.Core.Path.{sym, ap, _∙_}
 use native.Mathlib.Omega.{arith}
-use lib.ListN.{length, drop, getD, set, length-set}
-use lib.Seq.{sets, length-sets}
-use Rattle.csv.specs.Write.{anySpecial, doubled, fieldOf, rowOf}
+use lib.ListN.{length}
 use Rattle.row.proofs.Laws.{quoted-size, field-same, doubled-most}
 use borrow.Author.Needs.{needs}
 use Rattle.row.proofs.field_size.Statement.{statement}

@@ -1,8 +1,5 @@
-use mathlib.Core.Path.{_≡_, refl, sym, ap, _∙_}
-use Prim.Native.Nat.{_≤_}
+use mathlib.Core.Path.{sym, _∙_}
 use native.Mathlib.Omega.{arith}
-use lib.ListN.{length}
-use Rattle.row.specs.Columns.{columnCount}
 use Rattle.row.proofs.Names.{count-most}
 use Rattle.row.proofs.Calls.{row-past, row-count, row-long, row-room, row-fits}
 use borrow.Author.Needs.{needs}

@@ -1,12 +1,10 @@
-use mathlib.Core.Path.{_≡_, refl, sym, ap, _∙_}
+use mathlib.Core.Path.{_≡_, refl, _∙_}
 use mathlib.Core.List.{List}
-use Prim.Native.Nat.{ℕ, suc, _≤_, _<_, _-_, _+_}
+use Prim.Native.Nat.{ℕ, _≤_, _<_, _-_, _+_}
 use native.Mathlib.Omega.{arith}
-use lib.ListN.{length, take, drop, getD, set, length-set}
-use lib.Seq.{sets, length-sets}
-use Rattle.csv.specs.Write.{fieldOf, rowOf, behind}
+use lib.ListN.{length, take, drop, length-set}
+use Rattle.csv.specs.Write.{rowOf}
 use Rattle.row.specs.Write.{handed}
-use Rattle.row.specs.Steps.{Sizes}
 use borrow.Author.Needs.{needs}
 use Rattle.row.proofs.Laws.{left, left-turn, left-none, size-turn, value-size, none-size, field-less, field-bound, Known, known-start, known-turn, known-end}
 use Rattle.row.proofs.row_size.Statement.{statement}

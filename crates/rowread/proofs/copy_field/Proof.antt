@@ -1,10 +1,10 @@
-use mathlib.Core.Path.{_≡_, refl, sym, ap, _∙_}
-use Prim.Native.Nat.{ℕ, suc, _≤_, _<_, _-_, _+_}
+use mathlib.Core.Path.{_≡_, sym, ap, _∙_}
+use Prim.Native.Nat.{_+_}
 use native.Mathlib.Omega.{arith}
-use lib.ListN.{length, drop, getD, set, length-set}
-use lib.Seq.{sets, length-sets}
-use Rattle.csv.specs.Read.{plainValue, fieldAt, Got}
-use Rattle.rowread.specs.Steps.{valueOf, restOf}
+use lib.ListN.{length, getD}
+use lib.Seq.{sets}
+use Rattle.csv.specs.Read.{Got}
+use Rattle.rowread.specs.Steps.{valueOf}
 use Rattle.rowread.proofs.Laws.{past, field-quote, field-plain}
 use Rattle.rowread.proofs.Copies.{plain-place}
 use borrow.Author.Needs.{needs}

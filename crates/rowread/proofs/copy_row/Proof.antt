@@ -1,11 +1,11 @@
-use mathlib.Core.Path.{_≡_, refl, sym, ap, _∙_}
-use Prim.Native.Nat.{ℕ, suc, _≤_, _<_, _-_, _+_}
+use mathlib.Core.Path.{ap, _∙_}
+use Prim.Native.Nat.{_≤_, _<_, _-_}
 use native.Mathlib.Omega.{arith}
 use borrow.Author.Needs.{needs}
-use lib.ListN.{length, drop, getD, set, length-set}
-use lib.Seq.{sets, length-sets}
+use lib.ListN.{length, drop, length-set}
+use lib.Seq.{length-sets}
 use Rattle.csv.specs.Read.{fieldAt}
-use Rattle.rowread.specs.Steps.{valueOf, restOf}
+use Rattle.rowread.specs.Steps.{valueOf}
 use Rattle.rowread.proofs.Copies.{Left, left-all, left-next, left-none, here, here-got, here-room, here-place}
 use Rattle.rowread.proofs.copy_row.Statement.{statement}
 use Rattle.rowread.proofs.copy_row.Tie as tie

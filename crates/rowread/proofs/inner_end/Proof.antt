@@ -1,11 +1,11 @@
-use mathlib.Core.Path.{_≡_, refl, ap, sym, _∙_}
+use mathlib.Core.Path.{_≡_, sym, _∙_}
 use mathlib.Core.Logic.{⊎-elim}
-use Prim.Native.Nat.{ℕ, _≤_, _-_, _+_, _<_}
+use Prim.Native.Nat.{_≤_, _-_, _+_, _<_}
 use native.Mathlib.Omega.{arith}
 use lib.ListN.{length, drop, getD}
 use Rattle.csv.specs.Read.{inner}
 use Rattle.rowread.specs.Steps.{pieceOf}
-use Rattle.rowread.proofs.Laws.{add, add-push, add-zero-piece, turn-byte, turn-twice, turn-close, turn-out, past}
+use Rattle.rowread.proofs.Laws.{add, add-zero-piece, turn-byte, turn-twice, turn-close, turn-out, past}
 use borrow.Author.Needs.{needs}
 use Rattle.rowread.proofs.inner_end.Statement.{statement}
 use Rattle.rowread.proofs.inner_end.Tie as tie

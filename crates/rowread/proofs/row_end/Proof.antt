@@ -1,5 +1,5 @@
 use Rattle.rowread.proofs.Laws.{end-yes, end-no}
-use mathlib.Core.Path.{_≡_, sym, _∙_}
+use mathlib.Core.Path.{sym, _∙_}
 use borrow.Author.Needs.{needs}
 use Rattle.rowread.proofs.row_end.Statement.{statement}
 use Rattle.rowread.proofs.row_end.Tie as tie

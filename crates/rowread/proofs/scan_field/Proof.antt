@@ -1,4 +1,4 @@
-use mathlib.Core.Path.{_≡_, sym, ap, _∙_}
+use mathlib.Core.Path.{sym, ap, _∙_}
 use lib.ListN.{length}
 use Rattle.rowread.specs.Steps.{pieceOf}
 use Rattle.rowread.proofs.Laws.{past, field-quote, plain-piece}

@@ -1,9 +1,8 @@
-use mathlib.Core.Path.{_≡_, refl, sym, ap, _∙_}
-use Prim.Native.Nat.{ℕ, suc, _≤_, _<_, _-_, _+_}
+use mathlib.Core.Path.{_≡_, sym, _∙_}
+use Prim.Native.Nat.{suc, _≤_, _<_, _-_, _+_}
 use native.Mathlib.Omega.{arith}
 use borrow.Author.Needs.{needs}
-use lib.ListN.{length, drop, getD, set, length-set}
-use lib.Seq.{sets}
+use lib.ListN.{length, drop, getD}
 use Rattle.csv.specs.Read.{values}
 use Rattle.rowread.specs.Steps.{scanOf, scanFrom}
 use Rattle.rowread.proofs.Laws.{IsValue, is-value, is-bad, scan-none, scan-turn, scan-no-comma, scan-bad, scan-last, scan-no-end, end-inside, past}
