@@ -2,9 +2,10 @@
 use mathlib.Core.Path.{_≡_, refl, sym, ap, ap₂, _∙_, subst}
 use mathlib.Core.Bool.{Bool, true, false}
 use mathlib.Core.List.{List, [], _∷_, _++_}
-use Prim.Native.Nat.{ℕ, zero, suc, _+_, _*_, _/_, _%_, _^_, _<_, _≤_}
+use Prim.Native.Nat.{ℕ, zero, suc, _+_, _*_, _/_, _%_, _^_, _<_, _≤_, zero-le}
 use native.Mathlib.Nat.{mod-lt, mod-eq-of-lt, mul-zero, zero-add, mul-suc, add-assoc, add-comm, le-of-suc-le-suc, not-suc-le-zero}
 use native.Mathlib.Omega.{arith}
+use lib.Arith.{lt-of-le-ne}
 use lib.Dec.{T, eqb, eqb→eq}
 use lib.Pow.{pow-pos, shr-shr, shr-lt, shr-mod}
 use lib.Bits.{bitXor, xor-comm, xor-zero-r, xor-shr}
@@ -109,3 +110,17 @@ byte-steps crc b h =
     ∙ steps-split 4 4 (bitXor crc b)
     ∙ ap (bitXor (steps 8 (bitXor crc b % 16)))
     (steps-split 4 0 (bitXor crc b / 2 ^ 4) ∙ ap (bitXor (steps 4 (bitXor crc b / 2 ^ 4 % 16))) (shr-shr (bitXor crc b) 4 4)))
+
+-- a number below 16 that is none of 0 to 14: what the last arm of a match on a nibble knows
+abbrev Except : ℕ → ℕ → Type 0
+Except n zero = Unit
+Except n (suc k) = Except n k × (n ≡ k → ⊥)
+
+from-there : (k n : ℕ) → Except n k → k ≤ n
+from-there zero n r = zero-le
+from-there (suc k) n r = lt-of-le-ne (from-there k n (r .0)) (λ e. r .1 (sym e))
+
+pub fifteen : (n : ℕ) → n < 16 → Except n 15 → n ≡ 15
+fifteen n h r =
+    let l : 15 ≤ n = from-there 15 n r in
+    omega arith

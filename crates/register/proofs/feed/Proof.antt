@@ -5,9 +5,8 @@ use borrow.Author.Needs.{needs}
 use Rattle.register.proofs.feed.Statement.{statement}
 use Rattle.register.proofs.feed.Tie as tie
 
-rest-requires : tie.Need-rest-requires
-unfolding nibbles follows steps step
-rest-requires c κs = (table _ tt refl, search needs)
+short-requires : tie.Need-short-requires
+short-requires c κs = search needs
 
 returns : tie.Need-returns
 returns c = search needs
@@ -29,4 +28,4 @@ returns-3 c = search needs
 pub feed-spec : {M : Type 1} → statement M
 feed-spec =
     tie.close
-    (tie.spec rest-requires returns feed-near-requires returns-2 feed-far-requires returns-3)
+    (tie.spec short-requires returns feed-near-requires returns-2 feed-far-requires returns-3)
