@@ -4,7 +4,7 @@ use native.Mathlib.Omega.{arith}
 use native.Mathlib.Decide.{decLt}
 use native.Mathlib.Numerals.{add-one}
 use native.Mathlib.Nat.{add-zero, add-suc}
-use mathlib.Core.Bool.{Bool, true, false, _||_}
+use mathlib.Core.Bool.{Bool, true, false}
 use mathlib.Core.Path.{_≡_, refl, sym, ap, _∙_}
 use mathlib.Core.List.{List, [], _∷_, _++_}
 use lib.Dec.{eqb}
@@ -30,21 +30,17 @@ copy-end out to i v h = rw (drop-of-length-le v h)
 
 -- ---- a value
 
-or-false : (a : Bool) → (a || false) ≡ a
-or-false true = refl
-or-false false = refl
-
-or-assoc : (a b c : Bool) → ((a || b) || c) ≡ (a || (b || c))
-or-assoc true b c = refl
-or-assoc false b c = refl
-
-pub any-turn : (v : List ℕ) (i : ℕ) (any : Bool) → i < length v → (any || anySpecial (drop i v)) ≡ ((any || special (getD v i 0)) || anySpecial (drop (i + 1) v))
+pub any-yes : (v : List ℕ) (i : ℕ) → i < length v → special (getD v i 0) ≡ true → true ≡ anySpecial (drop i v)
 unfolding anySpecial
-any-turn v i any h = rw (add-one i, drop-cons v i 0 h) (sym (or-assoc any (special (getD v i 0)) (anySpecial (drop (suc i) v))))
+any-yes v i h e = rw (drop-cons v i 0 h) (simp e)
 
-pub any-out : (v : List ℕ) (i : ℕ) (any : Bool) → length v ≤ i → any ≡ (any || anySpecial (drop i v))
+pub any-turn : (v : List ℕ) (i : ℕ) → i < length v → special (getD v i 0) ≡ false → anySpecial (drop i v) ≡ anySpecial (drop (i + 1) v)
 unfolding anySpecial
-any-out v i any h = rw (drop-of-length-le v h) (sym (or-false any))
+any-turn v i h e = rw (add-one i, drop-cons v i 0 h) (simp e)
+
+pub any-out : (v : List ℕ) (i : ℕ) → length v ≤ i → false ≡ anySpecial (drop i v)
+unfolding anySpecial
+any-out v i h = rw (drop-of-length-le v h)
 
 pub doubled-quote : (v : List ℕ) (i : ℕ) → i < length v → getD v i 0 ≡ 34 → doubled (drop i v) ≡ 34 ∷ getD v i 0 ∷ doubled (drop (i + 1) v)
 unfolding doubled
@@ -66,6 +62,16 @@ doubled-less (b ∷ v) = go (eqb b 34) (doubled-less v)
     go : (t : Bool) → length v ≤ length (doubled v) → suc (length v) ≤ length (pick t (34 ∷ 34 ∷ doubled v) (b ∷ doubled v))
     go true h = omega arith
     go false h = omega arith
+
+-- a value that takes no more room with its quotes doubled has none
+pub doubled-same : (v : List ℕ) → length (doubled v) ≡ length v → doubled v ≡ v
+unfolding doubled
+doubled-same [] e = refl
+doubled-same (b ∷ v) e = go (eqb b 34) (doubled-same v) e
+  where
+    go : (t : Bool) → (length (doubled v) ≡ length v → doubled v ≡ v) → length (pick t (34 ∷ 34 ∷ doubled v) (b ∷ doubled v)) ≡ suc (length v) → pick t (34 ∷ 34 ∷ doubled v) (b ∷ doubled v) ≡ b ∷ v
+    go true f h = absurd (omega (arith, doubled-less v))
+    go false f h = ap (λ (l : List ℕ). b ∷ l) (f (omega arith))
 
 pub field-quoted : (v : List ℕ) → anySpecial v ≡ true → fieldOf v ≡ 34 ∷ doubled v ++ (34 ∷ [])
 unfolding fieldOf

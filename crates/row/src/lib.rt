@@ -82,17 +82,18 @@ fn is_special(b: u8) -> bool
     (b == 34) | ((b == 44) | ((b == 13) | (b == 10)))
 }
 
-// Whether a value is quoted. No way out of the loop, so that many bytes are looked at at once.
+// Whether a value is quoted.
 fn any_special(v: &[u8]) -> bool
     ensures { λ r. ⌜ r ≡ anySpecial (now (v .entry)) ⌝ }
 {
-    let mut any = false;
     let mut i: usize = 0;
     while i < v.len() {
-        any = any | is_special(v[i]);
+        if is_special(v[i]) {
+            return true;
+        }
         i += 1;
     }
-    any
+    false
 }
 
 // How many bytes a value has with its quotes doubled.
@@ -112,10 +113,10 @@ fn doubled_size(v: &[u8]) -> usize
     n
 }
 
-// A value with its quotes doubled, into out from a place on; the place behind it.
-fn put_doubled(v: &[u8], out: &mut [u8], to: usize) -> usize
+// A value with its quotes doubled, into out from a place on.
+fn put_doubled(v: &[u8], out: &mut [u8], to: usize)
     requires { ⌜ to + length (doubled (now v)) ≤ length (now out) ⌝ }
-    ensures { λ r. ⌜ (now (out .exit) ≡ sets (now (out .entry)) to (doubled (now (v .entry)))) × (r ≡ to + length (doubled (now (v .entry)))) ⌝ }
+    ensures { λ _. ⌜ now (out .exit) ≡ sets (now (out .entry)) to (doubled (now (v .entry))) ⌝ }
 {
     let mut n = to;
     let mut i: usize = 0;
@@ -129,7 +130,18 @@ fn put_doubled(v: &[u8], out: &mut [u8], to: usize) -> usize
         n += 1;
         i += 1;
     }
-    n
+}
+
+// The same, with how many bytes it takes: a value without quotes is copied as it is.
+fn put_inner(v: &[u8], size: usize, out: &mut [u8], to: usize)
+    requires { ⌜ (size ≡ length (doubled (now v))) × (to + size ≤ length (now out)) ⌝ }
+    ensures { λ _. ⌜ now (out .exit) ≡ sets (now (out .entry)) to (doubled (now (v .entry))) ⌝ }
+{
+    if size == v.len() {
+        copy(v, out, to);
+        return;
+    }
+    put_doubled(v, out, to);
 }
 
 // How many bytes a value has whose length is n: at most what is left.
@@ -161,8 +173,8 @@ fn put_field(v: &[u8], size: usize, out: &mut [u8], to: usize)
         return;
     }
     out[to] = 34;
-    let n = put_doubled(v, out, to + 1);
-    out[n] = 34;
+    put_inner(v, size - 2, out, to + 1);
+    out[to + size - 1] = 34;
 }
 
 // The row's size, or 8,193 for any above 8,192, with the sizes of its fields.

@@ -94,12 +94,9 @@ same-length c = c .before .loop .inv .1
 
 returns : tie.Need-returns Inv-loop μ-loop
 returns c =
-    let a = c .before .before .args in
-    let p = c .before .before .pre in
     let l = c .before .loop in
-    let v = a .v .now in
-    let q = doubled-out v (l .i) (search needs) in
-    (sym (l .inv .3 ∙ rw q), omega (arith, l .inv .2, ap length q))
+    let q = doubled-out (c .before .before .args .v .now) (l .i) (search needs) in
+    sym (l .inv .3 ∙ rw q)
 
 pub put-doubled-spec : {M : Type 1} → statement M
 put-doubled-spec =

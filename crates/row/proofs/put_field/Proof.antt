@@ -1,6 +1,6 @@
 use mathlib.Core.Path.{_≡_, sym, ap, _∙_}
 use mathlib.Core.Bool.{true}
-use Prim.Native.Nat.{_+_}
+use Prim.Native.Nat.{_+_, _-_}
 use native.Mathlib.Omega.{arith}
 use lib.ListN.{length, set, length-set}
 use lib.Seq.{sets, length-sets}
@@ -9,6 +9,10 @@ use Rattle.row.proofs.Laws.{field-plain, field-special, quoted-size, qu
 use borrow.Author.Needs.{needs}
 use Rattle.row.proofs.put_field.Statement.{statement}
 use Rattle.row.proofs.put_field.Tie as tie
+use Rattle.row.proofs.put_field.Reads as reads
+use Rattle.row.proofs.put_field.Lts as lts
+use Rattle.row.proofs.copy.Reads as copy-reads
+use Rattle.row.proofs.put_inner.Reads as put-inner-reads
 
 copy-requires : tie.Need-copy-requires
 copy-requires c κs = search needs
@@ -30,16 +34,35 @@ slice-write-out c =
     let z = quoted-size (a .v .now) q in
     omega arith
 
-add-put-doubled : tie.Need-add-put-doubled
-add-put-doubled c = search needs
+sub-put-inner : tie.Need-sub-put-inner
+sub-put-inner c =
+    let a = c .before .before .before .args in
+    let p = c .before .before .before .pre in
+    let q : anySpecial (a .v .now) ≡ true = field-special (a .v .now) (λ e. c .if1 .left (p .0 ∙ e)) in
+    let z = quoted-size (a .v .now) q in
+    omega arith
 
-put-doubled-requires : tie.Need-put-doubled-requires
-put-doubled-requires c κs =
+add-put-inner : tie.Need-add-put-inner
+add-put-inner c = search needs
+
+put-inner-requires : tie.Need-put-inner-requires
+put-inner-requires c κs =
     let a = c .before .before .before .before .args in
     let p = c .before .before .before .before .pre in
     let q : anySpecial (a .v .now) ≡ true = field-special (a .v .now) (λ e. c .before .if1 .left (p .0 ∙ e)) in
     let z = quoted-size (a .v .now) q in
-    omega (arith, length-set (a .out .now) (a .to) 34)
+    (omega arith, omega (arith, length-set (a .out .now) (a .to) 34))
+
+add-out : tie.Need-add-out
+add-out c = search needs
+
+sub-out : tie.Need-sub-out
+sub-out c =
+    let a = c .before .before .before .before .before .before .before .args in
+    let p = c .before .before .before .before .before .before .before .pre in
+    let q : anySpecial (a .v .now) ≡ true = field-special (a .v .now) (λ e. c .before .before .before .before .if1 .left (p .0 ∙ e)) in
+    let z = quoted-size (a .v .now) q in
+    omega arith
 
 slice-write-out-2 : tie.Need-slice-write-out-2
 slice-write-out-2 c =
@@ -47,14 +70,14 @@ slice-write-out-2 c =
     let p = c .before .before .before .before .before .before .before .pre in
     let q : anySpecial (a .v .now) ≡ true = field-special (a .v .now) (λ e. c .before .before .before .before .if1 .left (p .0 ∙ e)) in
     let z = quoted-size (a .v .now) q in
-    let e = c .before .before .put-doubled .ensures in
-    omega (arith, e .1, ap length (e .0), length-sets (set (a .out .now) (a .to) 34) (a .to + 1) (doubled (a .v .now)), length-set (a .out .now) (a .to) 34)
+    let e = c .before .before .put-inner .ensures in
+    omega (arith, ap length e, length-sets (set (a .out .now) (a .to) 34) (a .to + 1) (doubled (a .v .now)), length-set (a .out .now) (a .to) 34)
 
 same-length-2 : tie.Need-same-length-2
 same-length-2 c =
     let a = c .before .before .before .before .before .before .before .args in
-    let e = c .before .before .put-doubled .ensures in
-    simp length-set (ap length (e .0) ∙ length-sets (set (a .out .now) (a .to) 34) (a .to + 1) (doubled (a .v .now)) ∙ length-set (a .out .now) (a .to) 34)
+    let e = c .before .before .put-inner .ensures in
+    simp length-set (ap length e ∙ length-sets (set (a .out .now) (a .to) 34) (a .to + 1) (doubled (a .v .now)) ∙ length-set (a .out .now) (a .to) 34)
 
 returns-2 : tie.Need-returns-2
 returns-2 c =
@@ -62,8 +85,9 @@ returns-2 c =
     let p = c .before .before .before .before .before .before .before .pre in
     let q : anySpecial (a .v .now) ≡ true = field-special (a .v .now) (λ e. c .before .before .before .before .if1 .left (p .0 ∙ e)) in
     let z = quoted-size (a .v .now) q in
-    let e = c .before .before .put-doubled .ensures in
-    rw (e .0, e .1) (sym (quoted-sets (a .out .now) (a .to) (a .v .now) q))
+    let e = c .before .before .put-inner .ensures in
+    let m : a .to + a .size - 1 ≡ a .to + 1 + length (doubled (a .v .now)) = omega arith in
+    rw (e, m) (sym (quoted-sets (a .out .now) (a .to) (a .v .now) q))
 
 pub put-field-spec : {M : Type 1} → statement M
 put-field-spec =
@@ -73,8 +97,11 @@ put-field-spec =
     same-length
     returns
     slice-write-out
-    add-put-doubled
-    put-doubled-requires
+    sub-put-inner
+    add-put-inner
+    put-inner-requires
+    add-out
+    sub-out
     slice-write-out-2
     same-length-2
     returns-2)
