@@ -8,6 +8,7 @@ use Rattle.key.specs.Order.{pickOrder, textOrder}
 use Rattle.key.specs.Picks.{sum, text, pickOf, firsts, insert, distinct}
 use Rattle.key.specs.Layout.{joined, prefix, keyOf}
 use Rattle.key.specs.Match.{same}
+use Rattle.csv.specs.Write.{special, anySpecial, doubled, fieldOf}
 use Rattle.leaf.proofs.Numbers.{both-left, both-right}
 use Rattle.examples.specs.Examples.{Question, answer, table, Answered}
 
@@ -33,5 +34,5 @@ answered (row ∷ rows) e =
     (same-is (answer (row .0)) (row .1) (both-left t (test rows) e), answered rows (both-right t (test rows) e))
 
 pub theorem : Answered table
-unfolding table newer validDate isDate monthDays leap same keyOf firsts pickOf text sum distinct insert pickOrder textOrder joined prefix
+unfolding table newer validDate isDate monthDays leap same keyOf firsts pickOf text sum distinct insert pickOrder textOrder joined prefix special anySpecial doubled fieldOf
 theorem = answered table refl

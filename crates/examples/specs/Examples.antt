@@ -8,19 +8,22 @@ use Rattle.leaf.specs.Date.{validDate}
 use Rattle.key.specs.Picks.{handed}
 use Rattle.key.specs.Layout.{keyOf}
 use Rattle.key.specs.Match.{same}
+use Rattle.csv.specs.Write.{fieldOf}
 
 -- newerThan a b: is generation a newer than b? aDate n: is n a date? keyIs identity texts lengths key: is that the key of the identity
--- and of the picks handed over as texts and their lengths, five to a pick?
+-- and of the picks handed over as texts and their lengths, five to a pick? fieldIs value field: is a value written as that field?
 pub data Question : Type 0 where
   newerThan : ℕ → ℕ → Question
   aDate : ℕ → Question
   keyIs : List ℕ → List ℕ → List ℕ → List ℕ → Question
+  fieldIs : List ℕ → List ℕ → Question
 
 -- what the definitions answer
 abbrev pub answer : Question → Bool
 answer (newerThan a b) = newer a b
 answer (aDate n) = validDate n
 answer (keyIs identity texts lengths key) = same (keyOf identity (handed texts lengths)) key
+answer (fieldIs value field) = same (fieldOf value) field
 
 -- each question with the answer that the document gives
 unfoldable pub table : List (Question × Bool)
@@ -41,6 +44,8 @@ table =
     ∷ (keyIs (65 ∷ []) [] [] (255 ∷ 1 ∷ 0 ∷ 65 ∷ 0 ∷ []), true)
     ∷ (keyIs [] (55 ∷ 114 ∷ 115 ∷ 110 ∷ []) (1 ∷ 1 ∷ 0 ∷ 1 ∷ 1 ∷ []) (1 ∷ 1 ∷ 55 ∷ 1 ∷ 114 ∷ 0 ∷ 1 ∷ 115 ∷ 1 ∷ 110 ∷ []), true)
     ∷ (keyIs [] (55 ∷ 114 ∷ 99 ∷ 115 ∷ 110 ∷ []) (1 ∷ 1 ∷ 1 ∷ 1 ∷ 1 ∷ []) (1 ∷ 1 ∷ 55 ∷ 1 ∷ 114 ∷ 1 ∷ 99 ∷ 1 ∷ 115 ∷ 0 ∷ []), true)
+    ∷ (fieldIs (97 ∷ 34 ∷ 98 ∷ []) (34 ∷ 97 ∷ 34 ∷ 34 ∷ 98 ∷ 34 ∷ []), true)
+    ∷ (fieldIs (32 ∷ []) (32 ∷ []), true)
     ∷ []
 
 -- the definitions answer every question as the table does
