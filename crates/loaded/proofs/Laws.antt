@@ -1,15 +1,17 @@
 -- Calls on a loaded bank, case by case.
 use mathlib.Core.Path.{_≡_, refl, ap, _∙_, sym}
 use mathlib.Core.Bool.{Bool, true, false}
-use mathlib.Core.List.{List}
-use Prim.Native.Nat.{ℕ, _*_, _≤_}
+use mathlib.Core.List.{List, _++_}
+use Prim.Native.Nat.{ℕ, _*_, _-_, _≤_}
 use native.Mathlib.Nat.{mul-comm, mul-le-mul-right}
 use lib.Dec.{eqb, ltb}
 use lib.IntN.{ℤ}
 use lib.ListN.{length}
 use Rattle.refusal.specs.declared.Refusal.{Refusal}
 use Rattle.refusal.specs.declared.Refusal.the-variants.{Region, Argument, Source as NoSuchSource}
-use Rattle.record.specs.Runs.{each}
+use Rattle.record.specs.Runs.{each, fill}
+use Rattle.record.specs.declared.Source.{Source}
+use Rattle.header.specs.Header.{recordsOf}
 use Rattle.header.specs.declared.Bank.{Bank}
 use Rattle.header.specs.declared.Validated.the-variants.{Good, Refused as Bad}
 use Rattle.header.specs.Region.{regionSize, bankOf}
@@ -17,10 +19,11 @@ use Rattle.header.proofs.Laws.{span-count, passed, no-refusal}
 use Rattle.bank.specs.Bank.{named}
 use Rattle.bank.proofs.Sequence.{named-passes}
 use Rattle.loaded.specs.declared.Asked.{Asked}
+use Rattle.loaded.specs.declared.Records.{Records}
 use Rattle.loaded.specs.declared.Days.{Days}
 use Rattle.loaded.specs.declared.FreshAnswer.the-variants.{Fresh, Refused}
 use Rattle.loaded.specs.declared.Outcome.the-variants.{Done}
-use Rattle.loaded.specs.Source.{sourceIn, refuse, thenSource, askedSource}
+use Rattle.loaded.specs.Source.{noSource, sourceIn, refuse, thenSource, askedSource, sourcesIn, refuseAll, thenSources, askedSources}
 use Rattle.loaded.specs.Freshness.{namedIf, daysOf, isDay, freshness, thenFresh, askedFresh}
 
 pub bound : (i k : ℕ) → k ≤ 384 → i * k ≤ i * 384
@@ -51,6 +54,17 @@ module _ (region : List ℕ) (n : ℕ) where
     pub source-bad : (r : Refusal) → named region n ≡ Bad r → refuse r ≡ askedSource region n i
     unfolding askedSource
     source-bad r h = sym (ap (thenSource region i) h)
+
+  pub sources-done : (b : Bank) (l : List ℕ) (t : List Source) → named region n ≡ Good b → l ≡ bankOf region (b .number)
+      → t ≡ recordsOf (b .version) l (b .count) ++ fill noSource (3 - b .count) → record { outcome = Done; sources = t } ≡ askedSources region n
+  unfolding askedSources sourcesIn
+  sources-done b l t h e f =
+      ap (λ (x : List Source). record { outcome = Done; sources = x }) (f ∙ ap (λ (x : List ℕ). recordsOf (b .version) x (b .count) ++ fill noSource (3 - b .count)) e)
+      ∙ sym (ap (thenSources region) h)
+
+  pub sources-bad : (r : Refusal) → named region n ≡ Bad r → refuseAll r ≡ askedSources region n
+  unfolding askedSources
+  sources-bad r h = sym (ap (thenSources region) h)
 
 -- a bank that passed has at most three sources
 count-by : (fits t : Bool) (region : List ℕ) (n : ℕ) (b : Bank) → eqb (length region) regionSize ≡ t → namedIf fits region n ≡ Good b → b .count ≤ 3

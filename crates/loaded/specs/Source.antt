@@ -1,7 +1,7 @@
 -- A source of a loaded bank.
 use mathlib.Core.Bool.{Bool, true, false}
-use mathlib.Core.List.{List}
-use Prim.Native.Nat.{ℕ, _+_, _*_}
+use mathlib.Core.List.{List, _++_}
+use Prim.Native.Nat.{ℕ, _+_, _*_, _-_}
 use lib.Dec.{ltb}
 use lib.IntN.{pos}
 use Rattle.number.specs.Number.{pick}
@@ -14,11 +14,12 @@ use Rattle.header.specs.declared.Bank.{Bank}
 use Rattle.header.specs.declared.Validated.{Validated}
 use Rattle.header.specs.declared.Validated.the-variants.{Good, Refused as Bad}
 use Rattle.header.specs.Region.{bankOf}
-use Rattle.header.specs.Header.{recordAt}
+use Rattle.header.specs.Header.{recordAt, recordsOf}
 use Rattle.bank.specs.Bank.{named}
 use Rattle.loaded.specs.declared.Outcome.{Outcome}
 use Rattle.loaded.specs.declared.Outcome.the-variants.{Done, Refused}
 use Rattle.loaded.specs.declared.Asked.{Asked}
+use Rattle.loaded.specs.declared.Records.{Records}
 
 -- zeros: what stands beside a refusal
 unfoldable pub noSource : Source
@@ -50,3 +51,18 @@ thenSource region i (Bad r) = refuse r
 -- 1, 2, 3 to 6, and 6 at or past the count
 unfoldable pub askedSource : List ℕ → ℕ → ℕ → Asked
 askedSource region n i = thenSource region i (named region n)
+
+-- all sources: the records below the count, and zeros for those that the bank has not
+unfoldable pub sourcesIn : List ℕ → Bank → List Source
+sourcesIn region b = recordsOf (b .version) (bankOf region (b .number)) (b .count) ++ fill noSource (3 - b .count)
+
+abbrev pub refuseAll : Refusal → Records
+refuseAll r = record { outcome = Refused r; sources = fill noSource 3 }
+
+abbrev pub thenSources : List ℕ → Validated → Records
+thenSources region (Good b) = record { outcome = Done; sources = sourcesIn region b }
+thenSources region (Bad r) = refuseAll r
+
+-- 1, 2, 3 to 6
+unfoldable pub askedSources : List ℕ → ℕ → Records
+askedSources region n = thenSources region (named region n)

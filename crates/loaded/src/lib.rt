@@ -1,14 +1,15 @@
 // Calls on a loaded bank. Each names it by number and tests it again.
 ghost use mathlib.Core.Path.{_≡_};
 ghost use mathlib.Core.Bool.{Bool, not, _&&_};
+ghost use mathlib.Core.List.{_++_};
 ghost use lib.Dec.{leb};
 ghost use lib.IntN.{pos};
 ghost use lib.Signed.{leZ};
-ghost use Prim.Native.Nat.{_+_, _*_, _≤_};
+ghost use Prim.Native.Nat.{_+_, _*_, _-_, _≤_};
 ghost use Rattle.header.specs.Region.{bankOf};
 ghost use Rattle.header.specs.Header.{recordsOf};
 ghost use Rattle.number.specs.Number.{pick};
-ghost use Rattle.record.specs.Runs.{each};
+ghost use Rattle.record.specs.Runs.{each, fill};
 ghost use Rattle.loaded.specs.Source as Sources;
 ghost use Rattle.loaded.specs.Freshness as Fresh;
 ghost use Rattle.loaded.specs.Steps as Steps;
@@ -37,6 +38,12 @@ pub enum Outcome {
 pub struct Asked {
     pub outcome: Outcome,
     pub source: Source,
+}
+
+// The sources below the count and zeros after them, or zeros beside a refusal.
+pub struct Records {
+    pub outcome: Outcome,
+    pub sources: [Source; 3],
 }
 
 // A day to be shown, and whether it is wanted.
@@ -124,6 +131,52 @@ pub fn source(region: &[u8], number: u32, i: u32) -> Asked
             refuse(Refusal::Source)
         }
         Validated::Refused(r) => refuse(r),
+    }
+}
+
+fn refuse_all(r: Refusal) -> Records
+    ensures { λ x. ⌜ x ≡ Sources.refuseAll r ⌝ }
+{
+    let z = no_source();
+    let sources = [z; 3];
+    Records {
+        outcome: Outcome::Refused(r),
+        sources,
+    }
+}
+
+// A bank's first n records, and zeros.
+fn records_at(l: &[u8], version: u32, n: usize) -> [Source; 3]
+    requires { ⌜ n ≤ 3 ⌝ }
+    ensures { λ r. ⌜ r ≡ recordsOf version (now (l .entry)) n ++ fill Sources.noSource (3 - n) ⌝ }
+{
+    let size = source_size(version);
+    let z = no_source();
+    let mut t = [z; 3];
+    let mut i = 0;
+    while i < n {
+        let s = record_at(l, version, 48 + i * size);
+        t[i] = s;
+        i += 1;
+    }
+    t
+}
+
+// All sources of a bank.
+pub fn sources(region: &[u8], number: u32) -> Records
+    ensures { λ r. ⌜ r ≡ Sources.askedSources (now (region .entry)) number ⌝ }
+{
+    let h = header(region, number);
+    match h {
+        Validated::Good(b) => {
+            let l = bank_of(region, b.number);
+            let sources = records_at(l, b.version, b.count as usize);
+            Records {
+                outcome: Outcome::Done,
+                sources,
+            }
+        }
+        Validated::Refused(r) => refuse_all(r),
     }
 }
 
