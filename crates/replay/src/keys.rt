@@ -1,6 +1,6 @@
 // The lines on keys: an identity, texts and lengths, each in hexadecimal, a length one byte.
 use crate::text::first;
-use crate::text::same;
+use crate::text::is_word;
 use crate::text::unhex;
 use crate::text::word;
 use key::KeyAnswer;
@@ -18,7 +18,7 @@ fn widen(bytes: &[u8], out: &mut [u32]) {
 }
 
 // The first n lengths, or all.
-fn first_lengths(l: &[u32], n: usize) -> &[u32] {
+pub fn first_lengths(l: &[u32], n: usize) -> &[u32] {
     if n < l.len() {
         return &l[..n];
     }
@@ -26,20 +26,12 @@ fn first_lengths(l: &[u32], n: usize) -> &[u32] {
 }
 
 // The lengths of word k, each of them a number; how many.
-fn lengths(l: &[u8], k: u8, out: &mut [u32]) -> usize {
+pub fn lengths(l: &[u8], k: u8, out: &mut [u32]) -> usize {
     let mut space = io::buffer();
     let bytes: &mut [u8] = &mut space;
     let n = unhex(l, word(l, k), bytes);
     widen(first(bytes, n), out);
     n
-}
-
-// Whether word k has n bytes, those of a key.
-fn is_word(l: &[u8], k: u8, key: &[u8], n: usize) -> bool {
-    let mut space = io::buffer();
-    let want: &mut [u8] = &mut space;
-    let m = unhex(l, word(l, k), want);
-    same(key, n, want, m)
 }
 
 fn key_of(l: &[u8], identity: &[u8], texts: &[u8]) -> bool {

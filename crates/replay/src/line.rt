@@ -1,12 +1,14 @@
 // One line of the list: its kind, and whether the core answers as it says.
 ghost use Prim.Native.Nat.{_<_};
+use crate::banks;
 use crate::keys;
 use crate::text::first;
+use crate::text::is_word;
 use crate::text::number;
 use crate::text::number32;
 use crate::text::place;
-use crate::text::same;
 use crate::text::signed;
+use crate::text::starts;
 use crate::text::unhex;
 use crate::text::word;
 use leaf::bytes::get8;
@@ -70,20 +72,12 @@ fn time(l: &[u8]) -> bool {
     leaf::bytes::get_time(first(bytes, n), place(l, word(l, 2))) == signed(l, word(l, 3))
 }
 
-// Whether the first bytes are those that the line has last.
-fn left(l: &[u8], bytes: &[u8], n: usize) -> bool {
-    let mut space = io::buffer();
-    let want: &mut [u8] = &mut space;
-    let m = unhex(l, word(l, 4), want);
-    same(bytes, n, want, m)
-}
-
 fn put(l: &[u8]) -> bool {
     let mut space = io::buffer();
     let bytes: &mut [u8] = &mut space;
     let n = unhex(l, word(l, 1), bytes);
     leaf::bytes::put(bytes, place(l, word(l, 2)), number32(l, word(l, 3)));
-    left(l, bytes, n)
+    is_word(l, 4, bytes, n)
 }
 
 fn puttime(l: &[u8]) -> bool {
@@ -91,53 +85,90 @@ fn puttime(l: &[u8]) -> bool {
     let bytes: &mut [u8] = &mut space;
     let n = unhex(l, word(l, 1), bytes);
     leaf::bytes::put_time(bytes, place(l, word(l, 2)), signed(l, word(l, 3)));
-    left(l, bytes, n)
+    is_word(l, 4, bytes, n)
 }
 
-// The kinds, by number; 12 is none of them.
-pub fn kind(l: &[u8]) -> usize
+// The kinds of leaves and keys, by number; 12 is none of them.
+fn leaf_kind(l: &[u8]) -> usize
     ensures { λ r. ⌜ r < 13 ⌝ }
 {
-    let a = get8(l, 0);
-    let b = get8(l, 3);
-    if a == b'd' {
+    if starts(l, b"date") {
         return 0;
     }
-    if a == b'n' {
-        if b == b' ' {
-            return 1;
-        }
-        if b == b'e' {
-            return 2;
-        }
+    if starts(l, b"new") {
+        return 1;
+    }
+    if starts(l, b"newer") {
+        return 2;
+    }
+    if starts(l, b"next") {
         return 3;
     }
-    if a == b'c' {
+    if starts(l, b"crc") {
         return 4;
     }
-    if a == b'g' {
+    if starts(l, b"get") {
         return 5;
     }
-    if a == b'p' {
-        if b == b' ' {
-            return 6;
-        }
-        return 8;
+    if starts(l, b"put") {
+        return 6;
     }
-    if a == b't' {
+    if starts(l, b"time") {
         return 7;
     }
-    if a == b'r' {
+    if starts(l, b"puttime") {
+        return 8;
+    }
+    if starts(l, b"rotate") {
         return 9;
     }
-    if a == b'k' {
+    if starts(l, b"key") {
         return 10;
     }
-    if a == b's' { 11 } else { 12 }
+    if starts(l, b"samekey") { 11 } else { 12 }
 }
 
-// Whether the core answers as a line of a kind says.
-pub fn alike(kind: usize, l: &[u8]) -> bool {
+// The kinds of banks, from 12 on; 20 is none of them.
+fn bank_kind(l: &[u8]) -> usize
+    ensures { λ r. ⌜ r < 21 ⌝ }
+{
+    if starts(l, b"validate") {
+        return 12;
+    }
+    if starts(l, b"header") {
+        return 13;
+    }
+    if starts(l, b"load") {
+        return 14;
+    }
+    if starts(l, b"source") {
+        return 15;
+    }
+    if starts(l, b"fresh") {
+        return 16;
+    }
+    if starts(l, b"start") {
+        return 17;
+    }
+    if starts(l, b"turn") {
+        return 18;
+    }
+    if starts(l, b"bankkey") { 19 } else { 20 }
+}
+
+// The kinds, by number; 20 is none of them.
+pub fn kind(l: &[u8]) -> usize
+    ensures { λ r. ⌜ r < 21 ⌝ }
+{
+    let k = leaf_kind(l);
+    if k < 12 {
+        return k;
+    }
+    bank_kind(l)
+}
+
+// Whether the core answers as a line of a kind says that leaves and keys have.
+fn leaf_alike(kind: usize, l: &[u8]) -> bool {
     match kind {
         0 => date(l),
         1 => new(l),
@@ -152,5 +183,20 @@ pub fn alike(kind: usize, l: &[u8]) -> bool {
         10 => keys::key(l),
         11 => keys::same_key(l),
         _ => false,
+    }
+}
+
+// Whether the core answers as a line of a kind says, about the region if it is a kind of banks.
+pub fn alike(kind: usize, l: &[u8], region: &[u8]) -> bool {
+    match kind {
+        12 => banks::validate(l, region),
+        13 => banks::header(l, region),
+        14 => banks::load(l, region),
+        15 => banks::source(l, region),
+        16 => banks::fresh(l, region),
+        17 => banks::check_start(l, region),
+        18 => banks::check_turn(l, region),
+        19 => banks::same_key(l, region),
+        _ => leaf_alike(kind, l),
     }
 }

@@ -1,7 +1,9 @@
 // Replays the Rust's answers of answers.txt, and says of each kind how many the core answers alike. The list's first lines say how
 // it was made.
+mod banks;
 mod keys;
 mod line;
+mod region;
 mod text;
 
 ghost use Prim.Native.Nat.{_<_};
@@ -11,12 +13,12 @@ use libc::STDOUT_FILENO;
 
 // How many lines of each kind there were, and how many came out alike.
 struct Counts {
-    seen: [u64; 13],
-    same: [u64; 13],
+    seen: [u64; 21],
+    same: [u64; 21],
 }
 
 fn counted(c: Counts, kind: usize, same: bool) -> Counts
-    requires { ⌜ kind < 13 ⌝ }
+    requires { ⌜ kind < 21 ⌝ }
 {
     let more: u64 = if same { 1 } else { 0 };
     let mut r = c;
@@ -25,14 +27,29 @@ fn counted(c: Counts, kind: usize, same: bool) -> Counts
     r
 }
 
-// One line; comments and empty lines count for nothing.
-fn step(c: Counts, l: &[u8]) -> Counts {
+// Says which line differs.
+fn tell(same: bool, n: u64) {
+    if same {
+        return;
+    }
+    io::write_all(STDOUT_FILENO, b"line ");
+    io::print_decimal(STDOUT_FILENO, n);
+    io::write_all(STDOUT_FILENO, b" differs\n");
+}
+
+// Line n; comments, empty lines and those that build the region count for nothing.
+fn step(c: Counts, n: u64, l: &[u8], memory: &mut [u8]) -> Counts {
     let a = leaf::bytes::get8(l, 0);
     if a == b'#' || l.len() == 0 {
         return c;
     }
+    if region::built(l, memory) {
+        return c;
+    }
     let k = line::kind(l);
-    counted(c, k, line::alike(k, l))
+    let same = line::alike(k, l, memory);
+    tell(same, n);
+    counted(c, k, same)
 }
 
 // The part from a place up to another.
@@ -46,15 +63,17 @@ fn between(s: &[u8], from: usize, to: usize) -> &[u8] {
 }
 
 // All lines.
-fn replayed(s: &[u8]) -> Counts {
+fn replayed(s: &[u8], memory: &mut [u8]) -> Counts {
     let mut c = Counts {
-        seen: [0; 13],
-        same: [0; 13],
+        seen: [0; 21],
+        same: [0; 21],
     };
+    let mut n: u64 = 0;
     let mut i = 0;
     while i < s.len() {
         let end = text::find(s, i, b'\n');
-        c = step(c, between(s, i, end));
+        n = std::num::wrapping_add_u64(n, 1);
+        c = step(c, n, between(s, i, end), memory);
         i = text::past(end, i);
     }
     c
@@ -69,21 +88,29 @@ fn say(name: &[u8], seen: u64, same: u64) {
     io::write_all(STDOUT_FILENO, b" alike\n");
 }
 
-fn name(kind: usize) -> [u8; 10] {
+fn name(kind: usize) -> [u8; 11] {
     match kind {
-        0 => *b"valid_date",
-        1 => *b"Date::new ",
-        2 => *b"newer     ",
-        3 => *b"next      ",
-        4 => *b"crc32     ",
-        5 => *b"get       ",
-        6 => *b"put       ",
-        7 => *b"get_time  ",
-        8 => *b"put_time  ",
-        9 => *b"rotate13  ",
-        10 => *b"key       ",
-        11 => *b"same_key  ",
-        _ => *b"unknown   ",
+        0 => *b"valid_date ",
+        1 => *b"Date::new  ",
+        2 => *b"newer      ",
+        3 => *b"next       ",
+        4 => *b"crc32      ",
+        5 => *b"get        ",
+        6 => *b"put        ",
+        7 => *b"get_time   ",
+        8 => *b"put_time   ",
+        9 => *b"rotate13   ",
+        10 => *b"key        ",
+        11 => *b"same_key   ",
+        12 => *b"validate   ",
+        13 => *b"header     ",
+        14 => *b"load       ",
+        15 => *b"source     ",
+        16 => *b"fresh      ",
+        17 => *b"check_start",
+        18 => *b"check_turn ",
+        19 => *b"bank's key ",
+        _ => *b"unknown    ",
     }
 }
 
@@ -91,7 +118,7 @@ fn report(c: Counts) {
     let mut seen: u64 = 0;
     let mut same: u64 = 0;
     let mut k = 0;
-    while k < 13 {
+    while k < 21 {
         let n = name(k);
         let a = c.seen[k];
         let b = c.same[k];
@@ -100,14 +127,18 @@ fn report(c: Counts) {
         same = std::num::wrapping_add_u64(same, b);
         k += 1;
     }
-    say(b"all       ", seen, same);
+    say(b"all        ", seen, same);
 }
 
 // Zeros for the list, which has fewer bytes.
-fn room() -> [u8; 131072]
-    ensures { λ r. ⌜ 131072 ≡ length r ⌝ }
+fn room() -> [u8; 524288]
+    ensures { λ r. ⌜ 524288 ≡ length r ⌝ }
 {
-    [0; 131072]
+    [0; 524288]
+}
+
+fn replay(s: &[u8], memory: &mut [u8; 983040]) {
+    report(replayed(s, memory));
 }
 
 fn main() {
@@ -120,5 +151,6 @@ fn main() {
     let mut space = room();
     let n = io::read_full(fd, &mut space);
     libc::close(fd);
-    report(replayed(text::first(&space, n)));
+    let mut memory = region::room();
+    replay(text::first(&space, n), &mut memory);
 }

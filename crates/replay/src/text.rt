@@ -1,6 +1,7 @@
 // Words of a line, numbers and bytes in them.
 ghost use Prim.Native.Nat.{_<_};
 use leaf::bytes::get8;
+use slice::part;
 
 // The place of the first byte b from a place on, or the end.
 pub fn find(s: &[u8], from: usize, b: u8) -> usize {
@@ -29,6 +30,34 @@ pub fn word(s: &[u8], k: u8) -> usize {
         j += 1;
     }
     at
+}
+
+// What stands from word k on.
+pub fn rest(s: &[u8], k: u8) -> &[u8] {
+    part(s, word(s, k), s.len())
+}
+
+// How many words there are.
+pub fn words(s: &[u8]) -> usize {
+    let mut n = 0;
+    let mut at = 0;
+    while at < s.len() {
+        n = std::num::wrapping_add_usize(n, 1);
+        at = past(find(s, at, b' '), at);
+    }
+    n
+}
+
+// Whether a line starts with a word and goes on after it.
+pub fn starts(s: &[u8], word: &[u8]) -> bool {
+    let mut i = 0;
+    while i < word.len() {
+        if get8(s, i) != word[i] {
+            return false;
+        }
+        i += 1;
+    }
+    get8(s, word.len()) == b' '
 }
 
 fn digit(c: u8) -> u64 {
@@ -131,6 +160,14 @@ pub fn same(a: &[u8], n: usize, b: &[u8], m: usize) -> bool {
         i += 1;
     }
     true
+}
+
+// Whether word k is the first n bytes of some.
+pub fn is_word(l: &[u8], k: u8, bytes: &[u8], n: usize) -> bool {
+    let mut space = io::buffer();
+    let want: &mut [u8] = &mut space;
+    let m = unhex(l, word(l, k), want);
+    same(bytes, n, want, m)
 }
 
 // The place past an end, and past i in any case.

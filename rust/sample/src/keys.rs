@@ -18,31 +18,31 @@ use std::{
 
 /// Identity, texts in a row, lengths (five to a pick).
 #[derive(Clone)]
-struct Selection {
-    identity: Vec<u8>,
+pub struct Selection {
+    pub identity: Vec<u8>,
     texts: Vec<u8>,
     lengths: Vec<u8>,
 }
 
 impl Selection {
-    fn of(identity: &[u8], picks: &[[String; 5]]) -> Self {
+    pub fn of(identity: &[u8], picks: &[[String; 5]]) -> Self {
         Self {
             identity: identity.into(),
             texts: picks.iter().flatten().flat_map(|f| f.bytes()).collect(),
             lengths: picks.iter().flatten().map(|f| f.len() as u8).collect(),
         }
     }
-    fn config(&self) -> Config {
+    pub fn config(&self) -> Config {
         let lengths: Vec<u32> = self.lengths.iter().map(|n| (*n).into()).collect();
         let fields = fields(&self.texts, &lengths);
         let texts: Vec<[&str; 5]> =
             fields.iter().map(|p| p.map(|f| str::from_utf8(f).unwrap())).collect();
         settings::config(&texts).unwrap()
     }
-    fn key(&self) -> Vec<u8> {
+    pub fn key(&self) -> Vec<u8> {
         door::key(&self.config(), &self.identity).unwrap()
     }
-    fn words(&self) -> String {
+    pub fn words(&self) -> String {
         format!("{} {} {}", hex(&self.identity), hex(&self.texts), hex(&self.lengths))
     }
 }

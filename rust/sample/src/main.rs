@@ -1,6 +1,8 @@
 //! Writes a fixed list of the Rust's answers, for the core to replay. The core
 //! itself is not linked in.
+mod banks;
 mod keys;
+mod region;
 
 use common::Random;
 use lifted::{cache::door, timetable_display::config};
@@ -28,6 +30,30 @@ list is always the same. Lines are words with a blank between them:
                              end is what is left, a missing one 0), and the key
   samekey STORED IDENTITY TEXTS LENGTHS 0|1
                              whether a bank whose key is STORED matches
+
+These lines build a region of 983040 bytes, and have no answer:
+
+  region BYTE                all bytes the same
+  at PLACE HEX               these bytes at a place
+  fill PLACE COUNT BYTE      so many equal bytes from a place on
+
+These ask about the region as it is by then. A refusal is its number, 0 is none
+and is followed by the answer. BANK.. is number, version, generation, data
+length, data CRC, source count, key length, checked time.
+
+  validate N REFUSAL [BANK..]
+  header N REFUSAL [BANK..]  the same without the data
+  load 0|1 [BANK..]          whether there is a bank to use
+  source N INDEX REFUSAL [HEX]
+                             the record in version 3's form
+  fresh N DAY DAY DAY WANTED NOW REFUSAL [CHECKED UPDATED]
+                             WANTED has bit 0 for the first day; the lowest time
+                             is unknown
+  start N REFUSAL VERDICT COUNT STATE
+                             checking begun; a state is bank, position, CRC
+  turn STATE BYTES REFUSAL VERDICT COUNT STATE
+                             a turn of so many bytes; verdict 1 is yes
+  bankkey N IDENTITY TEXTS LENGTHS REFUSAL [0|1]
 ";
 
 const SEED: u64 = 41;
@@ -260,6 +286,7 @@ fn sample() -> Result<String, std::fmt::Error> {
         writeln!(out, "rotate {x} {}", x.rotate_left(13))?;
     }
     keys::write(&mut out, &mut Random::new(SEED))?;
+    banks::write(&mut out, &mut Random::new(SEED))?;
     Ok(out)
 }
 

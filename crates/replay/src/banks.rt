@@ -1,0 +1,199 @@
+// The lines on the region's banks: whether the core answers about the region as it is by then as the line says.
+use crate::keys::first_lengths;
+use crate::keys::lengths;
+use crate::text::first;
+use crate::text::is_word;
+use crate::text::number;
+use crate::text::number32;
+use crate::text::rest;
+use crate::text::signed;
+use crate::text::unhex;
+use crate::text::word;
+use crate::text::words;
+use bank::Checking;
+use bank::Loaded;
+use bank::Progress;
+use bank::Turn;
+use header::Bank;
+use header::Validated;
+use key::SameKey;
+use loaded::Day;
+use loaded::Days;
+use loaded::FreshAnswer;
+use loaded::Outcome;
+use number::wide;
+use record::Source;
+use refusal::Refusal;
+
+// Whether word k is a number.
+fn is(a: &[u8], k: u8, n: u32) -> bool {
+    number32(a, word(a, k)) == n
+}
+
+// Whether an answer is a refusal's number and nothing else.
+fn is_refusal(a: &[u8], r: Refusal) -> bool {
+    is(a, 0, wide(refusal::number(r))) & (words(a) == 1)
+}
+
+// Whether an answer is these three numbers first.
+fn three(a: &[u8], x: u32, y: u32, z: u32) -> bool {
+    is(a, 0, x) & (is(a, 1, y) & is(a, 2, z))
+}
+
+// Whether an answer is a bank's numbers, with one before them.
+fn is_bank(a: &[u8], before: u32, b: Bank) -> bool {
+    (words(a) == 9)
+        & (three(a, before, b.number, b.version) & three(rest(a, 3), b.generation, b.length, b.crc))
+        & (is(a, 6, b.count) & is(a, 7, b.key))
+        & (signed(a, word(a, 8)) == b.checked)
+}
+
+fn is_validated(a: &[u8], v: Validated) -> bool {
+    match v {
+        Validated::Good(b) => is_bank(a, 0, b),
+        Validated::Refused(r) => is_refusal(a, r),
+    }
+}
+
+pub fn validate(l: &[u8], region: &[u8]) -> bool {
+    is_validated(rest(l, 2), bank::validate(region, number32(l, word(l, 1))))
+}
+
+pub fn header(l: &[u8], region: &[u8]) -> bool {
+    is_validated(rest(l, 2), bank::header(region, number32(l, word(l, 1))))
+}
+
+pub fn load(l: &[u8], region: &[u8]) -> bool {
+    let a = rest(l, 1);
+    let x = bank::load(region);
+    match x {
+        Loaded::Found(b) => is_bank(a, 1, b),
+        Loaded::Nothing => is(a, 0, 0) & (words(a) == 1),
+        Loaded::Refused(_) => false,
+    }
+}
+
+// Whether an answer is a record in version 3's form.
+fn is_record(a: &[u8], s: Source) -> bool {
+    let mut space = io::buffer();
+    let out: &mut [u8] = &mut space;
+    record::encode(s, out, 0);
+    is(a, 0, 0) & is_word(a, 1, out, 384)
+}
+
+pub fn source(l: &[u8], region: &[u8]) -> bool {
+    let a = rest(l, 3);
+    let x = loaded::source(region, number32(l, word(l, 1)), number32(l, word(l, 2)));
+    let s = x.source;
+    let outcome = x.outcome;
+    match outcome {
+        Outcome::Done => is_record(a, s),
+        Outcome::Refused(r) => is_refusal(a, r),
+    }
+}
+
+fn day(l: &[u8], k: u8, wanted: u64) -> Day {
+    Day {
+        date: number32(l, word(l, k)),
+        wanted: wanted % 2 == 1,
+    }
+}
+
+// Three days, and a number whose lowest bits say which of them are wanted.
+fn days(l: &[u8]) -> Days {
+    let wanted = number(l, word(l, 5));
+    Days {
+        first: day(l, 2, wanted),
+        second: day(l, 3, wanted / 2),
+        third: day(l, 4, wanted / 4),
+    }
+}
+
+// Whether an answer is these two times.
+fn is_times(a: &[u8], checked: i64, updated: i64) -> bool {
+    (words(a) == 3)
+        & is(a, 0, 0)
+        & (signed(a, word(a, 1)) == checked)
+        & (signed(a, word(a, 2)) == updated)
+}
+
+pub fn fresh(l: &[u8], region: &[u8]) -> bool {
+    let a = rest(l, 7);
+    let x = loaded::fresh(
+        region,
+        number32(l, word(l, 1)),
+        days(l),
+        signed(l, word(l, 6)),
+    );
+    match x {
+        FreshAnswer::Fresh(t) => is_times(a, t.checked, t.updated),
+        FreshAnswer::Refused(r) => is_refusal(a, r),
+    }
+}
+
+// Refusal, verdict and count.
+fn is_progress(a: &[u8], p: Progress) -> bool {
+    match p {
+        Progress::Hashed(n) => three(a, 0, 0, n),
+        Progress::Yes => three(a, 0, 1, 0),
+        Progress::Refused(r) => three(a, wide(refusal::number(r)), 0, 0),
+    }
+}
+
+fn is_turn(a: &[u8], t: Turn) -> bool {
+    let p = t.progress;
+    let s = t.next;
+    (words(a) == 6) & is_progress(a, p) & three(rest(a, 3), s.bank, s.position, s.crc)
+}
+
+pub fn check_start(l: &[u8], region: &[u8]) -> bool {
+    is_turn(
+        rest(l, 2),
+        bank::check_start(region, number32(l, word(l, 1))),
+    )
+}
+
+pub fn check_turn(l: &[u8], region: &[u8]) -> bool {
+    let s = Checking {
+        bank: number32(l, word(l, 1)),
+        position: number32(l, word(l, 2)),
+        crc: number32(l, word(l, 3)),
+    };
+    is_turn(
+        rest(l, 5),
+        bank::check_turn(region, s, number32(l, word(l, 4))),
+    )
+}
+
+// Whether an answer is that a key was tested, and found the same or not.
+fn is_same(a: &[u8], same: u32) -> bool {
+    (words(a) == 2) & is(a, 0, 0) & is(a, 1, same)
+}
+
+fn matches(l: &[u8], region: &[u8], identity: &[u8], texts: &[u8]) -> bool {
+    let mut list = [0u32; 256];
+    let n = lengths(l, 4, &mut list);
+    let a = rest(l, 5);
+    let x = loaded::same_key(
+        region,
+        number32(l, word(l, 1)),
+        identity,
+        texts,
+        first_lengths(&list, n),
+    );
+    match x {
+        SameKey::Same => is_same(a, 1),
+        SameKey::Other => is_same(a, 0),
+        SameKey::Refused(r) => is_refusal(a, r),
+    }
+}
+
+pub fn same_key(l: &[u8], region: &[u8]) -> bool {
+    let mut a = io::buffer();
+    let identity: &mut [u8] = &mut a;
+    let n = unhex(l, word(l, 2), identity);
+    let mut b = io::buffer();
+    let texts: &mut [u8] = &mut b;
+    let m = unhex(l, word(l, 3), texts);
+    matches(l, region, first(identity, n), first(texts, m))
+}
