@@ -1,7 +1,9 @@
 // One line of the list: its kind, and whether the core answers as it says.
 ghost use Prim.Native.Nat.{_<_};
 use crate::banks;
+use crate::filter;
 use crate::keys;
+use crate::rows;
 use crate::text::first;
 use crate::text::is_word;
 use crate::text::number;
@@ -156,15 +158,44 @@ fn bank_kind(l: &[u8]) -> usize
     if starts(l, b"bankkey") { 19 } else { 20 }
 }
 
-// The kinds, by number; 20 is none of them.
-pub fn kind(l: &[u8]) -> usize
-    ensures { λ r. ⌜ r < 21 ⌝ }
+// The kinds of rows and filter, from 20 on; 27 is none of them.
+fn row_kind(l: &[u8]) -> usize
+    ensures { λ r. ⌜ r < 28 ⌝ }
 {
-    let k = leaf_kind(l);
-    if k < 12 {
-        return k;
+    if starts(l, b"names") {
+        return 20;
     }
-    bank_kind(l)
+    if starts(l, b"row") {
+        return 21;
+    }
+    if starts(l, b"read") {
+        return 22;
+    }
+    if starts(l, b"insert") {
+        return 23;
+    }
+    if starts(l, b"query") {
+        return 24;
+    }
+    if starts(l, b"holds") {
+        return 25;
+    }
+    if starts(l, b"sum") { 26 } else { 27 }
+}
+
+// The kinds, by number; 27 is none of them.
+pub fn kind(l: &[u8]) -> usize
+    ensures { λ r. ⌜ r < 28 ⌝ }
+{
+    let a = leaf_kind(l);
+    if a < 12 {
+        return a;
+    }
+    let b = bank_kind(l);
+    if b < 20 {
+        return b;
+    }
+    row_kind(l)
 }
 
 // Whether the core answers as a line of a kind says that leaves and keys have.
@@ -186,8 +217,8 @@ fn leaf_alike(kind: usize, l: &[u8]) -> bool {
     }
 }
 
-// Whether the core answers as a line of a kind says, about the region if it is a kind of banks.
-pub fn alike(kind: usize, l: &[u8], region: &[u8]) -> bool {
+// The same of a kind that banks have, about the region.
+fn bank_alike(kind: usize, l: &[u8], region: &[u8]) -> bool {
     match kind {
         12 => banks::validate(l, region),
         13 => banks::header(l, region),
@@ -197,6 +228,31 @@ pub fn alike(kind: usize, l: &[u8], region: &[u8]) -> bool {
         17 => banks::check_start(l, region),
         18 => banks::check_turn(l, region),
         19 => banks::same_key(l, region),
-        _ => leaf_alike(kind, l),
+        _ => false,
     }
+}
+
+// The same of a kind that rows and filter have. An insertion changes the region.
+fn row_alike(kind: usize, l: &[u8], region: &mut [u8]) -> bool {
+    match kind {
+        20 => rows::names_line(l),
+        21 => rows::row(l),
+        22 => rows::read_row(l, region),
+        23 => filter::insert(l, region),
+        24 => filter::query(l, region),
+        25 => filter::holds(l, region),
+        26 => filter::sum(l, region),
+        _ => false,
+    }
+}
+
+// Whether the core answers as a line of a kind says.
+pub fn alike(kind: usize, l: &[u8], region: &mut [u8]) -> bool {
+    if kind < 12 {
+        return leaf_alike(kind, l);
+    }
+    if kind < 20 {
+        return bank_alike(kind, l, region);
+    }
+    row_alike(kind, l, region)
 }

@@ -1,9 +1,11 @@
 // Replays the Rust's answers of answers.txt, and says of each kind how many the core answers alike. The list's first lines say how
 // it was made.
 mod banks;
+mod filter;
 mod keys;
 mod line;
 mod region;
+mod rows;
 mod text;
 
 ghost use Prim.Native.Nat.{_<_};
@@ -13,12 +15,12 @@ use libc::STDOUT_FILENO;
 
 // How many lines of each kind there were, and how many came out alike.
 struct Counts {
-    seen: [u64; 21],
-    same: [u64; 21],
+    seen: [u64; 28],
+    same: [u64; 28],
 }
 
 fn counted(c: Counts, kind: usize, same: bool) -> Counts
-    requires { ⌜ kind < 21 ⌝ }
+    requires { ⌜ kind < 28 ⌝ }
 {
     let more: u64 = if same { 1 } else { 0 };
     let mut r = c;
@@ -65,8 +67,8 @@ fn between(s: &[u8], from: usize, to: usize) -> &[u8] {
 // All lines.
 fn replayed(s: &[u8], memory: &mut [u8]) -> Counts {
     let mut c = Counts {
-        seen: [0; 21],
-        same: [0; 21],
+        seen: [0; 28],
+        same: [0; 28],
     };
     let mut n: u64 = 0;
     let mut i = 0;
@@ -110,6 +112,13 @@ fn name(kind: usize) -> [u8; 11] {
         17 => *b"check_start",
         18 => *b"check_turn ",
         19 => *b"bank's key ",
+        20 => *b"names_line ",
+        21 => *b"row        ",
+        22 => *b"read_row   ",
+        23 => *b"insert     ",
+        24 => *b"query      ",
+        25 => *b"bytes      ",
+        26 => *b"their CRC  ",
         _ => *b"unknown    ",
     }
 }
@@ -118,7 +127,7 @@ fn report(c: Counts) {
     let mut seen: u64 = 0;
     let mut same: u64 = 0;
     let mut k = 0;
-    while k < 21 {
+    while k < 28 {
         let n = name(k);
         let a = c.seen[k];
         let b = c.same[k];

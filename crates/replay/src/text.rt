@@ -164,7 +164,7 @@ pub fn same(a: &[u8], n: usize, b: &[u8], m: usize) -> bool {
 
 // Whether word k is the first n bytes of some.
 pub fn is_word(l: &[u8], k: u8, bytes: &[u8], n: usize) -> bool {
-    let mut space = io::buffer();
+    let mut space = io::large_buffer();
     let want: &mut [u8] = &mut space;
     let m = unhex(l, word(l, k), want);
     same(bytes, n, want, m)

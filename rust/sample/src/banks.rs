@@ -567,3 +567,10 @@ pub fn write(out: &mut String, random: &mut Random) -> Result {
     generations(out, random)?;
     sizes(out, random)
 }
+
+/// A region's lines, and what the Rust says of its banks.
+pub fn questions(out: &mut String, region: Region) -> Result {
+    let mut asked = Questions { region, out };
+    asked.asked(&[0, 1])?;
+    asked.sources(0, &[0, 1])
+}

@@ -1,8 +1,10 @@
 //! Writes a fixed list of the Rust's answers, for the core to replay. The core
 //! itself is not linked in.
 mod banks;
+mod filter;
 mod keys;
 mod region;
+mod rows;
 
 use common::Random;
 use lifted::{cache::door, timetable_display::config};
@@ -54,6 +56,24 @@ length, data CRC, source count, key length, checked time.
   turn STATE BYTES REFUSAL VERDICT COUNT STATE
                              a turn of so many bytes; verdict 1 is yes
   bankkey N IDENTITY TEXTS LENGTHS REFUSAL [0|1]
+
+Rows. LENGTHS and ENDS are numbers of 16 bits, in hexadecimal.
+
+  names TABLE HEX            a table's names line
+  row TABLE TEXTS LENGTHS HEX
+                             values in a row, their lengths, the row
+  read FROM LENGTH WIDTH PLACE NEXT ENDS VALUES
+                             the row of so many values at a place of the table
+                             that stands at FROM of the region: the next row's
+                             place, where each value ends, the values joined; or
+                             end instead of these three
+
+The filter stands at the region's start.
+
+  insert SIZE ID 0|1         ID in hexadecimal; whether all bits were set before
+  query SIZE ID 0|1
+  holds PLACE HEX            the region's bytes at a place
+  sum PLACE COUNT CRC        the CRC-32 of so many of them
 ";
 
 const SEED: u64 = 41;
@@ -287,6 +307,8 @@ fn sample() -> Result<String, std::fmt::Error> {
     }
     keys::write(&mut out, &mut Random::new(SEED))?;
     banks::write(&mut out, &mut Random::new(SEED))?;
+    rows::write(&mut out, &mut Random::new(SEED))?;
+    filter::write(&mut out, &mut Random::new(SEED))?;
     Ok(out)
 }
 

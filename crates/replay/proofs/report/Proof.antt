@@ -6,10 +6,10 @@ use Rattle.replay.proofs.report.Statement.{statement}
 use Rattle.replay.proofs.report.Tie as tie
 
 abbrev Inv-loop : tie.InvT-loop
-Inv-loop c seen₀ same₀ k₀ t9 seen same k = k ≤ 21
+Inv-loop c seen₀ same₀ k₀ t9 seen same k = k ≤ 28
 
 abbrev μ-loop : tie.MeasureT-loop
-μ-loop c seen₀ same₀ k₀ t9 seen same k = 21 - k
+μ-loop c seen₀ same₀ k₀ t9 seen same k = 28 - k
 
 loop-holds : tie.Need-loop-holds Inv-loop μ-loop
 loop-holds c = search needs

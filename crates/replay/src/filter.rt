@@ -1,0 +1,60 @@
+// The lines on the filter, which stands at the region's start, and on the bytes there.
+use crate::text::first;
+use crate::text::is_word;
+use crate::text::number32;
+use crate::text::place;
+use crate::text::unhex;
+use crate::text::word;
+use bloom::Filter;
+use leaf::bytes::get8;
+use slice::part;
+
+// Whether the answer is what the line has last, 1 for present and 0 for absent.
+fn is_answer(l: &[u8], a: Filter) -> bool {
+    let want = get8(l, word(l, 3));
+    match a {
+        Filter::Present => want == b'1',
+        Filter::Absent => want == b'0',
+        Filter::Refused(_) => false,
+    }
+}
+
+// Inserts into the first n bytes.
+fn insert_in(region: &mut [u8], n: usize, id: &[u8]) -> Filter {
+    if n < region.len() {
+        return bloom::insert(&mut region[..n], id);
+    }
+    bloom::insert(region, id)
+}
+
+pub fn insert(l: &[u8], region: &mut [u8]) -> bool {
+    let mut space = io::buffer();
+    let id: &mut [u8] = &mut space;
+    let n = unhex(l, word(l, 2), id);
+    is_answer(l, insert_in(region, place(l, word(l, 1)), first(id, n)))
+}
+
+pub fn query(l: &[u8], region: &[u8]) -> bool {
+    let mut space = io::buffer();
+    let id: &mut [u8] = &mut space;
+    let n = unhex(l, word(l, 2), id);
+    is_answer(
+        l,
+        bloom::query(first(region, place(l, word(l, 1))), first(id, n)),
+    )
+}
+
+// The region's bytes at a place.
+pub fn holds(l: &[u8], region: &[u8]) -> bool {
+    let mut space = io::buffer();
+    let want: &mut [u8] = &mut space;
+    let n = unhex(l, word(l, 2), want);
+    let bytes = part(region, place(l, word(l, 1)), n);
+    (0 < n) & is_word(l, 2, bytes, bytes.len())
+}
+
+// The CRC-32 of the region's bytes at a place.
+pub fn sum(l: &[u8], region: &[u8]) -> bool {
+    let bytes = part(region, place(l, word(l, 1)), place(l, word(l, 2)));
+    leaf::crc::crc32(0, bytes) == number32(l, word(l, 3))
+}

@@ -1,0 +1,114 @@
+// The lines on rows. Lengths and ends are numbers of 16 bits, in hexadecimal.
+use crate::keys::first_lengths;
+use crate::text::first;
+use crate::text::is_word;
+use crate::text::number32;
+use crate::text::place;
+use crate::text::unhex;
+use crate::text::word;
+use crate::text::words;
+use leaf::bytes::get8;
+use number::wide;
+use row::RowAnswer;
+use rowread::ReadAnswer;
+use slice::part;
+use std::num::wrapping_add_usize;
+
+pub fn names_line(l: &[u8]) -> bool {
+    let mut space = io::buffer();
+    let out: &mut [u8] = &mut space;
+    let a = row::names_line(number32(l, word(l, 1)), out);
+    match a {
+        RowAnswer::Written(n) => is_word(l, 2, out, n),
+        RowAnswer::Refused(_) => false,
+    }
+}
+
+// The number of 16 bits at a place.
+fn pair(bytes: &[u8], at: usize) -> u32 {
+    wide(get8(bytes, at)) + wide(get8(bytes, wrapping_add_usize(at, 1))) * 256
+}
+
+// The numbers that two bytes each are, 0 past the end.
+fn pairs(bytes: &[u8], out: &mut [u32]) {
+    let mut i = 0;
+    while i < out.len() {
+        out[i] = pair(bytes, wrapping_add_usize(i, i));
+        i += 1;
+    }
+}
+
+// The numbers of word k; how many.
+fn numbers(l: &[u8], k: u8, out: &mut [u32]) -> usize {
+    let mut space = io::buffer();
+    let bytes: &mut [u8] = &mut space;
+    let n = unhex(l, word(l, k), bytes);
+    pairs(first(bytes, n), out);
+    n / 2
+}
+
+fn row_of(l: &[u8], texts: &[u8]) -> bool {
+    let mut list = [0u32; 16];
+    let n = numbers(l, 3, &mut list);
+    let mut space = io::large_buffer();
+    let out: &mut [u8] = &mut space;
+    let a = row::row(number32(l, word(l, 1)), texts, first_lengths(&list, n), out);
+    match a {
+        RowAnswer::Written(m) => is_word(l, 4, out, m),
+        RowAnswer::Refused(_) => false,
+    }
+}
+
+pub fn row(l: &[u8]) -> bool {
+    let mut space = io::large_buffer();
+    let texts: &mut [u8] = &mut space;
+    let n = unhex(l, word(l, 2), texts);
+    row_of(l, first(texts, n))
+}
+
+// Whether the first n places are the numbers that two bytes each are.
+fn same_ends(ends: &[usize], bytes: &[u8], n: usize) -> bool {
+    if ends.len() < n {
+        return false;
+    }
+    let mut i = 0;
+    while i < n {
+        if ends[i] != pair(bytes, wrapping_add_usize(i, i)) as usize {
+            return false;
+        }
+        i += 1;
+    }
+    true
+}
+
+// Whether the places that word 6 has are these, as many as the row has values.
+fn is_ends(l: &[u8], ends: &[usize]) -> bool {
+    let mut space = io::buffer();
+    let bytes: &mut [u8] = &mut space;
+    let n = unhex(l, word(l, 6), bytes);
+    (n / 2 == place(l, word(l, 3))) & same_ends(ends, bytes, n / 2)
+}
+
+// A row of the table.
+fn read_in(l: &[u8], table: &[u8]) -> bool {
+    let mut space = io::large_buffer();
+    let out: &mut [u8] = &mut space;
+    let mut list = [0usize; 16];
+    let ends: &mut [usize] = &mut list;
+    let a = rowread::read_row(table, place(l, word(l, 3)), place(l, word(l, 4)), out, ends);
+    match a {
+        ReadAnswer::Stored { next, size } => {
+            (words(l) == 8)
+                & (next == place(l, word(l, 5)))
+                & is_ends(l, ends)
+                & is_word(l, 7, out, size)
+        }
+        ReadAnswer::End => get8(l, word(l, 5)) == b'e',
+        ReadAnswer::Refused(_) => false,
+    }
+}
+
+// A row of the table that stands in the region.
+pub fn read_row(l: &[u8], region: &[u8]) -> bool {
+    read_in(l, part(region, place(l, word(l, 1)), place(l, word(l, 2))))
+}

@@ -1,0 +1,153 @@
+//! Rows as the lifted `Writer` writes them, and stored rows.
+use crate::{banks, hex, region::Region};
+use common::{Random, made::SECTOR};
+use lifted::{
+    cache::{
+        Bank, Metadata,
+        door::{self, SourceFields, Update},
+    },
+    gtfs::{Error, Table, csv::values::Values},
+    standins::{flash::Flash, settings},
+};
+use std::fmt::{Result, Write as _};
+
+const CHECKED: i64 = 1_790_000_000;
+/// The longest row that document 01 takes, with its LF.
+const LONGEST: usize = 8192;
+
+/// Numbers of 16 bits in hexadecimal.
+fn pairs(numbers: impl Iterator<Item = usize>) -> String {
+    hex(&numbers.flat_map(|n| (n as u16).to_le_bytes()).collect::<Vec<_>>())
+}
+
+/// What the writer writes.
+fn written(call: impl FnOnce(&mut Update<'_, Flash>) -> std::result::Result<(), Error>) -> Vec<u8> {
+    let flash = Flash::default();
+    let mut metadata = Metadata::default();
+    let mut update = Update::new(&flash, None, false, CHECKED, &mut metadata);
+    call(&mut update).expect("room");
+    let length = update.position() as usize;
+    update.flush().expect("a flash");
+    flash.region.borrow()[SECTOR..][..length].to_vec()
+}
+
+/// A record of a table, `None` for a column that the feed doesn't have.
+fn values(table: Table, row: &[Option<String>]) -> Values {
+    let columns = door::columns(table).iter().copied();
+    Values::new(table, columns.zip(row).filter_map(|(c, v)| Some((c, v.as_deref()?))))
+}
+
+fn value(random: &mut Random) -> Option<String> {
+    let pieces =
+        ["\"", ",", "\r", "\n", " ", "a", "7", "Åsane", "\"\"", "08:30:00", ";", "'", "\t"];
+    match random.below(6) {
+        0 => None,
+        1 => Some(String::new()),
+        2 => Some((0..random.below(40)).map(|_| random.pick(b"abcXYZ019_-") as char).collect()),
+        _ => Some((0..random.below(6)).map(|_| random.pick(&pieces)).collect()),
+    }
+}
+
+fn row(random: &mut Random, table: Table) -> Vec<Option<String>> {
+    door::columns(table).iter().map(|_| value(random)).collect()
+}
+
+fn line(out: &mut String, table: Table, row: &[Option<String>]) -> Result {
+    let texts: String = row.iter().flatten().map(String::as_str).collect();
+    let lengths = pairs(row.iter().map(|v| v.as_ref().map_or(0, String::len)));
+    let bytes = written(|update| update.row(values(table, row).record()));
+    let texts = hex(texts.as_bytes());
+    writeln!(out, "row {} {texts} {lengths} {}", table as usize, hex(&bytes))
+}
+
+/// Names lines and rows of every table.
+fn rows(out: &mut String, random: &mut Random) -> Result {
+    for table in Table::ALL {
+        let bytes = written(|update| update.start(table));
+        writeln!(out, "names {} {}", table as usize, hex(&bytes))?;
+    }
+    for table in Table::ALL {
+        let width = door::columns(table).len();
+        for same in ["", " ", "\"", ",", "\n", "\r", "a\"b", "\"\"", "x"] {
+            line(out, table, &vec![Some(same.into()); width])?;
+        }
+        line(out, table, &vec![None; width])?;
+        for _ in 0..12 {
+            line(out, table, &row(random, table))?;
+        }
+    }
+    // quotes that are doubled up to the longest row: two more around them, commas and LF
+    let quotes = (LONGEST - 4) / 2;
+    line(out, Table::FeedInfo, &[Some("\"".repeat(quotes)), None])?;
+    line(out, Table::FeedInfo, &[Some("y".repeat(300)), Some("z,".repeat(400))])
+}
+
+/// A table of rows: its names, then rows of at least one value.
+fn stored(random: &mut Random, table: Table) -> Vec<Vec<String>> {
+    let names = door::columns(table).iter().map(|c| c.name().into()).collect();
+    let mut list = vec![names];
+    for _ in 0..3 + random.below(4) {
+        list.push(row(random, table).into_iter().map(Option::unwrap_or_default).collect());
+    }
+    list
+}
+
+/// The lifted reader gives these rows, where it is at hand.
+fn read_back(flash: &Flash, bank: Bank, table: Table, rows: &[Vec<String>]) {
+    #[cfg(feature = "reader")]
+    assert_eq!(door::rows(flash, bank, 0, table).expect("rows"), rows);
+    #[cfg(not(feature = "reader"))]
+    let _ = (flash, bank, table, rows);
+}
+
+/// An update of every table, as the lifted `Writer` writes it; then each row as it
+/// was given, by the place where the writer began it.
+fn tables(out: &mut String, random: &mut Random) -> Result {
+    let flash = Flash { identity: b"mdb-1078".to_vec(), ..Flash::default() };
+    let config = settings::config(&[["7", "r", "c", "s", "n"]]).expect("one pick");
+    let mut metadata = Metadata::default();
+    let mut update = Update::new(&flash, None, false, CHECKED, &mut metadata);
+    update.key(&config).expect("room");
+    let (start, end) = (20260101, 20261231);
+    update.source(SourceFields { start, end, ..Default::default() }).expect("room");
+    let mut places = Vec::new();
+    for table in Table::ALL {
+        let list = stored(random, table);
+        let from = update.position();
+        update.start(table).expect("room");
+        let mut at = vec![0];
+        for row in &list[1..] {
+            at.push(update.position() - from);
+            let row: Vec<_> = row.iter().cloned().map(Some).collect();
+            update.row(values(table, &row).record()).expect("room");
+        }
+        at.push(update.position() - from);
+        update.end(table);
+        places.push((table, list, SECTOR as u32 + from, at));
+    }
+    update.end_source();
+    let bank = update.commit().expect("a good bank");
+    let mut region = Region::new(out, 255)?;
+    region.bytes.copy_from_slice(&flash.region.borrow());
+    banks::questions(out, region)?;
+    for (table, list, from, at) in places {
+        read_back(&flash, bank, table, &list[1..]);
+        let (length, width) = (at[at.len() - 1], door::columns(table).len());
+        for (row, pair) in list.iter().zip(at.windows(2)) {
+            let ends = row.iter().scan(0, |end, v| {
+                *end += v.len();
+                Some(*end)
+            });
+            let (ends, values) = (pairs(ends), hex(row.concat().as_bytes()));
+            let [place, next] = [pair[0], pair[1]];
+            writeln!(out, "read {from} {length} {width} {place} {next} {ends} {values}")?;
+        }
+        writeln!(out, "read {from} {length} {width} {length} end")?;
+    }
+    Ok(())
+}
+
+pub fn write(out: &mut String, random: &mut Random) -> Result {
+    rows(out, random)?;
+    tables(out, random)
+}
