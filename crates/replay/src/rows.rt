@@ -103,7 +103,7 @@ fn read_in(l: &[u8], table: &[u8]) -> bool {
                 & is_ends(l, ends)
                 & is_word(l, 7, out, size)
         }
-        ReadAnswer::End => get8(l, word(l, 5)) == b'e',
+        ReadAnswer::End => (words(l) == 6) & (get8(l, word(l, 5)) == b'-'),
         ReadAnswer::Refused(_) => false,
     }
 }

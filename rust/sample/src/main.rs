@@ -66,7 +66,7 @@ Rows. LENGTHS and ENDS are numbers of 16 bits, in hexadecimal.
                              the row of so many values at a place of the table
                              that stands at FROM of the region: the next row's
                              place, where each value ends, the values joined; or
-                             end instead of these three
+                             - instead of these three, at the table's end
 
 The filter stands at the region's start.
 

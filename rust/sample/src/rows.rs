@@ -142,7 +142,7 @@ fn tables(out: &mut String, random: &mut Random) -> Result {
             let [place, next] = [pair[0], pair[1]];
             writeln!(out, "read {from} {length} {width} {place} {next} {ends} {values}")?;
         }
-        writeln!(out, "read {from} {length} {width} {length} end")?;
+        writeln!(out, "read {from} {length} {width} {length} -")?;
     }
     Ok(())
 }
