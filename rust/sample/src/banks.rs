@@ -340,17 +340,16 @@ fn versions(out: &mut String, random: &mut Random) -> Result {
     let mut asked = Questions { region: Region::new(out, 255)?, out };
     let chosen = selections();
     for version in 1..=3 {
-        for bank in 0..2 {
+        for (bank, selection) in chosen.iter().enumerate() {
             let more = random.bytes(30 + 40 * version as usize);
-            let selection = &chosen[bank];
             let mut made = good(random, &mut asked.region.bytes, bank, selection, &more);
             made.version = if bank == 0 { version } else { 1 + version % 3 };
             made.count = if bank == 0 { version } else { 4 - version };
             made.write(&mut asked.region.bytes, bank);
         }
         asked.asked(&[0, 1])?;
-        for bank in 0..2 {
-            asked.everything(random, bank, &chosen[bank])?;
+        for (bank, selection) in chosen.iter().enumerate() {
+            asked.everything(random, bank, selection)?;
         }
     }
     Ok(())
