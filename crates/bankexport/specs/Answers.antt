@@ -29,7 +29,10 @@ use Rattle.loaded.specs.declared.Outcome.the-variants.{Done, Refused as NoSourc
 use Rattle.loaded.specs.declared.FreshAnswer.{FreshAnswer}
 use Rattle.loaded.specs.declared.FreshAnswer.the-variants.{Fresh, Refused as NotFresh}
 use Rattle.loaded.specs.Freshness.{unknown}
+use Rattle.rowread.specs.declared.ReadAnswer.{ReadAnswer}
+use Rattle.rowread.specs.declared.ReadAnswer.the-variants.{Stored, End, Refused as NoRow}
 use Rattle.bankexport.specs.declared.BankNumbers.{BankNumbers}
+use Rattle.bankexport.specs.declared.BankRowNumbers.{BankRowNumbers}
 use Rattle.bankexport.specs.declared.FreshNumbers.{FreshNumbers}
 use Rattle.bankexport.specs.declared.KeyNumbers.{KeyNumbers}
 use Rattle.bankexport.specs.declared.MatchNumbers.{MatchNumbers}
@@ -110,3 +113,9 @@ refusalOf room (NoSource r) = numberOf r
 abbrev pub outputOf : List ℕ → Asked → Outcome → List ℕ
 outputOf out a Done = written out 0 (sourceBytes (a .source))
 outputOf out a (NoSource r) = out
+
+-- a row of a bank: found is 1 where one was read; at the table's end all are 0
+abbrev pub ofRow : ReadAnswer → BankRowNumbers
+ofRow (Stored next size) = record { refusal = 0; found = 1; next = next; size = size }
+ofRow End = record { refusal = 0; found = 0; next = 0; size = 0 }
+ofRow (NoRow r) = record { refusal = numberOf r; found = 0; next = 0; size = 0 }

@@ -13,6 +13,8 @@ ghost use Rattle.bank.specs.Turns as Turns;
 ghost use Rattle.loaded.specs.Source as Sources;
 ghost use Rattle.loaded.specs.Freshness as Freshness;
 ghost use Rattle.loaded.specs.KeyMatch as Matches;
+ghost use Rattle.rowread.specs.Stored as Stored;
+ghost use Rattle.rows.specs.Rows as Rows;
 ghost use Rattle.bankexport.specs.Answers as Answers;
 use bank::Checking;
 use bank::Loaded;
@@ -28,6 +30,7 @@ use loaded::Days;
 use loaded::FreshAnswer;
 use loaded::Outcome;
 use refusal::Refusal;
+use rowread::ReadAnswer;
 
 // A bank's numbers, if found; `key` is the key's length.
 #[repr(C)]
@@ -72,6 +75,15 @@ pub struct TurnNumbers {
     pub bank: u32,
     pub position: u32,
     pub crc: u32,
+}
+
+// Whether there is a row; where the next one starts, and how many bytes its values have.
+#[repr(C)]
+pub struct BankRowNumbers {
+    pub refusal: u32,
+    pub found: u32,
+    pub next: usize,
+    pub size: usize,
 }
 
 fn number_of(r: Refusal) -> u32
@@ -208,6 +220,31 @@ fn of_turn(t: Turn) -> TurnNumbers
     }
 }
 
+fn of_row(x: ReadAnswer) -> BankRowNumbers
+    ensures { λ r. ⌜ r ≡ Answers.ofRow x ⌝ }
+{
+    match x {
+        ReadAnswer::Stored { next, size } => BankRowNumbers {
+            refusal: 0,
+            found: 1,
+            next,
+            size,
+        },
+        ReadAnswer::End => BankRowNumbers {
+            refusal: 0,
+            found: 0,
+            next: 0,
+            size: 0,
+        },
+        ReadAnswer::Refused(r) => BankRowNumbers {
+            refusal: number_of(r),
+            found: 0,
+            next: 0,
+            size: 0,
+        },
+    }
+}
+
 #[no_mangle]
 pub extern "C" fn tt_header(region: &[u8], bank: u32) -> BankNumbers
     ensures { λ r. ⌜ r ≡ Answers.ofValidated (Banks.named (now (region .entry)) bank) ⌝ }
@@ -333,4 +370,22 @@ pub extern "C" fn tt_source(region: &[u8], bank: u32, index: u32, out: &mut [u8]
         }
         Outcome::Refused(r) => number_of(r),
     }
+}
+
+// The values of a row into out, joined, and where each ends into ends.
+#[no_mangle]
+pub extern "C" fn tt_bank_row(
+    region: &[u8],
+    bank: u32,
+    source: u32,
+    table: u32,
+    place: usize,
+    out: &mut [u8],
+    ends: &mut [usize],
+) -> BankRowNumbers
+    ensures { λ r. ⌜ r ≡ Answers.ofRow (Rows.askedRow (now (region .entry)) bank source table place (length (now (out .entry))) (length (now (ends .entry)))) ⌝ }
+    ensures { λ _. ⌜ now (out .exit) ≡ Stored.after (Rows.askedRow (now (region .entry)) bank source table place (length (now (out .entry))) (length (now (ends .entry)))) (Stored.joined (Rows.valuesIn (now (region .entry)) bank source table place)) (now (out .entry)) ⌝ }
+    ensures { λ _. ⌜ now (ends .exit) ≡ Stored.after (Rows.askedRow (now (region .entry)) bank source table place (length (now (out .entry))) (length (now (ends .entry)))) (Stored.endsOf 0 (Rows.valuesIn (now (region .entry)) bank source table place)) (now (ends .entry)) ⌝ }
+{
+    of_row(rows::bank_row(region, bank, source, table, place, out, ends))
 }

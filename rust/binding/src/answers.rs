@@ -55,3 +55,15 @@ pub struct TurnAnswer {
     pub position: u32,
     pub crc: u32,
 }
+
+/// A stored row: `found` is 1 where there is one, 0 at the table's end.
+#[repr(C)]
+#[derive(Clone, Copy, Debug, PartialEq, Eq)]
+pub struct BankRowAnswer {
+    pub refusal: u32,
+    pub found: u32,
+    /// Where the next row starts.
+    pub next: usize,
+    /// How many bytes the values have, joined.
+    pub size: usize,
+}

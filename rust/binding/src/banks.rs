@@ -86,3 +86,31 @@ pub fn check_start(region: &[u8], bank: u32) -> TurnAnswer {
 pub fn check_turn(region: &[u8], bank: u32, position: u32, crc: u32, n: u32) -> TurnAnswer {
     unsafe { tt_check_turn(region.as_ptr(), region.len(), bank, position, crc, n) }
 }
+
+/// The row at a place of a table of a source, the names line being that at 0:
+/// its values, joined, into the first bytes of `out`, and where each ends into
+/// `ends`.
+pub fn bank_row(
+    region: &[u8],
+    bank: u32,
+    source: u32,
+    table: u32,
+    place: usize,
+    out: &mut [u8],
+    ends: &mut [usize],
+) -> BankRowAnswer {
+    unsafe {
+        tt_bank_row(
+            region.as_ptr(),
+            region.len(),
+            bank,
+            source,
+            table,
+            place,
+            out.as_mut_ptr(),
+            out.len(),
+            ends.as_mut_ptr(),
+            ends.len(),
+        )
+    }
+}

@@ -69,6 +69,18 @@ mod core_interface {
             crc: u32,
             count: u32,
         ) -> TurnAnswer;
+        pub fn tt_bank_row(
+            region: *const u8,
+            n: usize,
+            bank: u32,
+            source: u32,
+            table: u32,
+            place: usize,
+            out: *mut u8,
+            room: usize,
+            ends: *mut usize,
+            slots: usize,
+        ) -> BankRowAnswer;
     }
 }
 use core_interface::*;
