@@ -1,4 +1,5 @@
 // The lines on a region.
+use crate::listing;
 use crate::options::Options;
 use crate::out::field;
 use crate::out::hex_field;
@@ -186,6 +187,9 @@ fn found(region: &[u8], b: Bank, o: Options, identity: &[u8], texts: &[u8], leng
     if o.selected {
         same_key(region, b.number, o, identity, texts, lengths);
     }
+    if o.listed {
+        listing::rows(region, b, o);
+    }
 }
 
 fn nothing(o: Options) {
@@ -195,6 +199,9 @@ fn nothing(o: Options) {
     }
     if o.selected {
         say(b"match: no bank\n");
+    }
+    if o.listed {
+        say(b"rows: no bank\n");
     }
 }
 

@@ -1,6 +1,7 @@
 // Says what is in a board's flash image: docs/INSPECT.md has the options and the lines.
 mod image;
 mod lines;
+mod listing;
 mod message;
 mod options;
 mod out;

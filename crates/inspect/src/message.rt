@@ -50,6 +50,11 @@ fn help_match() {
     say(b"                       one pick of the selection, '' for an empty field; may be\n");
     say(b"                       repeated\n");
     say(b"  --match              match the selection, also one without identity and picks\n");
+}
+
+fn help_rows() {
+    say(b"  --rows SOURCE TABLE  the stored rows of a table of a source: SOURCE is 0, 1, 2 or\n");
+    say(b"                       all, TABLE a table's name or all\n");
     say(b"  --help               this text\n");
 }
 
@@ -64,6 +69,7 @@ fn help() {
     help_image();
     help_fresh();
     help_match();
+    help_rows();
     help_end();
 }
 
@@ -81,6 +87,7 @@ pub fn said(o: Options, space: &mut [u8]) -> bool {
         End::Wanted => wrong(b"--wanted needs y or n three times, as y,y,n"),
         End::Identity => wrong(b"--identity needs a text"),
         End::Pick => wrong(b"--pick needs five texts: line, route, stop code, stop, stop name"),
+        End::Rows => wrong(b"--rows needs a source (0, 1, 2 or all) and a table's name or all"),
     }
     true
 }

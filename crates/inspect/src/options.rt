@@ -26,10 +26,11 @@ pub enum End {
     Wanted,
     Identity,
     Pick,
+    Rows,
 }
 
 // What the arguments ask for. The image and the identity are places of arguments, 0 for none. Of the picks their lengths and their
-// bytes are counted; at most 17 picks are kept, one more than a key can have.
+// bytes are counted; at most 17 picks are kept, one more than a key can have. Source 3 and table 8 are all.
 pub struct Options {
     pub end: End,
     pub at: usize,
@@ -42,6 +43,9 @@ pub struct Options {
     pub identity: usize,
     pub lengths: usize,
     pub used: usize,
+    pub listed: bool,
+    pub source: u32,
+    pub table: u32,
 }
 
 fn none() -> Options {
@@ -66,6 +70,9 @@ fn none() -> Options {
         identity: 0,
         lengths: 0,
         used: 0,
+        listed: false,
+        source: 0,
+        table: 0,
     }
 }
 
@@ -289,7 +296,74 @@ fn take_match(o: Options) -> Options {
     }
 }
 
-// The options, by number; 0 is an image and 8 no option.
+// A source by its number; 3 is all, 4 none.
+fn source_named(s: &[u8]) -> u32 {
+    if same(s, b"0") {
+        return 0;
+    }
+    if same(s, b"1") {
+        return 1;
+    }
+    if same(s, b"2") {
+        return 2;
+    }
+    if same(s, b"all") { 3 } else { 4 }
+}
+
+// A table of the first four by its name; 9 is none.
+fn early_table(s: &[u8]) -> u32 {
+    if same(s, b"routes") {
+        return 0;
+    }
+    if same(s, b"stops") {
+        return 1;
+    }
+    if same(s, b"trips") {
+        return 2;
+    }
+    if same(s, b"stop_times") { 3 } else { 9 }
+}
+
+// A table of the last four by its name; 8 is all, 9 none.
+fn late_table(s: &[u8]) -> u32 {
+    if same(s, b"calendar") {
+        return 4;
+    }
+    if same(s, b"calendar_dates") {
+        return 5;
+    }
+    if same(s, b"feed_info") {
+        return 6;
+    }
+    if same(s, b"transfers") {
+        return 7;
+    }
+    if same(s, b"all") { 8 } else { 9 }
+}
+
+fn table_named(s: &[u8]) -> u32 {
+    let t = early_table(s);
+    if t < 4 { t } else { late_table(s) }
+}
+
+fn take_rows(o: Options, space: &mut [u8]) -> Options {
+    let n = os::arg(wrapping_add_usize(o.at, 1), space);
+    let source = source_named(part(space, 0, n));
+    let m = os::arg(wrapping_add_usize(o.at, 2), space);
+    let table = table_named(part(space, 0, m));
+    if (source == 4) | (table == 9) {
+        return ended(o, End::Rows);
+    }
+    Options {
+        listed: true,
+        source,
+        table,
+        at: wrapping_add_usize(o.at, 3),
+        ..o
+    }
+}
+
+// The options, by number; 0 is an image and 9 no option.
 fn kind(s: &[u8]) -> u8 {
     if get8(s, 0) != b'-' {
         return 0;
@@ -312,7 +386,10 @@ fn kind(s: &[u8]) -> u8 {
     if same(s, b"--pick") {
         return 6;
     }
-    if same(s, b"--match") { 7 } else { 8 }
+    if same(s, b"--match") {
+        return 7;
+    }
+    if same(s, b"--rows") { 8 } else { 9 }
 }
 
 // One option with what follows it.
@@ -328,6 +405,7 @@ fn step(o: Options, space: &mut [u8], texts: &mut [u8], lengths: &mut [u32]) -> 
         5 => take_identity(o),
         6 => take_pick(o, space, texts, lengths),
         7 => take_match(o),
+        8 => take_rows(o, space),
         _ => ended(o, End::NoOption),
     }
 }

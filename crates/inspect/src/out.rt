@@ -94,7 +94,7 @@ pub fn table(t: usize) {
 }
 
 // A digit of a byte in hexadecimal.
-fn hex_digit(d: u8) -> u8 {
+pub fn hex_digit(d: u8) -> u8 {
     let v = d % 16;
     if v < 10 { 48 + v } else { 87 + v }
 }

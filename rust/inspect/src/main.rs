@@ -1,6 +1,7 @@
 //! What the lifted Rust says of a flash image, line by line as the proved
 //! program inspect prints it; docs/INSPECT.md has the lines.
 mod options;
+mod rows;
 
 use lifted::{
     cache::{
@@ -157,6 +158,9 @@ fn loaded(flash: &View, bank: Bank, options: &Options) -> Result<Vec<String>, Er
     if let Some(selection) = &options.selection {
         out.push(format!("match: {}", matches(flash, bank, selection)));
     }
+    if let Some(asked) = &options.rows {
+        out.extend(rows::lines(flash, bank, asked)?);
+    }
     Ok(out)
 }
 
@@ -182,6 +186,9 @@ fn inspect(options: &Options) -> Result<Vec<String>, String> {
             }
             if options.selection.is_some() {
                 out.push("match: no bank".into());
+            }
+            if options.rows.is_some() {
+                out.push("rows: no bank".into());
             }
         }
         Err(error) => out.push(format!("load: the Rust says {error:?}")),

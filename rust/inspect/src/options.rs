@@ -1,4 +1,5 @@
 //! The arguments.
+use crate::{TABLES, rows::Asked};
 use std::{
     ffi::{OsStr, OsString},
     os::unix::ffi::OsStringExt,
@@ -22,6 +23,8 @@ refused, the bank that load gives, its key and its sources.
                        one pick of the selection, '' for an empty field; may be
                        repeated
   --match              match the selection, also one without identity and picks
+  --rows SOURCE TABLE  the stored rows of a table of a source: SOURCE is 0, 1, 2 or
+                       all, TABLE a table's name or all
   --help               this text
 
 With wrong arguments, an image of another size or one that can't be read, one
@@ -45,6 +48,7 @@ pub struct Options {
     pub now: Option<i64>,
     pub days: Option<Days>,
     pub selection: Option<Selection>,
+    pub rows: Option<Asked>,
 }
 
 fn digits(text: &str) -> bool {
@@ -56,6 +60,20 @@ fn three<T>(text: &OsStr, part: impl Fn(&str) -> Option<T>) -> Option<[T; 3]> {
     parts?.try_into().ok()
 }
 
+/// The rows asked for; none where the words mean none.
+fn asked(source: &OsStr, table: &OsStr) -> Option<Asked> {
+    let source = match source.to_str()? {
+        "all" => None,
+        digit @ ("0" | "1" | "2") => digit.parse().ok(),
+        _ => return None,
+    };
+    let table = match table.to_str()? {
+        "all" => None,
+        name => Some(TABLES.iter().position(|t| *t == name)?),
+    };
+    Some(Asked { source, table })
+}
+
 /// The arguments as options; none where help is asked for.
 pub fn read(mut arguments: impl Iterator<Item = OsString>) -> Result<Option<Options>, String> {
     let mut image = None;
@@ -63,6 +81,7 @@ pub fn read(mut arguments: impl Iterator<Item = OsString>) -> Result<Option<Opti
     let mut days = None;
     let mut wanted = [true; 3];
     let mut selection = None::<Selection>;
+    let mut rows = None;
     while let Some(argument) = arguments.next() {
         let mut value = |what: &str| arguments.next().ok_or(format!("{what}; see inspect --help"));
         match argument.to_str() {
@@ -108,6 +127,12 @@ pub fn read(mut arguments: impl Iterator<Item = OsString>) -> Result<Option<Opti
             Some("--match") => {
                 selection.get_or_insert_default();
             }
+            Some("--rows") => {
+                let what = "--rows needs a source (0, 1, 2 or all) and a table's name or all";
+                let words = [value(what)?, value(what)?];
+                let found = asked(&words[0], &words[1]);
+                rows = Some(found.ok_or(format!("{what}; see inspect --help"))?);
+            }
             Some(other) if other.starts_with('-') => {
                 return Err(format!("there is no option {other}; see inspect --help"));
             }
@@ -118,5 +143,5 @@ pub fn read(mut arguments: impl Iterator<Item = OsString>) -> Result<Option<Opti
     if days.is_some() && now.is_none() {
         return Err("--days needs --now; see inspect --help".into());
     }
-    Ok(Some(Options { image, now, days: days.map(|days| Days { days, wanted }), selection }))
+    Ok(Some(Options { image, now, days: days.map(|days| Days { days, wanted }), selection, rows }))
 }

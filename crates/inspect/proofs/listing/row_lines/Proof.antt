@@ -1,0 +1,62 @@
+use borrow.Author.Needs.{needs}
+use mathlib.Core.Path.{_≡_}
+use lib.ListN.{length}
+use Rattle.inspect.proofs.listing.row_lines.Statement.{statement}
+use Rattle.inspect.proofs.listing.row_lines.Tie as tie
+
+abbrev Inv-loop : tie.InvT-loop
+Inv-loop region number source t values₀ line₀ place₀ turns₀ values line place turns = (length values ≡ length values₀) × (length line ≡ length line₀)
+
+abbrev μ-loop : tie.MeasureT-loop
+μ-loop region number source t values₀ line₀ place₀ turns₀ values line place turns = turns
+
+value-room-requires : tie.Need-value-room-requires Inv-loop μ-loop
+value-room-requires c κs = search needs
+
+slice-aggregate-values : tie.Need-slice-aggregate-values Inv-loop μ-loop
+slice-aggregate-values c = search needs
+
+line-room-requires : tie.Need-line-room-requires Inv-loop μ-loop
+line-room-requires c κs = search needs
+
+slice-aggregate-line : tie.Need-slice-aggregate-line Inv-loop μ-loop
+slice-aggregate-line c = search needs
+
+loop-holds : tie.Need-loop-holds Inv-loop μ-loop
+loop-holds c = search needs
+
+row-line-requires : tie.Need-row-line-requires Inv-loop μ-loop
+row-line-requires c κs = search needs
+
+returns : tie.Need-returns Inv-loop μ-loop
+returns c = search needs
+
+sub-turns : tie.Need-sub-turns Inv-loop μ-loop
+sub-turns c = search needs
+
+loop-less : tie.Need-loop-less Inv-loop μ-loop
+loop-less c = search needs
+
+loop-again : tie.Need-loop-again Inv-loop μ-loop
+loop-again c = search needs
+
+returns-2 : tie.Need-returns-2 Inv-loop μ-loop
+returns-2 c = search needs
+
+pub row-lines-spec : {M : Type 1} → statement M
+row-lines-spec =
+    tie.close
+    (tie.spec
+    Inv-loop
+    μ-loop
+    value-room-requires
+    slice-aggregate-values
+    line-room-requires
+    slice-aggregate-line
+    loop-holds
+    row-line-requires
+    returns
+    sub-turns
+    loop-less
+    loop-again
+    returns-2)

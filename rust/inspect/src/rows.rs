@@ -1,0 +1,164 @@
+//! The stored rows of the bank that load gives, by the lifted reader of stored
+//! tables, `csv::Reader`.
+use crate::{TABLES, refusal};
+use lifted::{
+    cache::{
+        Bank, Storage,
+        door::{self, BankFields, SECTOR},
+    },
+    gtfs::{
+        Error, Table,
+        csv::{Column, Reader},
+    },
+    standins::{
+        embedded_io_async::{ErrorType, Read},
+        run::block_on,
+        view::View,
+    },
+};
+use std::{cell::Cell, fmt::Write};
+
+/// Which rows are asked for; none means all.
+pub struct Asked {
+    pub source: Option<u32>,
+    pub table: Option<usize>,
+}
+
+/// Bytes, handed out one at a time and counted, so that the reader takes no
+/// more than the row that it gives.
+struct Bytes<'a> {
+    bytes: &'a [u8],
+    taken: &'a Cell<usize>,
+}
+
+impl ErrorType for Bytes<'_> {
+    type Error = Error;
+}
+
+impl Read for Bytes<'_> {
+    async fn read(&mut self, out: &mut [u8]) -> Result<usize, Error> {
+        let (Some(byte), Some(room)) = (self.bytes.get(self.taken.get()), out.first_mut()) else {
+            return Ok(0);
+        };
+        *room = *byte;
+        self.taken.set(self.taken.get() + 1);
+        Ok(1)
+    }
+}
+
+/// Each value in quotes; a byte that isn't from 32 to 126, a quote and a
+/// backslash as \xNN.
+fn spell(values: &[String]) -> String {
+    let mut line = String::new();
+    for (k, value) in values.iter().enumerate() {
+        line += if k == 0 { "\"" } else { ",\"" };
+        for b in value.bytes() {
+            match b {
+                b'"' | b'\\' | 0..32 | 127.. => write!(line, "\\x{b:02x}").unwrap(),
+                _ => line.push(b.into()),
+            }
+        }
+        line.push('"');
+    }
+    line
+}
+
+/// What the reader says: 14 where it means the row's width or length.
+fn error(error: Error) -> String {
+    match error {
+        Error::InvalidField("CSV record width") | Error::RecordTooLong | Error::TooManyFields => {
+            refusal(14)
+        }
+        other => format!("the Rust says {other:?}"),
+    }
+}
+
+/// A row: where it starts, and its values or the reader's error.
+type Row = (usize, Result<Vec<String>, Error>);
+
+/// The rows of a table's bytes, up to the first error.
+struct Rows<'a> {
+    reader: Reader<Bytes<'a>>,
+    taken: &'a Cell<usize>,
+    columns: &'static [Column],
+}
+
+impl<'a> Rows<'a> {
+    fn new(bytes: &'a [u8], taken: &'a Cell<usize>, t: Table) -> Self {
+        Self { reader: Reader::new(Bytes { bytes, taken }, t), taken, columns: door::columns(t) }
+    }
+    /// The next row's values, and where it ends.
+    fn next(&mut self) -> Option<(Result<Vec<String>, Error>, usize)> {
+        let values = match block_on(self.reader.next()) {
+            Ok(None) => return None,
+            Ok(Some(record)) => {
+                let value = |c: &Column| record.get(*c).unwrap_or("").into();
+                Ok(self.columns.iter().map(value).collect())
+            }
+            Err(error) => Err(error),
+        };
+        Some((values, self.taken.get()))
+    }
+}
+
+/// The stored names line, which the reader takes for itself: it is given the
+/// table's own names before it, and reads it as a row. With where it ends.
+fn names(bytes: &[u8], t: Table) -> Option<(Result<Vec<String>, Error>, usize)> {
+    let own: Vec<&str> = door::columns(t).iter().map(|c| c.name()).collect();
+    let own = own.join(",") + "\n";
+    let all = [own.as_bytes(), bytes].concat();
+    let taken = Cell::new(0);
+    let (values, end) = Rows::new(&all, &taken, t).next()?;
+    Some((values, end - own.len()))
+}
+
+/// The rows that the reader gives of a table's bytes, the names line first.
+fn rows(bytes: &[u8], t: Table) -> Vec<Row> {
+    let Some((first, mut place)) = names(bytes, t) else {
+        return Vec::new();
+    };
+    let mut out = vec![(0, first)];
+    let taken = Cell::new(0);
+    let mut rest = Rows::new(bytes, &taken, t);
+    while out.last().is_some_and(|(_, row)| row.is_ok()) {
+        let Some((values, end)) = rest.next() else {
+            break;
+        };
+        // An error before the names line's end is about the names.
+        if end <= place {
+            return vec![(0, values)];
+        }
+        out.push((place, values));
+        place = end;
+    }
+    out
+}
+
+fn table(flash: &View, bank: Bank, i: u32, t: usize) -> Result<Vec<String>, Error> {
+    let start = |place| format!("row {i} {} {place}: ", TABLES[t]);
+    let source = match door::source(bank, flash, i as usize) {
+        Ok(source) => source,
+        Err(Error::InvalidZip) => return Ok(vec![start(0) + &refusal(6)]),
+        Err(other) => return Err(other),
+    };
+    let [offset, length, _] = source.tables[t];
+    if length == 0 {
+        return Ok(Vec::new());
+    }
+    let mut bytes = vec![0; length as usize];
+    flash.read(BankFields::from(bank).offset + SECTOR + offset, &mut bytes)?;
+    let line = |(place, row): Row| start(place) + &row.map_or_else(error, |values| spell(&values));
+    Ok(rows(&bytes, Table::ALL[t]).into_iter().map(line).collect())
+}
+
+pub fn lines(flash: &View, bank: Bank, asked: &Asked) -> Result<Vec<String>, Error> {
+    let sources = asked.source.map_or(0..BankFields::from(bank).count, |i| i..i + 1);
+    let tables = asked.table.map_or(0..TABLES.len(), |t| t..t + 1);
+    let mut out = Vec::new();
+    for i in sources {
+        for t in tables.clone() {
+            out.extend(table(flash, bank, i, t)?);
+        }
+    }
+    Ok(out)
+}
