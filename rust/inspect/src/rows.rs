@@ -76,7 +76,7 @@ fn error(error: Error) -> String {
 /// A row: where it starts, and its values or the reader's error.
 type Row = (usize, Result<Vec<String>, Error>);
 
-/// The rows of a table's bytes, up to the first error.
+/// The reader over a table's bytes.
 struct Rows<'a> {
     reader: Reader<Bytes<'a>>,
     taken: &'a Cell<usize>,
@@ -120,15 +120,16 @@ fn rows(bytes: &[u8], t: Table) -> Vec<Row> {
     let mut out = vec![(0, first)];
     let taken = Cell::new(0);
     let mut rest = Rows::new(bytes, &taken, t);
-    while out.last().is_some_and(|(_, row)| row.is_ok()) {
-        let Some((values, end)) = rest.next() else {
-            break;
-        };
+    while let Some((values, end)) = rest.next() {
         // An error before the names line's end is about the names.
         if end <= place {
             return vec![(0, values)];
         }
+        let last = values.is_err();
         out.push((place, values));
+        if last {
+            break;
+        }
         place = end;
     }
     out
