@@ -2,11 +2,10 @@
 use mathlib.Core.Path.{_≡_, refl, ap, _∙_, sym}
 use mathlib.Core.Bool.{Bool, true, false}
 use mathlib.Core.List.{List}
-use Prim.Native.Nat.{ℕ, _≤_, _<_}
+use Prim.Native.Nat.{ℕ}
 use native.Mathlib.Omega.{arith}
 use lib.Dec.{leb, eqb, ltb}
 use lib.ListN.{length, getD}
-use borrow.Author.Tests.{lt-ltb, le-leb}
 use Rattle.refusal.specs.declared.Refusal.{Refusal}
 use Rattle.refusal.specs.declared.Refusal.the-variants.{Region, Argument, Source as NoSuchSource}
 use Rattle.record.specs.Record.{noBlock}
@@ -19,7 +18,7 @@ use Rattle.header.proofs.Laws.{passed}
 use Rattle.bank.specs.Bank.{named}
 use Rattle.bank.proofs.Sequence.{named-passes}
 use Rattle.loaded.specs.declared.Outcome.the-variants.{Done, Refused as NoSource}
-use Rattle.loaded.specs.Source.{sourceIn, refuse, thenSource, askedSource}
+use Rattle.loaded.specs.Source.{sourceIn, thenSource, askedSource}
 use Rattle.loaded.specs.Freshness.{namedIf}
 use Rattle.row.specs.Columns.{maxTable, columnCount}
 use Rattle.rowread.specs.declared.ReadAnswer.the-variants.{Refused}
@@ -27,7 +26,7 @@ use Rattle.rowread.specs.Stored.{valuesAt, readAnswer}
 use Rattle.rows.specs.Rows.{bytesOf, tableIn, thenRow, askedRow, thenValues, valuesIn}
 
 -- a bank that is named has that number
-its-number : (region : List ℕ) (n : ℕ) (b : Bank) → named region n ≡ Good b → b .number ≡ n
+pub its-number : (region : List ℕ) (n : ℕ) (b : Bank) → named region n ≡ Good b → b .number ≡ n
 unfolding numbersOf
 its-number region n b e = ap (λ (x : Bank). x .number) (passed n (bankOf region n) b (named-passes region n b e .header) .numbers)
 

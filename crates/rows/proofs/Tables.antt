@@ -1,8 +1,8 @@
 -- A table of a bank reads row by row.
-use mathlib.Core.Path.{_≡_, refl, ap, _∙_, sym}
+use mathlib.Core.Path.{_≡_, ap, _∙_, sym}
 use mathlib.Core.Bool.{true}
 use mathlib.Core.List.{List, [], _∷_, _++_}
-use Prim.Native.Nat.{ℕ, _≤_, _<_}
+use Prim.Native.Nat.{ℕ}
 use borrow.Author.Tests.{lt-ltb, le-leb}
 use lib.Dec.{leb, ltb}
 use Rattle.header.specs.declared.Bank.{Bank}
@@ -10,9 +10,9 @@ use Rattle.header.specs.declared.Validated.the-variants.{Good}
 use Rattle.bank.specs.Bank.{named}
 use Rattle.row.specs.Columns.{maxTable, columnsOf, columnCount, namesLine}
 use Rattle.row.proofs.Names.{names-are-a-row}
-use Rattle.rowread.specs.Claims.{Reads, atEnd as endOfTable, onward as further, AllFit, tableOf}
+use Rattle.rowread.specs.Claims.{Reads, atEnd as endOfTable, onward as further, tableOf}
 use Rattle.rowread.proofs.Table.{reads-table}
-use Rattle.rows.specs.Rows.{tableIn, askedRow, valuesIn}
+use Rattle.rows.specs.Rows.{tableIn}
 use Rattle.rows.specs.Claims.{BankReads, atEnd, onward, ReadsBank}
 use Rattle.rows.proofs.Laws.{is-answer, is-values}
 

@@ -1,5 +1,4 @@
 -- A row of a loaded bank: named by bank, source, table, and the place in the table where it starts.
-use mathlib.Core.Bool.{Bool, true, false}
 use mathlib.Core.List.{List, []}
 use Prim.Native.Nat.{ℕ, _+_}
 use lib.Dec.{leb, ltb}
@@ -7,7 +6,6 @@ use lib.ListN.{take, drop, getD}
 use Rattle.number.specs.Number.{pick}
 use Rattle.refusal.specs.declared.Refusal.the-variants.{Source as NoSuchSource}
 use Rattle.record.specs.declared.Block.{Block}
-use Rattle.record.specs.declared.Source.{Source}
 use Rattle.record.specs.Record.{noBlock}
 use Rattle.header.specs.declared.Bank.{Bank}
 use Rattle.header.specs.declared.Validated.{Validated}

@@ -2,7 +2,7 @@ use Rattle.rows.specs.Rows.{bytesOf}
 use Prim.Native.Nat.{ℕ, _+_}
 use lib.ListN.{take, drop}
 use mathlib.Core.List.{List}
-use mathlib.Core.Path.{_≡_, ap, _∙_}
+use mathlib.Core.Path.{ap, _∙_}
 use borrow.Author.Needs.{needs}
 use Rattle.rows.proofs.bytes_of.Statement.{statement}
 use Rattle.rows.proofs.bytes_of.Tie as tie
