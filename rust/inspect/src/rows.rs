@@ -102,7 +102,8 @@ impl<'a> Rows<'a> {
 }
 
 /// The stored names line, which the reader takes for itself: it is given the
-/// table's own names before it, and reads it as a row. With where it ends.
+/// table's own names before it, and reads it as a row. With where it ends; none
+/// where all lines are empty.
 fn names(bytes: &[u8], t: Table) -> Option<(Result<Vec<String>, Error>, usize)> {
     let own: Vec<&str> = door::columns(t).iter().map(|c| c.name()).collect();
     let own = own.join(",") + "\n";
@@ -112,19 +113,19 @@ fn names(bytes: &[u8], t: Table) -> Option<(Result<Vec<String>, Error>, usize)> 
     Some((values, end - own.len()))
 }
 
-/// The rows that the reader gives of a table's bytes, the names line first.
+/// The rows that the reader gives of a table's bytes, the names line first; the
+/// error alone where it refuses the names.
 fn rows(bytes: &[u8], t: Table) -> Vec<Row> {
-    let Some((first, mut place)) = names(bytes, t) else {
-        return Vec::new();
-    };
-    let mut out = vec![(0, first)];
+    let first = names(bytes, t);
+    let mut place = first.as_ref().map_or(bytes.len(), |(_, end)| *end);
     let taken = Cell::new(0);
+    if let Some((refused, _)) = Rows::new(&bytes[..place], &taken, t).next() {
+        return vec![(0, refused)];
+    }
+    let mut out: Vec<Row> = first.into_iter().map(|(values, _)| (0, values)).collect();
+    taken.set(0);
     let mut rest = Rows::new(bytes, &taken, t);
     while let Some((values, end)) = rest.next() {
-        // An error before the names line's end is about the names.
-        if end <= place {
-            return vec![(0, values)];
-        }
         let last = values.is_err();
         out.push((place, values));
         if last {
