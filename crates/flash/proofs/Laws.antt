@@ -1,0 +1,293 @@
+-- Laws of operations on a bank, whole or done in part, and of banks in a region.
+use mathlib.Core.Path.{_≡_, refl, sym, ap, _∙_}
+use mathlib.Core.Bool.{false}
+use mathlib.Core.List.{List, [], _∷_, _++_}
+use mathlib.Core.Logic.{_⊎_, inl, inr}
+use Prim.Native.Nat.{ℕ, zero, suc, _+_, _*_, _/_, _%_, _≤_, _<_, min}
+use native.Mathlib.Omega.{arith}
+use native.Mathlib.Nat.{suc-min-suc, mod-eq-of-lt, le-of-suc-le-suc, not-suc-le-zero}
+use borrow.Author.Tests.{eq-eqb, le-leb}
+use lib.Arith.{bin-ind}
+use lib.Bits.{bitAnd, and-step, and-zero-l, and-self, and-mask, and-comm}
+use lib.ListN.{take, drop, length, getD, length-append, length-take, length-drop, take-append-drop, List·getD-append}
+use lib.Seq.{take-at, drop-at, take-all, take-length, length-take-le, take-append-le, getD-take, getD-drop, getD-append-add, drop-drop}
+use Rattle.leaf.specs.Bytes.{byte}
+use Rattle.record.specs.Runs.{fill}
+use Rattle.header.specs.Region.{regionSize, bankSize, sectorSize, bankOf}
+use Rattle.flash.specs.Flash.{Op, erase, write, blank, clear, place, size, done, withBank, applied, performed, fits, after}
+
+-- every number of a list is a byte's
+abbrev pub Bytes : List ℕ → Type 0
+Bytes l = (k : ℕ) → byte l k < 256
+
+-- ---- bytes blanked and cleared
+
+pub length-blank : (n : ℕ) (b : List ℕ) → length (blank n b) ≡ length b
+unfolding blank
+length-blank zero b = refl
+length-blank (suc n) [] = refl
+length-blank (suc n) (x ∷ b) = ap suc (length-blank n b)
+
+pub length-clear : (ws b : List ℕ) → length (clear ws b) ≡ length b
+unfolding clear
+length-clear [] b = refl
+length-clear (w ∷ ws) [] = refl
+length-clear (w ∷ ws) (x ∷ b) = ap suc (length-clear ws b)
+
+-- x and w together have no bit that x has not
+no-more : (x w : ℕ) → bitAnd (bitAnd x w) x ≡ bitAnd x w
+no-more =
+    bin-ind (λ (x : ℕ). (w : ℕ) → bitAnd (bitAnd x w) x ≡ bitAnd x w) (λ w. rw (and-zero-l w))
+    (λ x ih w.
+    let a = bitAnd (x / 2) (w / 2) in
+    let s : bitAnd x w ≡ a * 2 + min (x % 2) (w % 2) = and-step x w in
+    let p : bitAnd x w / 2 ≡ a = omega arith in
+    let q : bitAnd x w % 2 ≡ min (x % 2) (w % 2) = omega arith in
+    and-step (bitAnd x w) x ∙ rw (p, q, ih (w / 2)) (omega arith))
+
+-- a write clears bits only: no byte has a bit that it had not
+pub clears-only : (ws b : List ℕ) (i : ℕ) → bitAnd (byte (clear ws b) i) (byte b i) ≡ byte (clear ws b) i
+unfolding clear
+clears-only [] b i = and-self (byte b i)
+clears-only (w ∷ ws) [] i = and-self (byte [] i)
+clears-only (w ∷ ws) (x ∷ b) zero = no-more x w
+clears-only (w ∷ ws) (x ∷ b) (suc i) = clears-only ws b i
+
+and-255 : (x : ℕ) → x < 256 → bitAnd 255 x ≡ x
+and-255 x h = and-comm 255 x ∙ and-mask x 8 ∙ mod-eq-of-lt h
+
+-- blank bytes take what is written
+pub clear-blank : (ws r : List ℕ) → Bytes ws → clear ws (fill 255 (length ws) ++ r) ≡ ws ++ r
+unfolding clear fill
+clear-blank [] r h = refl
+clear-blank (w ∷ ws) r h = rw (and-255 w (h 0), clear-blank ws r (λ k. h (suc k)))
+
+pub blank-over : (xs r : List ℕ) → blank (length xs) (xs ++ r) ≡ fill 255 (length xs) ++ r
+unfolding blank fill
+blank-over [] r = refl
+blank-over (x ∷ xs) r = ap (λ (l : List ℕ). 255 ∷ l) (blank-over xs r)
+
+-- a blank byte stays where the write has 255 or nothing
+pub stays-255 : (ws b : List ℕ) (i : ℕ) → getD ws i 255 ≡ 255 → byte b i ≡ 255 → byte (clear ws b) i ≡ 255
+unfolding clear
+stays-255 [] b i p q = q
+stays-255 (w ∷ ws) [] i p q = q
+stays-255 (w ∷ ws) (x ∷ b) zero p q = ap (λ (k : ℕ). bitAnd x k) p ∙ ap (λ (k : ℕ). bitAnd k 255) q
+stays-255 (w ∷ ws) (x ∷ b) (suc i) p q = stays-255 ws b i p q
+
+-- bytes past what is cleared or blanked stay
+pub clear-past : (ws b : List ℕ) (i : ℕ) → length ws ≤ i → byte (clear ws b) i ≡ byte b i
+unfolding clear
+clear-past [] b i h = refl
+clear-past (w ∷ ws) [] i h = refl
+clear-past (w ∷ ws) (x ∷ b) zero h = absurd (not-suc-le-zero h)
+clear-past (w ∷ ws) (x ∷ b) (suc i) h = clear-past ws b i (le-of-suc-le-suc h)
+
+pub blank-past : (n : ℕ) (b : List ℕ) (i : ℕ) → n ≤ i → byte (blank n b) i ≡ byte b i
+unfolding blank
+blank-past zero b i h = refl
+blank-past (suc n) [] i h = refl
+blank-past (suc n) (x ∷ b) zero h = absurd (not-suc-le-zero h)
+blank-past (suc n) (x ∷ b) (suc i) h = blank-past n b i (le-of-suc-le-suc h)
+
+-- a write's first bytes have 255 where it has
+torn-255 : (ws : List ℕ) (j i : ℕ) → getD ws i 255 ≡ 255 → getD (take j ws) i 255 ≡ 255
+torn-255 ws zero i e = refl
+torn-255 [] (suc j) i e = refl
+torn-255 (w ∷ ws) (suc j) zero e = e
+torn-255 (w ∷ ws) (suc j) (suc i) e = torn-255 ws j i e
+
+-- ---- an operation's first j bytes
+
+pub length-done : (j : ℕ) (op : Op) (b : List ℕ) → length (done j op b) ≡ length b
+unfolding done
+length-done j (erase at) b =
+    simp (length-append, length-blank) (sym (length-append (take at b) (drop at b)) ∙ ap length (take-append-drop at b))
+length-done j (write at ws) b =
+    simp (length-append, length-clear) (sym (length-append (take at b) (drop at b)) ∙ ap length (take-append-drop at b))
+
+-- nothing is done yet
+pub done-zero : (op : Op) (b : List ℕ) → done 0 op b ≡ b
+unfolding done blank clear
+done-zero (erase at) b = take-append-drop at b
+done-zero (write at ws) b = take-append-drop at b
+
+-- bytes before the operation's place stay
+take-kept : (at k : ℕ) (b x : List ℕ) → k ≤ at → at ≤ length b → take k (take at b ++ x) ≡ take k b
+take-kept at k b x h l =
+    take-append-le k (take at b) x (rw (length-take-le at b l) h)
+    ∙ sym (take-append-le k (take at b) (drop at b) (rw (length-take-le at b l) h))
+    ∙ ap (take k) (take-append-drop at b)
+
+pub done-take : (j : ℕ) (op : Op) (k : ℕ) (b : List ℕ) → k ≤ place op → place op ≤ length b → take k (done j op b) ≡ take k b
+unfolding done
+done-take j (erase at) k b h l = take-kept at k b (blank (min j sectorSize) (drop at b)) h l
+done-take j (write at ws) k b h l = take-kept at k b (clear (take j ws) (drop at b)) h l
+
+kept-before : (at i : ℕ) (b x : List ℕ) → i < at → at ≤ length b → byte (take at b ++ x) i ≡ byte b i
+kept-before at i b x h l =
+    List·getD-append (take at b) x 0 i (rw (length-take-le at b l) h) ∙ getD-take at b i 0 h
+
+pub done-before : (j : ℕ) (op : Op) (i : ℕ) (b : List ℕ) → i < place op → place op ≤ length b → byte (done j op b) i ≡ byte b i
+unfolding done
+done-before j (erase at) i b h l = kept-before at i b (blank (min j sectorSize) (drop at b)) h l
+done-before j (write at ws) i b h l = kept-before at i b (clear (take j ws) (drop at b)) h l
+
+-- a byte from an operation's place on
+from-place : (at i : ℕ) (b x : List ℕ) → at ≤ length b → byte (take at b ++ x) (at + i) ≡ byte x i
+from-place at i b x l =
+    ap (λ (n : ℕ). byte (take at b ++ x) (n + i)) (sym (length-take-le at b l)) ∙ getD-append-add (take at b) x i 0
+
+-- bytes not yet reached stay, those past the operation's end too
+min-at-most : (j n i : ℕ) → (j ≤ i) ⊎ (n ≤ i) → min j n ≤ i
+min-at-most j n i (inl h) = omega arith
+min-at-most j n i (inr h) = omega arith
+
+pub erase-past : (j at i : ℕ) (b : List ℕ) → at ≤ length b → (j ≤ i) ⊎ (sectorSize ≤ i) → byte (done j (erase at) b) (at + i) ≡ byte b (at + i)
+unfolding done
+erase-past j at i b l o =
+    from-place at i b (blank (min j sectorSize) (drop at b)) l ∙ blank-past (min j sectorSize) (drop at b) i (min-at-most j sectorSize i o) ∙ getD-drop at b i 0
+
+pub write-past : (j at i : ℕ) (ws b : List ℕ) → at ≤ length b → (j ≤ i) ⊎ (length ws ≤ i) → byte (done j (write at ws) b) (at + i) ≡ byte b (at + i)
+unfolding done
+write-past j at i ws b l o =
+    from-place at i b (clear (take j ws) (drop at b)) l ∙ clear-past (take j ws) (drop at b) i (rw (length-take j ws) (min-at-most j (length ws) i o)) ∙ getD-drop at b i 0
+
+-- a blank byte stays where the write has 255 or nothing, however far it is done
+pub write-leaves-255 : (j at i : ℕ) (ws b : List ℕ) → at ≤ length b → getD ws i 255 ≡ 255 → byte b (at + i) ≡ 255 → byte (done j (write at ws) b) (at + i) ≡ 255
+unfolding done
+write-leaves-255 j at i ws b l p q =
+    from-place at i b (clear (take j ws) (drop at b)) l ∙ stays-255 (take j ws) (drop at b) i (torn-255 ws j i p) (getD-drop at b i 0 ∙ q)
+
+-- the erase of the header sector, done in part: not begun, or byte 0 is 255
+pub cut-first : (j : ℕ) (b : List ℕ) → 0 < length b → (done j (erase 0) b ≡ b) ⊎ (byte (done j (erase 0) b) 0 ≡ 255)
+unfolding done blank
+cut-first j [] h = absurd (not-suc-le-zero h)
+cut-first zero (x ∷ b) h = inl refl
+cut-first (suc j) (x ∷ b) h = inr (rw (suc-min-suc j 4095))
+
+-- ---- whole operations
+
+-- past its size nothing more is done
+pub done-whole : (j : ℕ) (op : Op) (b : List ℕ) → size op ≤ j → done j op b ≡ done (size op) op b
+unfolding done
+done-whole j (erase at) b h =
+    let e : min j sectorSize ≡ sectorSize = omega arith in
+    ap (λ (n : ℕ). take at b ++ blank n (drop at b)) e
+done-whole j (write at ws) b h = ap (λ (l : List ℕ). take at b ++ clear l (drop at b)) (take-all j ws h ∙ sym (take-length ws))
+
+-- an erase over what lies there
+pub erase-over : (p x r : List ℕ) (at : ℕ) → length p ≡ at → length x ≡ sectorSize → done sectorSize (erase at) (p ++ (x ++ r)) ≡ p ++ (fill 255 sectorSize ++ r)
+unfolding done
+erase-over p x r at e f =
+    rw (take-at p (x ++ r) at e, drop-at p (x ++ r) at e)
+    (ap (λ (n : ℕ). p ++ blank n (x ++ r)) (sym f) ∙ ap (λ (l : List ℕ). p ++ l) (blank-over x r) ∙ ap (λ (n : ℕ). p ++ (fill 255 n ++ r)) f)
+
+-- a write over blank bytes leaves its own
+pub write-over : (p ws r : List ℕ) (at : ℕ) → length p ≡ at → Bytes ws → done (length ws) (write at ws) (p ++ (fill 255 (length ws) ++ r)) ≡ p ++ (ws ++ r)
+unfolding done
+write-over p ws r at e h =
+    rw (take-at p (fill 255 (length ws) ++ r) at e, drop-at p (fill 255 (length ws) ++ r) at e, take-length ws, clear-blank ws r h)
+
+-- ---- a bank in a region
+
+start-fits : (n : ℕ) → n ≤ 1 → n * bankSize + bankSize ≤ regionSize
+start-fits n h = omega arith
+
+module _ (region : List ℕ) (n : ℕ) (e : length region ≡ regionSize) (h : n ≤ 1) where
+  length-start : length (take (n * bankSize) region) ≡ n * bankSize
+  length-start = length-take-le (n * bankSize) region (omega (arith, start-fits n h))
+
+  pub length-bank : length (bankOf region n) ≡ bankSize
+  unfolding bankOf
+  length-bank = length-take-le bankSize (drop (n * bankSize) region) (omega (arith, start-fits n h, length-drop (n * bankSize) region))
+
+  -- a bank put where it was
+  pub with-same : withBank region n (bankOf region n) ≡ region
+  unfolding withBank bankOf
+  with-same =
+      let y = drop (n * bankSize) region in
+      ap (λ (l : List ℕ). take (n * bankSize) region ++ (take bankSize y ++ l)) (sym (drop-drop bankSize (n * bankSize) region))
+      ∙ ap (λ (l : List ℕ). take (n * bankSize) region ++ l) (take-append-drop bankSize y)
+      ∙ take-append-drop (n * bankSize) region
+
+  module _ (b : List ℕ) (f : length b ≡ bankSize) where
+    pub length-with : length (withBank region n b) ≡ length region
+    unfolding withBank
+    length-with =
+        length-append (take (n * bankSize) region) (b ++ drop (n * bankSize + bankSize) region)
+        ∙ omega (arith, length-start, start-fits n h, length-append b (drop (n * bankSize + bankSize) region), length-drop (n * bankSize + bankSize) region)
+
+    pub bank-with : bankOf (withBank region n b) n ≡ b
+    unfolding withBank bankOf
+    bank-with =
+        rw (drop-at (take (n * bankSize) region) (b ++ drop (n * bankSize + bankSize) region) (n * bankSize) length-start)
+        (take-at b (drop (n * bankSize + bankSize) region) bankSize f)
+
+-- the other bank stays: the part of s bytes before, and the one after
+part-before : (l b : List ℕ) (i s t u : ℕ) → i ≡ 0 → t ≡ s → s ≤ length l → take s (drop i (take t l ++ (b ++ drop u l))) ≡ take s (drop i l)
+part-before l b i s t u ei et h = rw (ei, et) (take-at (take s l) (b ++ drop u l) s (length-take-le s l h))
+
+part-after : (l b : List ℕ) (i s t u : ℕ) → t ≡ 0 → i ≡ s → u ≡ s → length b ≡ s → take s (drop i (take t l ++ (b ++ drop u l))) ≡ take s (drop i l)
+part-after l b i s t u et ei eu h = rw (et, ei, eu) (ap (take s) (drop-at b (drop s l) s h))
+
+other-of : (n m : ℕ) → n ≤ 1 → m ≤ 1 → (m ≡ n → ⊥) → ((n ≡ 0) × (m ≡ 1)) ⊎ ((n ≡ 1) × (m ≡ 0))
+other-of zero zero h k ne = absurd (ne refl)
+other-of zero (suc m) h k ne = inl (refl, omega arith)
+other-of (suc n) zero h k ne = inr (omega arith, refl)
+other-of (suc n) (suc m) h k ne = absurd (ne (omega arith))
+
+other-by : (region : List ℕ) (n m : ℕ) (b : List ℕ) → length region ≡ regionSize → length b ≡ bankSize → ((n ≡ 0) × (m ≡ 1)) ⊎ ((n ≡ 1) × (m ≡ 0)) → bankOf (withBank region n b) m ≡ bankOf region m
+unfolding withBank bankOf
+other-by region n m b e f (inl c) =
+    part-after region b (m * bankSize) bankSize (n * bankSize) (n * bankSize + bankSize) (omega arith) (omega arith) (omega arith) f
+other-by region n m b e f (inr c) =
+    part-before region b (m * bankSize) bankSize (n * bankSize) (n * bankSize + bankSize) (omega arith) (omega arith) (omega arith)
+
+pub other-with : (region : List ℕ) (n m : ℕ) (b : List ℕ) → length region ≡ regionSize → length b ≡ bankSize → n ≤ 1 → m ≤ 1 → (m ≡ n → ⊥) → bankOf (withBank region n b) m ≡ bankOf region m
+other-with region n m b e f h k ne = other-by region n m b e f (other-of n m h k ne)
+
+-- ---- operations on a bank of a region
+
+module _ (region : List ℕ) (n : ℕ) (e : length region ≡ regionSize) (h : n ≤ 1) (op : Op) where
+  length-whole : length (done (size op) op (bankOf region n)) ≡ bankSize
+  length-whole = length-done (size op) op (bankOf region n) ∙ length-bank region n e h
+
+  pub length-applied : length (applied n op region) ≡ regionSize
+  unfolding applied
+  length-applied = length-with region n e h (done (size op) op (bankOf region n)) length-whole ∙ e
+
+  pub bank-applied : bankOf (applied n op region) n ≡ done (size op) op (bankOf region n)
+  unfolding applied
+  bank-applied = bank-with region n e h (done (size op) op (bankOf region n)) length-whole
+
+  pub other-applied : (m : ℕ) → m ≤ 1 → (m ≡ n → ⊥) → bankOf (applied n op region) m ≡ bankOf region m
+  unfolding applied
+  other-applied m k ne = other-with region n m (done (size op) op (bankOf region n)) e length-whole h k ne
+
+  -- what fits is done
+  pub after-fits : place op + size op ≤ bankSize → after n op region ≡ applied n op region
+  unfolding after
+  after-fits k = rw (eq-eqb (length region) regionSize e, le-leb n 1 h, le-leb (place op + size op) bankSize k)
+
+-- and what doesn't changes nothing
+pub after-not : (region : List ℕ) (n : ℕ) (op : Op) → fits region n op ≡ false → after n op region ≡ region
+unfolding after
+after-not region n op e = rw e
+
+-- operations one after the other
+pub performed-append : (n : ℕ) (xs ys : List Op) (region : List ℕ) → performed n (xs ++ ys) region ≡ performed n ys (performed n xs region)
+unfolding performed
+performed-append n [] ys region = refl
+performed-append n (op ∷ xs) ys region = performed-append n xs ys (applied n op region)
+
+pub length-performed : (n : ℕ) (ops : List Op) (region : List ℕ) → n ≤ 1 → length region ≡ regionSize → length (performed n ops region) ≡ regionSize
+unfolding performed
+length-performed n [] region h e = e
+length-performed n (op ∷ ops) region h e = length-performed n ops (applied n op region) h (length-applied region n e h op)
+
+pub other-performed : (n m : ℕ) (ops : List Op) (region : List ℕ) → n ≤ 1 → m ≤ 1 → (m ≡ n → ⊥) → length region ≡ regionSize → bankOf (performed n ops region) m ≡ bankOf region m
+unfolding performed
+other-performed n m [] region h k ne e = refl
+other-performed n m (op ∷ ops) region h k ne e =
+    other-performed n m ops (applied n op region) h k ne (length-applied region n e h op) ∙ other-applied region n e h op m k ne

@@ -1,0 +1,67 @@
+// The two flash operations on a bank of a lent region.
+ghost use mathlib.Core.Path.{_≡_};
+ghost use mathlib.Core.Bool.{Bool, true};
+ghost use Prim.Native.Nat.{_+_, _≤_};
+ghost use lib.ListN.{length};
+ghost use Rattle.flash.specs.Flash.{blank, clear, within, erasedIn, writtenIn};
+
+// Whether n bytes at a place of a bank lie within it, in a region of len bytes.
+fn lies_within(len: usize, bank: u32, at: usize, n: usize) -> bool
+    ensures { λ r. ⌜ (r ≡ within len bank at n) × (r ≡ true → (len ≡ 983040) × (bank ≤ 1) × (at + n ≤ 491520)) ⌝ }
+{
+    if len != 983040 {
+        return false;
+    }
+    if 1 < bank {
+        return false;
+    }
+    if 491520 < n {
+        return false;
+    }
+    at <= 491520 - n
+}
+
+// Every byte becomes 255.
+fn blank_all(s: &mut [u8])
+    ensures { λ _. ⌜ now (s .exit) ≡ blank (length (now (s .entry))) (now (s .entry)) ⌝ }
+{
+    let mut i = 0;
+    while i < s.len() {
+        s[i] = 255;
+        i += 1;
+    }
+}
+
+// The bytes of ws clear bits of those of s.
+fn clear_bits(s: &mut [u8], ws: &[u8])
+    requires { ⌜ length (now s) ≡ length (now ws) ⌝ }
+    ensures { λ _. ⌜ now (s .exit) ≡ clear (now (ws .entry)) (now (s .entry)) ⌝ }
+{
+    let mut i = 0;
+    while i < s.len() {
+        s[i] = s[i] & ws[i];
+        i += 1;
+    }
+}
+
+// Erases the sector at a place of a bank, where it fits; else nothing changes.
+pub fn erase(region: &mut [u8], bank: u32, at: usize)
+    ensures { λ _. ⌜ now (region .exit) ≡ erasedIn (now (region .entry)) bank at ⌝ }
+{
+    if lies_within(region.len(), bank, at, 4096) {
+        let sector = bank as usize * 491520 + at;
+        let end = sector + 4096;
+        blank_all(&mut region[sector..end]);
+    }
+}
+
+// Writes bytes at a place of a bank, where they fit; else nothing changes.
+pub fn write(region: &mut [u8], bank: u32, at: usize, bytes: &[u8])
+    ensures { λ _. ⌜ now (region .exit) ≡ writtenIn (now (region .entry)) bank at (now (bytes .entry)) ⌝ }
+{
+    if lies_within(region.len(), bank, at, bytes.len()) {
+        let from = bank as usize * 491520 + at;
+        let end = from + bytes.len();
+        clear_bits(&mut region[from..end], bytes);
+    }
+}
