@@ -1,7 +1,7 @@
 -- Laws of operations on a bank, whole or done in part, and of banks in a region.
 use mathlib.Core.Path.{_≡_, refl, sym, ap, _∙_}
 use mathlib.Core.Bool.{false}
-use mathlib.Core.List.{List, [], _∷_, _++_}
+use mathlib.Core.List.{List, [], _∷_, _++_, append-assoc}
 use mathlib.Core.Logic.{_⊎_, inl, inr}
 use Prim.Native.Nat.{ℕ, zero, suc, _+_, _*_, _/_, _%_, _≤_, _<_, min}
 use native.Mathlib.Omega.{arith}
@@ -194,6 +194,14 @@ write-over p ws r at e h =
 start-fits : (n : ℕ) → n ≤ 1 → n * bankSize + bankSize ≤ regionSize
 start-fits n h = omega arith
 
+put-twice : (l b d : List ℕ) (i s : ℕ) → length (take i l) ≡ i → length b ≡ s
+    → take i (take i l ++ (b ++ drop (i + s) l)) ++ (d ++ drop (i + s) (take i l ++ (b ++ drop (i + s) l))) ≡ take i l ++ (d ++ drop (i + s) l)
+put-twice l b d i s e f =
+    let z = drop (i + s) l in
+    let k : length (take i l ++ b) ≡ i + s = length-append (take i l) b ∙ omega arith in
+    let q : drop (i + s) (take i l ++ (b ++ z)) ≡ z = ap (drop (i + s)) (sym (append-assoc (take i l) b z)) ∙ drop-at (take i l ++ b) z (i + s) k in
+    rw (take-at (take i l) (b ++ z) i e, q)
+
 module _ (region : List ℕ) (n : ℕ) (e : length region ≡ regionSize) (h : n ≤ 1) where
   length-start : length (take (n * bankSize) region) ≡ n * bankSize
   length-start = length-take-le (n * bankSize) region (omega (arith, start-fits n h))
@@ -223,6 +231,21 @@ module _ (region : List ℕ) (n : ℕ) (e : length region ≡ regionSize) (h : n
     bank-with =
         rw (drop-at (take (n * bankSize) region) (b ++ drop (n * bankSize + bankSize) region) (n * bankSize) length-start)
         (take-at b (drop (n * bankSize + bankSize) region) bankSize f)
+
+    -- a bank put twice
+    pub with-with : (d : List ℕ) → withBank (withBank region n b) n d ≡ withBank region n d
+    unfolding withBank
+    with-with d = put-twice region b d (n * bankSize) bankSize length-start f
+
+-- the region is its two banks
+join : (l : List ℕ) (i j s : ℕ) → i ≡ 0 → j ≡ s → length l ≡ s + s → take s (drop i l) ++ take s (drop j l) ≡ l
+join l i j s ei ej e =
+    let k : length (drop s l) ≤ s = omega (arith, length-drop s l) in
+    rw (ei, ej, take-all s (drop s l) k) (take-append-drop s l)
+
+pub two-banks : (region : List ℕ) → length region ≡ regionSize → bankOf region 0 ++ bankOf region 1 ≡ region
+unfolding bankOf
+two-banks region e = join region (0 * bankSize) (1 * bankSize) bankSize (omega arith) (omega arith) (omega arith)
 
 -- the other bank stays: the part of s bytes before, and the one after
 part-before : (l b : List ℕ) (i s t u : ℕ) → i ≡ 0 → t ≡ s → s ≤ length l → take s (drop i (take t l ++ (b ++ drop u l))) ≡ take s (drop i l)
@@ -291,3 +314,34 @@ unfolding performed
 other-performed n m [] region h k ne e = refl
 other-performed n m (op ∷ ops) region h k ne e =
     other-performed n m ops (applied n op region) h k ne (length-applied region n e h op) ∙ other-applied region n e h op m k ne
+
+-- a bank after operations, each whole, one after the other
+unfoldable pub doneAll : List Op → List ℕ → List ℕ
+doneAll [] b = b
+doneAll (op ∷ ops) b = doneAll ops (done (size op) op b)
+
+pub length-done-all : (ops : List Op) (b : List ℕ) → length (doneAll ops b) ≡ length b
+unfolding doneAll
+length-done-all [] b = refl
+length-done-all (op ∷ ops) b = length-done-all ops (done (size op) op b) ∙ length-done (size op) op b
+
+once : (region : List ℕ) (n : ℕ) (op : Op) (d : List ℕ) → length region ≡ regionSize → n ≤ 1 → length (done (size op) op (bankOf region n)) ≡ bankSize
+    → withBank (applied n op region) n d ≡ withBank region n d
+unfolding applied
+once region n op d e h k = with-with region n e h (done (size op) op (bankOf region n)) k d
+
+-- operations on bank n change that bank alone
+pub performed-is : (n : ℕ) (ops : List Op) (region : List ℕ) → n ≤ 1 → length region ≡ regionSize → performed n ops region ≡ withBank region n (doneAll ops (bankOf region n))
+unfolding performed doneAll
+performed-is n [] region h e = sym (with-same region n e h)
+performed-is n (op ∷ ops) region h e =
+    let b = done (size op) op (bankOf region n) in
+    let k : length b ≡ bankSize = length-done (size op) op (bankOf region n) ∙ length-bank region n e h in
+    performed-is n ops (applied n op region) h (length-applied region n e h op)
+    ∙ ap (λ (l : List ℕ). withBank (applied n op region) n (doneAll ops l)) (bank-applied region n e h op)
+    ∙ once region n op (doneAll ops b) e h k
+
+pub bank-performed : (n : ℕ) (ops : List Op) (region : List ℕ) → n ≤ 1 → length region ≡ regionSize → bankOf (performed n ops region) n ≡ doneAll ops (bankOf region n)
+bank-performed n ops region h e =
+    let k : length (doneAll ops (bankOf region n)) ≡ bankSize = length-done-all ops (bankOf region n) ∙ length-bank region n e h in
+    ap (λ (l : List ℕ). bankOf l n) (performed-is n ops region h e) ∙ bank-with region n e h (doneAll ops (bankOf region n)) k

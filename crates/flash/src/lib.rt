@@ -1,6 +1,6 @@
 // The two flash operations on a bank of a lent region.
 ghost use mathlib.Core.Path.{_≡_};
-ghost use mathlib.Core.Bool.{Bool, true};
+ghost use mathlib.Core.Bool.{true};
 ghost use Prim.Native.Nat.{_+_, _≤_};
 ghost use lib.ListN.{length};
 ghost use Rattle.flash.specs.Flash.{blank, clear, within, erasedIn, writtenIn};
