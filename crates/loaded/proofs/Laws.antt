@@ -11,6 +11,7 @@ use Rattle.refusal.specs.declared.Refusal.{Refusal}
 use Rattle.refusal.specs.declared.Refusal.the-variants.{Region, Argument, Source as NoSuchSource}
 use Rattle.record.specs.Runs.{each, fill}
 use Rattle.record.specs.declared.Source.{Source}
+use Rattle.record.specs.Record.{noSource}
 use Rattle.header.specs.Header.{recordsOf}
 use Rattle.header.specs.declared.Bank.{Bank}
 use Rattle.header.specs.declared.Validated.the-variants.{Good, Refused as Bad}
@@ -23,7 +24,7 @@ use Rattle.loaded.specs.declared.Records.{Records}
 use Rattle.loaded.specs.declared.Days.{Days}
 use Rattle.loaded.specs.declared.FreshAnswer.the-variants.{Fresh, Refused}
 use Rattle.loaded.specs.declared.Outcome.the-variants.{Done}
-use Rattle.loaded.specs.Source.{noSource, sourceIn, refuse, thenSource, askedSource, sourcesIn, refuseAll, thenSources, askedSources}
+use Rattle.loaded.specs.Source.{sourceIn, refuse, thenSource, askedSource, sourcesIn, refuseAll, thenSources, askedSources}
 use Rattle.loaded.specs.Freshness.{namedIf, daysOf, isDay, freshness, thenFresh, askedFresh}
 
 pub bound : (i k : ℕ) → k ≤ 384 → i * k ≤ i * 384

@@ -3,12 +3,11 @@ use mathlib.Core.Bool.{Bool, true, false}
 use mathlib.Core.List.{List, _++_}
 use Prim.Native.Nat.{ℕ, _+_, _*_, _-_}
 use lib.Dec.{ltb}
-use lib.IntN.{pos}
 use Rattle.number.specs.Number.{pick}
 use Rattle.refusal.specs.declared.Refusal.{Refusal}
 use Rattle.refusal.specs.declared.Refusal.the-variants.{Source as NoSuchSource}
 use Rattle.record.specs.declared.Source.{Source}
-use Rattle.record.specs.Record.{sourceSize, noBlock}
+use Rattle.record.specs.Record.{sourceSize, noSource}
 use Rattle.record.specs.Runs.{fill}
 use Rattle.header.specs.declared.Bank.{Bank}
 use Rattle.header.specs.declared.Validated.{Validated}
@@ -20,22 +19,6 @@ use Rattle.loaded.specs.declared.Outcome.{Outcome}
 use Rattle.loaded.specs.declared.Outcome.the-variants.{Done, Refused}
 use Rattle.loaded.specs.declared.Asked.{Asked}
 use Rattle.loaded.specs.declared.Records.{Records}
-
--- zeros: what stands beside a refusal
-unfoldable pub noSource : Source
-noSource =
-    record {
-      start = 0;
-      end = 0;
-      present = 0;
-      updated = pos 0;
-      original = fill 0 16;
-      tables = fill noBlock 8;
-      stamp = fill 0 12;
-      idlen = 0;
-      id = fill 0 80;
-      validator = fill 0 66;
-    }
 
 -- the record at an index of a bank
 unfoldable pub sourceIn : List ℕ → Bank → ℕ → Source

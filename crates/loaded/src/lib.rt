@@ -9,6 +9,7 @@ ghost use Prim.Native.Nat.{_+_, _*_, _-_, _≤_};
 ghost use Rattle.header.specs.Region.{bankOf};
 ghost use Rattle.header.specs.Header.{recordsOf};
 ghost use Rattle.number.specs.Number.{pick};
+ghost use Rattle.record.specs.Record.{noSource};
 ghost use Rattle.record.specs.Runs.{each, fill};
 ghost use Rattle.loaded.specs.Source as Sources;
 ghost use Rattle.loaded.specs.Freshness as Fresh;
@@ -23,8 +24,8 @@ use key::SameKey;
 use key::picks_fit;
 use leaf::date::valid_date;
 use number::le;
-use record::Block;
 use record::Source;
+use record::no_source;
 use record::source_size;
 use refusal::Refusal;
 use slice::part;
@@ -67,33 +68,6 @@ pub struct Freshness {
 pub enum FreshAnswer {
     Fresh(Freshness),
     Refused(Refusal),
-}
-
-fn no_source() -> Source
-    ensures { λ r. ⌜ r ≡ Sources.noSource ⌝ }
-{
-    let b = Block {
-        offset: 0,
-        length: 0,
-        crc: 0,
-    };
-    let original = [0u32; 16];
-    let tables = [b; 8];
-    let stamp = [0u8; 12];
-    let id = [0u8; 80];
-    let validator = [0u8; 66];
-    Source {
-        start: 0,
-        end: 0,
-        present: 0,
-        updated: 0,
-        original,
-        tables,
-        stamp,
-        idlen: 0,
-        id,
-        validator,
-    }
 }
 
 fn refuse(r: Refusal) -> Asked
@@ -148,7 +122,7 @@ fn refuse_all(r: Refusal) -> Records
 // A bank's first n records, and zeros.
 fn records_at(l: &[u8], version: u32, n: usize) -> [Source; 3]
     requires { ⌜ n ≤ 3 ⌝ }
-    ensures { λ r. ⌜ r ≡ recordsOf version (now (l .entry)) n ++ fill Sources.noSource (3 - n) ⌝ }
+    ensures { λ r. ⌜ r ≡ recordsOf version (now (l .entry)) n ++ fill noSource (3 - n) ⌝ }
 {
     let size = source_size(version);
     let z = no_source();

@@ -2,6 +2,7 @@
 use mathlib.Core.List.{List, [], _∷_, _++_}
 use Prim.Native.Nat.{ℕ, _+_, _*_, _-_}
 use lib.Dec.{ltb}
+use lib.IntN.{pos}
 use lib.ListN.{take}
 use Rattle.number.specs.Number.{pick}
 use Rattle.leaf.specs.Bytes.{byte, word, time, le32, le64}
@@ -23,6 +24,22 @@ blockAt l at = record { offset = word l at; length = word l (at + 4); crc = word
 -- the block of an absent table
 abbrev pub noBlock : Block
 noBlock = record { offset = 0; length = 0; crc = 0 }
+
+-- zeros: what stands where there is no source
+unfoldable pub noSource : Source
+noSource =
+    record {
+      start = 0;
+      end = 0;
+      present = 0;
+      updated = pos 0;
+      original = fill 0 16;
+      tables = fill noBlock 8;
+      stamp = fill 0 12;
+      idlen = 0;
+      id = fill 0 80;
+      validator = fill 0 66;
+    }
 
 -- The record l with n tables. l is the record alone: version 1 ends before the stamp, and a byte past the end reads 0.
 unfoldable pub sourceOf : ℕ → List ℕ → Source

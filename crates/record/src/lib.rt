@@ -10,6 +10,7 @@ ghost use Rattle.record.specs.Record.{
   sourceSize,
   tableCount,
   noBlock,
+  noSource,
   blockAt,
   blockBytes,
   sourceOf,
@@ -45,6 +46,34 @@ pub struct Source {
     pub idlen: u8,
     pub id: [u8; 80],
     pub validator: [u8; 66],
+}
+
+// A record of zeros.
+pub fn no_source() -> Source
+    ensures { λ r. ⌜ r ≡ noSource ⌝ }
+{
+    let b = Block {
+        offset: 0,
+        length: 0,
+        crc: 0,
+    };
+    let original = [0u32; 16];
+    let tables = [b; 8];
+    let stamp = [0u8; 12];
+    let id = [0u8; 80];
+    let validator = [0u8; 66];
+    Source {
+        start: 0,
+        end: 0,
+        present: 0,
+        updated: 0,
+        original,
+        tables,
+        stamp,
+        idlen: 0,
+        id,
+        validator,
+    }
 }
 
 // How many bytes a record of a version has.

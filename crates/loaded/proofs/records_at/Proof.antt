@@ -1,9 +1,9 @@
+use Rattle.record.specs.Record.{noSource}
 use Rattle.loaded.proofs.Laws.{bound}
 use mathlib.Core.Path.{_≡_, refl, ap, _∙_}
 use mathlib.Core.List.{_++_}
 use Prim.Native.Nat.{_+_, _-_, _≤_}
 use native.Mathlib.Omega.{arith}
-use Rattle.loaded.specs.Source.{noSource}
 use Rattle.record.proofs.Series.{many-set, drop-new}
 use Rattle.record.specs.Runs.{many}
 use Rattle.header.specs.Header.{recordAt, recordsOf}

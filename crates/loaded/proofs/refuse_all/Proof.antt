@@ -1,8 +1,8 @@
+use Rattle.record.specs.Record.{noSource}
 use mathlib.Core.Path.{ap, _∙_}
 use Rattle.record.specs.declared.Source.{Source}
 use mathlib.Core.List.{List}
 use Prim.Native.Nat.{_-_}
-use Rattle.loaded.specs.Source.{noSource}
 use Rattle.record.proofs.Series.{replicate-fill}
 use lib.ListN.{replicate}
 use Rattle.loaded.specs.declared.Outcome.the-variants.{Refused}

@@ -1,8 +1,8 @@
 use Rattle.record.specs.Runs.{fill}
-use Rattle.loaded.specs.Source.{noSource}
+use Rattle.record.specs.Record.{noSource}
 use mathlib.Core.Path.{_≡_, refl, sym, ap, _∙_}
-use Rattle.loaded.proofs.no_source.Statement.{statement}
-use Rattle.loaded.proofs.no_source.Tie as tie
+use Rattle.record.proofs.no_source.Statement.{statement}
+use Rattle.record.proofs.no_source.Tie as tie
 
 returns : tie.Need-returns
 unfolding noSource fill
