@@ -1,0 +1,91 @@
+-- The calls, case by case.
+use mathlib.Core.Path.{_≡_, refl, ap}
+use mathlib.Core.Bool.{true, false, not, _&&_}
+use mathlib.Core.List.{List}
+use Prim.Native.Nat.{ℕ, zero, suc, _+_, _*_, _%_, _^_, _≤_, _<_}
+use native.Mathlib.Omega.{arith}
+use lib.ListN.{length, take}
+use borrow.Author.Tests.{lt-ltb, le-ltb, le-leb, lt-leb}
+use Rattle.refusal.specs.declared.Refusal.the-variants.{Argument, Full, Turn}
+use Rattle.record.specs.declared.Source.{Source}
+use Rattle.writer.specs.declared.Writer.{Writer}
+use Rattle.writer.specs.State.{did, stays, position, isOpen, isDue}
+use Rattle.lower.specs.Lower.{mayTake, mayBegin, withSource, sourceStep, withTable, tableStep, withEnd, endStep, withClosed, closeStep, room, withBytes, took, bytesStep}
+use Rattle.writer.specs.declared.Answer.the-variants.{Took}
+
+module _ (w : Writer) (s : Source) where
+  pub source-done : (mayTake w && not (isOpen (w .tables))) ≡ true → w .tables .count < 3 → did (withSource w s) ≡ sourceStep w s
+  unfolding sourceStep
+  source-done e h = rw (e, lt-ltb (w .tables .count) 3 h)
+
+  pub source-full : (mayTake w && not (isOpen (w .tables))) ≡ true → 3 ≤ w .tables .count → stays w Full ≡ sourceStep w s
+  unfolding sourceStep
+  source-full e h = rw (e, le-ltb (w .tables .count) 3 h)
+
+  pub source-turn : (mayTake w && not (isOpen (w .tables))) ≡ false → stays w Turn ≡ sourceStep w s
+  unfolding sourceStep
+  source-turn e = rw e
+
+module _ (w : Writer) (t : ℕ) where
+  pub table-done : t ≤ 7 → (mayTake w && mayBegin (w .tables) t) ≡ true → did (withTable w t) ≡ tableStep w t
+  unfolding tableStep
+  table-done h e = rw (le-leb t 7 h, e)
+
+  pub table-turn : t ≤ 7 → (mayTake w && mayBegin (w .tables) t) ≡ false → stays w Turn ≡ tableStep w t
+  unfolding tableStep
+  table-turn h e = rw (le-leb t 7 h, e)
+
+  pub table-argument : 7 < t → stays w Argument ≡ tableStep w t
+  unfolding tableStep
+  table-argument h = rw (lt-leb t 7 h)
+
+module _ (w : Writer) where
+  pub end-done : (mayTake w && isOpen (w .tables)) ≡ true → did (withEnd w) ≡ endStep w
+  unfolding endStep
+  end-done e = rw e
+
+  pub end-turn : (mayTake w && isOpen (w .tables)) ≡ false → stays w Turn ≡ endStep w
+  unfolding endStep
+  end-turn e = rw e
+
+  pub close-done : (mayTake w && not (isOpen (w .tables))) ≡ true → did (withClosed w) ≡ closeStep w
+  unfolding closeStep
+  close-done e = rw e
+
+  pub close-turn : (mayTake w && not (isOpen (w .tables))) ≡ false → stays w Turn ≡ closeStep w
+  unfolding closeStep
+  close-turn e = rw e
+
+module _ (w : Writer) (xs : List ℕ) where
+  pub bytes-took : mayTake w ≡ true → position (w .taken) + length xs ≤ 487424 → took w xs ≡ bytesStep w xs
+  unfolding bytesStep
+  bytes-took e h = rw (e, le-leb (position (w .taken) + length xs) 487424 h)
+
+  pub bytes-full : mayTake w ≡ true → 487424 < position (w .taken) + length xs → stays w Full ≡ bytesStep w xs
+  unfolding bytesStep
+  bytes-full e h = rw (e, lt-leb (position (w .taken) + length xs) 487424 h)
+
+  pub bytes-turn : mayTake w ≡ false → stays w Turn ≡ bytesStep w xs
+  unfolding bytesStep
+  bytes-turn e = rw e
+
+module _ (w : Writer) (xs : List ℕ) where
+  pub took-none : isDue (w .taken) ≡ true → record { answer = Took 0; writer = w } ≡ took w xs
+  unfolding took
+  took-none e = rw e
+
+  pub took-some : (n : ℕ) (v : Writer) → isDue (w .taken) ≡ false → n ≡ room (w .taken) (length xs) → v ≡ withBytes w (take n xs) → record { answer = Took n; writer = v } ≡ took w xs
+  unfolding took
+  took-some n v e h k = rw (e, ← h) (ap (λ (x : Writer). record { answer = Took n; writer = x }) k)
+
+-- a bit by a shift
+pub shifted : (t : ℕ) → t ≤ 7 → (1 * 2 ^ t) % 4294967296 ≡ 2 ^ t
+shifted zero h = refl
+shifted (suc zero) h = refl
+shifted (suc (suc zero)) h = refl
+shifted (suc (suc (suc zero))) h = refl
+shifted (suc (suc (suc (suc zero)))) h = refl
+shifted (suc (suc (suc (suc (suc zero))))) h = refl
+shifted (suc (suc (suc (suc (suc (suc zero)))))) h = refl
+shifted (suc (suc (suc (suc (suc (suc (suc zero))))))) h = refl
+shifted (suc (suc (suc (suc (suc (suc (suc (suc n)))))))) h = absurd (omega arith)

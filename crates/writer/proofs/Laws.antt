@@ -1,0 +1,58 @@
+-- What a state within its ranges has.
+use mathlib.Core.Path.{_≡_, refl}
+use mathlib.Core.Bool.{Bool, true, false, not, _&&_, _||_, false≢true}
+use Prim.Native.Nat.{ℕ, _≤_}
+use lib.Dec.{leb, eqb}
+use borrow.Author.Tests.{leb-true}
+use Rattle.writer.specs.declared.Taken.{Taken}
+use Rattle.writer.specs.declared.Tables.{Tables}
+use Rattle.writer.specs.declared.Writer.{Writer}
+use Rattle.header.proofs.Laws.{and-left, and-right}
+use Rattle.writer.specs.State.{position, aligned, openOk, isOpen, inRange, activeOk, takenOk, tablesOk, stageOk}
+
+-- what a state within its ranges has
+pub record Ranged (w : Writer) : Type 0 where
+  pub active : activeOk (w .beginning .active) ≡ true
+  pub taken : takenOk (w .taken) ≡ true
+  pub tables : tablesOk (position (w .taken)) (w .tables) ≡ true
+  pub stage : stageOk (w .beginning .comparing) (w .taken) (w .stage) ≡ true
+
+module _ (w : Writer) where
+  pub ranged : inRange w ≡ true → Ranged w
+  unfolding inRange
+  ranged e =
+      let a = activeOk (w .beginning .active) in
+      let t = takenOk (w .taken) in
+      let s = tablesOk (position (w .taken)) (w .tables) in
+      let o = stageOk (w .beginning .comparing) (w .taken) (w .stage) in
+      let r = and-right a (t && (s && o)) e in
+      let q = and-right t (s && o) r in
+      record { active = and-left a (t && (s && o)) e; taken = and-left t (s && o) r; tables = and-left s o q; stage = and-right s o q }
+
+module _ (t : Taken) where
+  pub fill-fits : takenOk t ≡ true → t .fill ≤ 256
+  unfolding takenOk
+  fill-fits e = leb-true (t .fill) 256 (and-left (leb (t .fill) 256) (leb (position t) 487424 && aligned t) e)
+
+  pub position-fits : takenOk t ≡ true → position t ≤ 487424
+  unfolding takenOk
+  position-fits e = leb-true (position t) 487424 (and-left (leb (position t) 487424) (aligned t) (and-right (leb (t .fill) 256) (leb (position t) 487424 && aligned t) e))
+
+module _ (n : ℕ) (s : Tables) where
+  pub count-fits : tablesOk n s ≡ true → s .count ≤ 3
+  unfolding tablesOk
+  count-fits e = leb-true (s .count) 3 (and-left (leb (s .count) 3) (eqb (s .table) 8 || openOk n s) e)
+
+  by-table : (t : Bool) → eqb (s .table) 8 ≡ t → (t || openOk n s) ≡ true → not t ≡ true → openOk n s ≡ true
+  by-table true e h o = absurd (false≢true o)
+  by-table false e h o = h
+
+  -- an open table has a source, and starts at or before the position
+  pub open-table : tablesOk n s ≡ true → isOpen s ≡ true → (s .table ≤ 7) × (1 ≤ s .count) × (s .start ≤ n)
+  unfolding tablesOk
+  open-table e o =
+      let c = leb 1 (s .count) in
+      let b = leb (s .start) n in
+      let q = by-table (eqb (s .table) 8) refl (and-right (leb (s .count) 3) (eqb (s .table) 8 || openOk n s) e) o in
+      let p = and-right (leb (s .table) 7) (c && b) q in
+      (leb-true (s .table) 7 (and-left (leb (s .table) 7) (c && b) q), leb-true 1 (s .count) (and-left c b p), leb-true (s .start) n (and-right c b p))

@@ -1,0 +1,205 @@
+// The state of an update by value, which operation is due, and which states are within their ranges.
+ghost use mathlib.Core.Path.{_≡_};
+ghost use Rattle.writer.specs.State as State;
+use bank::Loaded;
+use record::Source;
+use refusal::Refusal;
+
+// What is due: an erase of a sector of the bank (0 is the header's), a write of the tail into the data, or its comparison.
+pub enum Operation {
+    Erase { sector: u32 },
+    Write { offset: u32, length: u32 },
+    Compare { offset: u32, length: u32 },
+}
+
+pub enum Stage {
+    Idle,
+    Due(Operation),
+    Headed,
+    Committed,
+}
+
+// What the beginning fixed.
+pub struct Beginning {
+    pub active: Loaded,
+    pub comparing: bool,
+    pub now: i64,
+}
+
+// How many bytes are written and how many are in the tail, and the CRC of all.
+pub struct Taken {
+    pub written: u32,
+    pub fill: u32,
+    pub crc: u32,
+    pub different: bool,
+    pub closed: bool,
+}
+
+// How many sources were begun; the open table (8: none), where it starts, its CRC; which tables the last source began.
+pub struct Tables {
+    pub count: u32,
+    pub table: u32,
+    pub start: u32,
+    pub crc: u32,
+    pub begun: u32,
+}
+
+pub struct Writer {
+    pub stage: Stage,
+    pub beginning: Beginning,
+    pub taken: Taken,
+    pub tables: Tables,
+    pub sources: [Source; 3],
+    pub tail: [u8; 256],
+}
+
+// What a call says: it is done, so many bytes were taken, no operation is due, what was compared is the same or not, or why not.
+pub enum Answer {
+    Done,
+    Took(u32),
+    NoneDue,
+    Same,
+    Different,
+    Refused(Refusal),
+}
+
+// The answer, and the state after the call.
+pub struct Step {
+    pub answer: Answer,
+    pub writer: Writer,
+}
+
+pub fn is_due(t: Taken) -> bool
+    ensures { λ r. ⌜ r ≡ State.isDue t ⌝ }
+{
+    (t.fill == 256) | (t.closed & (0 < t.fill))
+}
+
+// The sector's erase before its first write, or the write.
+pub fn data_due(t: Taken) -> Operation
+    ensures { λ r. ⌜ r ≡ State.dataDue t ⌝ }
+{
+    if t.written % 4096 == 0 {
+        return Operation::Erase {
+            sector: t.written / 4096 + 1,
+        };
+    }
+    Operation::Write {
+        offset: t.written,
+        length: t.fill,
+    }
+}
+
+fn first_due(comparing: bool, t: Taken) -> Operation
+    ensures { λ r. ⌜ r ≡ State.firstDue comparing t ⌝ }
+{
+    if comparing {
+        return Operation::Compare {
+            offset: t.written,
+            length: t.fill,
+        };
+    }
+    if t.written == 0 {
+        return Operation::Erase { sector: 0 };
+    }
+    data_due(t)
+}
+
+pub fn stage_of(comparing: bool, t: Taken) -> Stage
+    ensures { λ r. ⌜ r ≡ State.stageOf comparing t ⌝ }
+{
+    if is_due(t) {
+        let o = first_due(comparing, t);
+        return Stage::Due(o);
+    }
+    Stage::Idle
+}
+
+fn active_ok(l: Loaded) -> bool
+    ensures { λ r. ⌜ r ≡ State.activeOk l ⌝ }
+{
+    match l {
+        Loaded::Found(b) => b.number <= 1,
+        Loaded::Nothing => true,
+        Loaded::Refused(_) => false,
+    }
+}
+
+fn position(t: Taken) -> u64
+    ensures { λ r. ⌜ r ≡ State.position t ⌝ }
+{
+    t.written as u64 + t.fill as u64
+}
+
+fn taken_ok(t: Taken) -> bool
+    ensures { λ r. ⌜ r ≡ State.takenOk t ⌝ }
+{
+    (t.fill <= 256)
+        & ((position(t) <= 487424) & ((t.written % 256 == 0) | (t.closed & (t.fill == 0))))
+}
+
+fn tables_ok(n: u64, s: Tables) -> bool
+    ensures { λ r. ⌜ r ≡ State.tablesOk n s ⌝ }
+{
+    (s.count <= 3) & ((s.table == 8) | ((s.table <= 7) & ((1 <= s.count) & (s.start as u64 <= n))))
+}
+
+fn operation_ok(comparing: bool, t: Taken, o: Operation) -> bool
+    ensures { λ r. ⌜ r ≡ State.operationOk comparing t o ⌝ }
+{
+    match o {
+        Operation::Erase { sector } => {
+            !comparing
+                & (((t.written == 0) & (sector == 0))
+                    | ((t.written % 4096 == 0) & (sector == t.written / 4096 + 1)))
+        }
+        Operation::Write { offset, length } => {
+            !comparing & ((offset == t.written) & (length == t.fill))
+        }
+        Operation::Compare { offset, length } => {
+            comparing & ((offset == t.written) & (length == t.fill))
+        }
+    }
+}
+
+fn stage_ok(comparing: bool, t: Taken, s: Stage) -> bool
+    ensures { λ r. ⌜ r ≡ State.stageOk comparing t s ⌝ }
+{
+    match s {
+        Stage::Idle => !is_due(t),
+        Stage::Due(o) => is_due(t) & operation_ok(comparing, t, o),
+        Stage::Headed => !comparing & (t.closed & (t.fill == 0)),
+        Stage::Committed => !comparing & (t.closed & (t.fill == 0)),
+    }
+}
+
+// Whether a state, made by anyone, is within its ranges.
+pub fn in_range(w: Writer) -> bool
+    ensures { λ r. ⌜ r ≡ State.inRange w ⌝ }
+{
+    let b = w.beginning;
+    let a = b.active;
+    let t = w.taken;
+    let s = w.stage;
+    active_ok(a) & (taken_ok(t) & (tables_ok(position(t), w.tables) & stage_ok(b.comparing, t, s)))
+}
+
+// A call that is answered.
+pub fn did(w: Writer) -> Step
+    ensures { λ x. ⌜ x ≡ State.did w ⌝ }
+{
+    Step {
+        answer: Answer::Done,
+        writer: w,
+    }
+}
+
+// A call that is refused: the state is as it was.
+pub fn stays(w: Writer, r: Refusal) -> Step
+    ensures { λ x. ⌜ x ≡ State.stays w r ⌝ }
+{
+    Step {
+        answer: Answer::Refused(r),
+        writer: w,
+    }
+}
