@@ -87,6 +87,7 @@ use core_interface::*;
 
 pub mod answers;
 pub mod banks;
+pub mod rows;
 
 /// The 32-bit number at `i`, little-endian; bytes past the end read 0.
 pub fn get(b: &[u8], i: usize) -> u32 {

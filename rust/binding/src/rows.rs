@@ -1,0 +1,137 @@
+//! Rows and the trip filter. Every table number, value, place, width and size
+//! has an answer; nothing needs a check beforehand.
+
+mod core_interface {
+    use super::{FilterAnswer, ReadAnswer, RowAnswer};
+
+    unsafe extern "C" {
+        pub safe fn tt_column_count(table: u32) -> usize;
+        pub fn tt_names_line(table: u32, out: *mut u8, room: usize) -> RowAnswer;
+        pub fn tt_row(
+            table: u32,
+            texts: *const u8,
+            texts_length: usize,
+            lengths: *const u32,
+            lengths_length: usize,
+            out: *mut u8,
+            room: usize,
+        ) -> RowAnswer;
+        pub fn tt_read_row(
+            table: *const u8,
+            n: usize,
+            width: usize,
+            place: usize,
+            out: *mut u8,
+            room: usize,
+            ends: *mut usize,
+            slots: usize,
+        ) -> ReadAnswer;
+        pub fn tt_filter_query(
+            bits: *const u8,
+            n: usize,
+            id: *const u8,
+            id_length: usize,
+        ) -> FilterAnswer;
+        pub fn tt_filter_insert(
+            bits: *mut u8,
+            n: usize,
+            id: *const u8,
+            id_length: usize,
+        ) -> FilterAnswer;
+    }
+}
+use core_interface::*;
+
+/// A written line's length. A refusal is document 01's number, 0 for none;
+/// beside it the length is 0.
+#[repr(C)]
+#[derive(Clone, Copy, Debug, Default, PartialEq, Eq)]
+pub struct RowAnswer {
+    pub refusal: u32,
+    pub length: usize,
+}
+
+/// A row that was read: the place of the next one, and how many bytes its values
+/// have. All numbers are 0 at the table's end, and beside a refusal.
+#[repr(C)]
+#[derive(Clone, Copy, Debug, Default, PartialEq, Eq)]
+pub struct ReadAnswer {
+    pub refusal: u32,
+    pub found: u32,
+    pub next: usize,
+    pub size: usize,
+}
+
+/// Whether all four bits were set; 0 beside a refusal.
+#[repr(C)]
+#[derive(Clone, Copy, Debug, Default, PartialEq, Eq)]
+pub struct FilterAnswer {
+    pub refusal: u32,
+    pub present: u32,
+}
+
+/// A row's values as they are handed over: all texts in a row, and a length for
+/// each value. A length past the texts' end means what is left.
+#[derive(Clone, Copy, Debug)]
+pub struct Values<'a> {
+    pub texts: &'a [u8],
+    pub lengths: &'a [u32],
+}
+
+/// How many columns a table has, 0 above table 7.
+pub fn column_count(table: u32) -> usize {
+    tt_column_count(table)
+}
+
+/// A table's names line, into the first bytes of `out`.
+pub fn names_line(table: u32, out: &mut [u8]) -> RowAnswer {
+    unsafe { tt_names_line(table, out.as_mut_ptr(), out.len()) }
+}
+
+/// The row of some values of a table, into the first bytes of `out`.
+pub fn row(table: u32, values: Values, out: &mut [u8]) -> RowAnswer {
+    unsafe {
+        tt_row(
+            table,
+            values.texts.as_ptr(),
+            values.texts.len(),
+            values.lengths.as_ptr(),
+            values.lengths.len(),
+            out.as_mut_ptr(),
+            out.len(),
+        )
+    }
+}
+
+/// The row of `width` values at a place of a stored table: the values joined
+/// into the first bytes of `out`, and where each ends into `ends`.
+pub fn read_row(
+    table: &[u8],
+    width: usize,
+    place: usize,
+    out: &mut [u8],
+    ends: &mut [usize],
+) -> ReadAnswer {
+    unsafe {
+        tt_read_row(
+            table.as_ptr(),
+            table.len(),
+            width,
+            place,
+            out.as_mut_ptr(),
+            out.len(),
+            ends.as_mut_ptr(),
+            ends.len(),
+        )
+    }
+}
+
+/// Whether a trip id may be in the filter.
+pub fn query(bits: &[u8], id: &[u8]) -> FilterAnswer {
+    unsafe { tt_filter_query(bits.as_ptr(), bits.len(), id.as_ptr(), id.len()) }
+}
+
+/// Puts a trip id into the filter, and says whether it may have been there.
+pub fn insert(bits: &mut [u8], id: &[u8]) -> FilterAnswer {
+    unsafe { tt_filter_insert(bits.as_mut_ptr(), bits.len(), id.as_ptr(), id.len()) }
+}
