@@ -1,8 +1,11 @@
 //! Runs the core beside the lifted Rust and counts where they differ.
 mod banks;
+mod filter;
 mod keys;
 mod leaves;
 mod pairs;
+mod rows;
+mod stored;
 
 use std::{collections::BTreeMap, fmt::Debug, process::ExitCode};
 
@@ -111,6 +114,22 @@ const PARTS: &[Part] = &[
         about: "refusals that are true at once: the earlier one is given",
         run: pairs::pairs,
     },
+    Part { name: "names", about: "names lines and columns of the tables", run: rows::names },
+    Part {
+        name: "rows",
+        about: "rows as written, and read back by the core, csv-core and the Rust",
+        run: rows::rows,
+    },
+    Part {
+        name: "stored-rows",
+        about: "rows as read, of damaged tables too, beside a reader of their own",
+        run: stored::stored,
+    },
+    Part {
+        name: "filter",
+        about: "the trip filter, every byte after each call",
+        run: filter::filter,
+    },
     Part { name: "smoke", about: "the lifted Rust alone, through an update", run: smoke },
 ];
 
@@ -133,7 +152,7 @@ fn main() -> ExitCode {
             "--help" | "-h" => {
                 print!("{HELP}");
                 for part in PARTS {
-                    println!("  {:<10} {}", part.name, part.about);
+                    println!("  {:<11} {}", part.name, part.about);
                 }
                 println!("\nExit status: 0 no difference, 1 differences, 2 wrong use.");
                 return ExitCode::SUCCESS;

@@ -1,0 +1,402 @@
+//! Stored rows as they are read: whole tables, damaged ones, every short one.
+use crate::{
+    Plan, Tally,
+    rows::{LONGEST, columns},
+};
+use bankcore::rows::{self, ReadAnswer, Values};
+use common::Random;
+
+/// The row at the front, and where it ends, by document 01's sentences; none
+/// where it is malformed. Nothing here is the core's or the Rust's.
+fn row_at(bytes: &[u8]) -> Option<(Vec<Vec<u8>>, usize)> {
+    enum At {
+        Begin,
+        Plain,
+        Quoted,
+        Closed,
+    }
+    use At::*;
+    let mut values = vec![vec![]];
+    let mut at = Begin;
+    for (i, &b) in bytes.iter().enumerate() {
+        let value: &mut Vec<u8> = values.last_mut()?;
+        match (&at, b) {
+            (Begin, b'"') => at = Quoted,
+            // a quote inside an unquoted field
+            (Plain, b'"') => return None,
+            (Quoted, b'"') => at = Closed,
+            (Closed, b'"') => {
+                value.push(b);
+                at = Quoted;
+            }
+            (Quoted, _) => value.push(b),
+            (_, b',') => {
+                values.push(vec![]);
+                at = Begin;
+            }
+            (_, b'\n') => return Some((values, i + 1)),
+            // a byte other than a comma or row end after a closing quote
+            (Closed, _) => return None,
+            _ => {
+                value.push(b);
+                at = Plain;
+            }
+        }
+    }
+    // the table ends before its row does
+    None
+}
+
+#[cfg(feature = "reader")]
+pub use judges::*;
+#[cfg(feature = "reader")]
+mod judges {
+    use csv_core::{ReadRecordResult, Reader, ReaderBuilder, Terminator};
+    use lifted::{
+        cache::door,
+        gtfs::{self, Table},
+        standins::{
+            embedded_io_async::{ErrorType, Read},
+            run::block_on,
+        },
+    };
+    use std::cell::RefCell;
+
+    thread_local! {
+        static READER: RefCell<Reader> = RefCell::new(
+            ReaderBuilder::new().terminator(Terminator::Any(b'\n')).build(),
+        );
+    }
+
+    fn next(reader: &mut Reader, bytes: &[u8]) -> Option<(Vec<Vec<u8>>, usize)> {
+        let (mut out, mut ends) = ([0; 8192], [0; 64]);
+        let (result, read, _, count) = reader.read_record(bytes, &mut out, &mut ends);
+        if result != ReadRecordResult::Record {
+            return None;
+        }
+        let mut from = 0;
+        let one = |&to: &usize| {
+            let value = out[from..to].to_vec();
+            from = to;
+            value
+        };
+        Some((ends[..count].iter().map(one).collect(), read))
+    }
+
+    /// The row at the front by csv-core's reader, its row end set to LF.
+    pub fn csv_record(bytes: &[u8]) -> Option<(Vec<Vec<u8>>, usize)> {
+        READER.with_borrow_mut(|reader| {
+            reader.reset();
+            next(reader, bytes)
+        })
+    }
+
+    /// All rows by csv-core's reader.
+    pub fn csv_records(bytes: &[u8]) -> Vec<Vec<Vec<u8>>> {
+        READER.with_borrow_mut(|reader| {
+            reader.reset();
+            let (mut rows, mut place) = (Vec::new(), 0);
+            while let Some((row, read)) = next(reader, &bytes[place..]) {
+                rows.push(row);
+                place += read;
+            }
+            rows
+        })
+    }
+
+    /// A table's bytes for the lifted reader.
+    struct Bytes<'a>(&'a [u8]);
+    impl ErrorType for Bytes<'_> {
+        type Error = gtfs::Error;
+    }
+    impl Read for Bytes<'_> {
+        async fn read(&mut self, out: &mut [u8]) -> Result<usize, gtfs::Error> {
+            let n = out.len().min(self.0.len());
+            let (now, later) = self.0.split_at(n);
+            out[..n].copy_from_slice(now);
+            self.0 = later;
+            Ok(n)
+        }
+    }
+
+    /// The rows behind the names line by the lifted `csv::Reader`, up to the first
+    /// that it refuses.
+    pub fn lifted_records(bytes: &[u8], table: Table) -> Vec<Vec<Vec<u8>>> {
+        let mut reader = gtfs::csv::Reader::<_>::new(Bytes(bytes), table);
+        let mut rows = Vec::new();
+        while let Ok(Some(row)) = block_on(reader.next()) {
+            let value = |c: &_| row.get(*c).unwrap_or("").as_bytes().to_vec();
+            rows.push(door::columns(table).iter().map(value).collect());
+        }
+        rows
+    }
+}
+
+/// The answer, and what stands in the outputs.
+type Outcome = (ReadAnswer, Vec<u8>, Vec<usize>);
+
+struct Question<'a> {
+    table: &'a [u8],
+    width: usize,
+    place: usize,
+    room: usize,
+    slots: usize,
+}
+
+impl Question<'_> {
+    fn lent(&self) -> (Vec<u8>, Vec<usize>) {
+        let out = (0..self.room).map(|i| (i as u8).wrapping_mul(29) ^ 0x5a).collect();
+        (out, (0..self.slots).map(|i| usize::MAX - i).collect())
+    }
+    fn core(&self) -> Outcome {
+        let (mut out, mut ends) = self.lent();
+        let answer = rows::read_row(self.table, self.width, self.place, &mut out, &mut ends);
+        (answer, out, ends)
+    }
+    /// 14 past the end; none at it; 14 for a malformed row, another number of
+    /// values or over 8,192 bytes; then 9.
+    fn expected(&self, row: Option<&(Vec<Vec<u8>>, usize)>) -> Outcome {
+        let (mut out, mut ends) = self.lent();
+        let refused = |refusal| ReadAnswer { refusal, ..ReadAnswer::default() };
+        let answer = match row {
+            _ if self.place > self.table.len() => refused(14),
+            _ if self.place == self.table.len() => refused(0),
+            Some((values, length)) if values.len() == self.width && *length <= LONGEST => {
+                let joined = values.concat();
+                if joined.len() > self.room || self.width > self.slots {
+                    refused(9)
+                } else {
+                    out[..joined.len()].copy_from_slice(&joined);
+                    let mut to = 0;
+                    for (end, value) in ends.iter_mut().zip(values) {
+                        to += value.len();
+                        *end = to;
+                    }
+                    let next = self.place + length;
+                    ReadAnswer { refusal: 0, found: 1, next, size: to }
+                }
+            }
+            _ => refused(14),
+        };
+        (answer, out, ends)
+    }
+    fn ask(
+        &self,
+        tally: &mut Tally,
+        row: Option<&(Vec<Vec<u8>>, usize)>,
+        seen: &mut [usize; 15],
+    ) -> ReadAnswer {
+        let expected = self.expected(row);
+        seen[expected.0.refusal as usize] += 1;
+        let core = self.core();
+        let answer = core.0;
+        tally.same(core, expected, || self.describe("read_row"));
+        answer
+    }
+    fn describe(&self, what: &str) -> (Vec<u64>, String) {
+        let from = self.table.get(self.place..).unwrap_or_default();
+        let shown = from[..from.len().min(60)].escape_ascii();
+        let Self { table, width, place, room, slots } = self;
+        (
+            vec![table.len() as u64, *width as u64],
+            format!(
+                "{what}, width {width} at {place} of {}, {room} bytes and {slots} ends, \
+                 there is {shown}",
+                table.len()
+            ),
+        )
+    }
+}
+
+/// What csv-core can say: of a row that is read, its values and its end. It
+/// skips lines without a byte, and a byte order mark.
+fn beside_csv(tally: &mut Tally, question: &Question, answer: ReadAnswer) -> usize {
+    #[cfg(feature = "reader")]
+    if answer.found == 1 {
+        let bytes = &question.table[question.place..];
+        if bytes[0] != b'\n' && !bytes.starts_with(b"\xef\xbb\xbf") {
+            let (_, out, ends) = question.core();
+            let mut from = 0;
+            let one = |&to: &usize| {
+                let value = out[from..to].to_vec();
+                from = to;
+                value
+            };
+            let values: Vec<Vec<u8>> = ends[..question.width].iter().map(one).collect();
+            let core = Some((values, answer.next - question.place));
+            tally.same(core, csv_record(bytes), || question.describe("beside csv-core"));
+            return 1;
+        }
+    }
+    let _ = (tally, question, answer);
+    0
+}
+
+/// Every table of up to so many bytes, read at its start with widths 0 to 5.
+fn short_tables(plan: &Plan, tally: &mut Tally, seen: &mut [usize; 15]) -> (usize, usize) {
+    const BYTES: [u8; 5] = *b"a\",\n\r";
+    let longest = if plan.quick { 5 } else { 8 };
+    let (mut tables, mut csv) = (0, 0);
+    for length in 0..=longest {
+        let mut at = vec![0; length];
+        loop {
+            let table: Vec<u8> = at.iter().map(|&i| BYTES[i]).collect();
+            let row = row_at(&table);
+            for width in 0..6 {
+                let question =
+                    Question { table: &table, width, place: 0, room: length + 1, slots: width };
+                let answer = question.ask(tally, row.as_ref(), seen);
+                csv += beside_csv(tally, &question, answer);
+            }
+            tables += 1;
+            let Some(k) = (0..length).rev().find(|&k| at[k] + 1 < BYTES.len()) else {
+                break;
+            };
+            at[k] += 1;
+            at[k + 1..].fill(0);
+        }
+    }
+    (tables, csv)
+}
+
+fn word(random: &mut Random) -> Vec<u8> {
+    let length = match random.below(60) {
+        0 => random.below(2000),
+        1 => 2700,
+        2..20 => 0,
+        _ => random.below(9),
+    };
+    let plain = random.once_in(2);
+    let byte = |_| match random.below(4) {
+        0 if !plain => random.pick(b"\"\",\r\n"),
+        1 => random.u32() as u8,
+        _ => random.pick(b"abc123 "),
+    };
+    (0..length).map(byte).collect()
+}
+
+/// A table as the core writes it, and then damaged.
+fn table(random: &mut Random, number: usize) -> Vec<u8> {
+    let mut out = vec![0; LONGEST];
+    let line = rows::names_line(number as u32, &mut out);
+    let mut table = out[..line.length].to_vec();
+    for _ in 0..random.below(6) {
+        let values: Vec<Vec<u8>> = (0..columns(number)).map(|_| word(random)).collect();
+        let lengths: Vec<u32> = values.iter().map(|v| v.len() as u32).collect();
+        let handed = Values { texts: &values.concat(), lengths: &lengths };
+        let row = rows::row(number as u32, handed, &mut out);
+        table.extend_from_slice(&out[..row.length]);
+    }
+    for _ in 0..random.pick(&[0, 1, 1, 1, 2, 3]) {
+        let at = random.below(table.len() + 1);
+        match random.below(6) {
+            0 => table.truncate(at),
+            1 => table.insert(at, random.pick(b"\"\",\n\r x")),
+            2 if at < table.len() => {
+                table.remove(at);
+            }
+            3 if at < table.len() => table[at] ^= 1 << random.below(8),
+            4 if at < table.len() => table[at] = random.pick(b"\"\",\n\r x"),
+            // a long piece, so that a row passes 8,192 bytes
+            5 if random.once_in(3) => {
+                let more = LONGEST - 40 + random.below(80);
+                let piece = vec![random.pick(b"y\","); more];
+                table.splice(at..at, piece);
+            }
+            _ => {}
+        }
+    }
+    table
+}
+
+/// Tables as they are stored, damaged or not, read row by row and elsewhere.
+fn damaged(plan: &Plan, tally: &mut Tally, seen: &mut [usize; 15]) -> (usize, usize) {
+    let mut random = Random::new(plan.seed);
+    let rounds = if plan.quick { 500 } else { 40_000 };
+    let mut csv = 0;
+    for _ in 0..rounds {
+        let number = random.below(8);
+        let width = columns(number);
+        let table = table(&mut random, number);
+        let mut places =
+            vec![table.len(), table.len() + 1, usize::MAX, random.below(table.len() + 3)];
+        let mut at = 0;
+        while let Some((_, length)) = table.get(at..).filter(|t| !t.is_empty()).and_then(row_at) {
+            places.push(at);
+            at += length;
+        }
+        places.push(at);
+        for place in places {
+            let row = table.get(place..).and_then(row_at);
+            let size = row.as_ref().map_or(0, |(values, _)| values.iter().map(Vec::len).sum());
+            let count = row.as_ref().map_or(width, |(values, _)| values.len());
+            let widths = [count, width, count + 1, count - 1, 0, usize::MAX];
+            for width in [width, random.pick(&widths)] {
+                let few = width.min(20);
+                let short = [size.saturating_sub(1), 0, random.below(size + 1)];
+                let room =
+                    if random.once_in(4) { random.pick(&short) } else { size + random.below(3) };
+                let slots =
+                    if random.once_in(8) { random.below(few + 1) } else { few + random.below(3) };
+                let question = Question { table: &table, width, place, room, slots };
+                let answer = question.ask(tally, row.as_ref(), seen);
+                csv += beside_csv(tally, &question, answer);
+            }
+        }
+    }
+    (rounds, csv)
+}
+
+/// 14 and 9 at once: each way to be malformed with outputs that are too short,
+/// one, the other or both.
+fn at_once(tally: &mut Tally, seen: &mut [usize; 15]) -> usize {
+    let long = |n: usize| [&b"a,"[..], &vec![b'x'; n], b"\n"].concat();
+    let bad: [(&str, Vec<u8>, usize, usize); 9] = [
+        ("a quote in a field", b"a\"b,c\n".to_vec(), 2, 0),
+        ("a byte behind a closing quote", b"\"a\"b,c\n".to_vec(), 2, 0),
+        ("no row end", b"a,b".to_vec(), 2, 0),
+        ("no closing quote", b"a,\"b\n".to_vec(), 2, 0),
+        ("too few values", b"a,b\n".to_vec(), 3, 0),
+        ("too many values", b"a,b\n".to_vec(), 1, 0),
+        ("a width of 0", b"a\n".to_vec(), 0, 0),
+        ("a place past the end", b"a,b\n".to_vec(), 2, 5),
+        ("8,193 bytes", long(LONGEST - 2), 2, 0),
+    ];
+    let mut sets = 0;
+    for (what, table, width, place) in &bad {
+        for (room, slots) in [(0, 0), (9000, 0), (0, 9), (9000, 9)] {
+            let question = Question { table, width: *width, place: *place, room, slots };
+            let row = table.get(*place..).and_then(row_at);
+            let answer = question.ask(tally, row.as_ref(), seen);
+            tally.same(answer.refusal, 14, || question.describe(what));
+            sets += usize::from(room == 0 || slots < *width);
+        }
+    }
+    // the longest row, and outputs that just fit and just don't
+    let table = long(LONGEST - 3);
+    let row = row_at(&table);
+    for room in [LONGEST - 2, LONGEST - 3, 0] {
+        for slots in [2, 1, 0] {
+            let question = Question { table: &table, width: 2, place: 0, room, slots };
+            let answer = question.ask(tally, row.as_ref(), seen);
+            let fits = room == LONGEST - 2 && slots == 2;
+            tally.same(answer.refusal, if fits { 0 } else { 9 }, || question.describe("longest"));
+        }
+    }
+    sets
+}
+
+pub fn stored(plan: &Plan, tally: &mut Tally) {
+    let mut seen = [0; 15];
+    let sets = at_once(tally, &mut seen);
+    let (short, csv) = short_tables(plan, tally, &mut seen);
+    let (tables, more) = damaged(plan, tally, &mut seen);
+    tally.note = format!(
+        "{short} short tables with widths 0 to 5, {tables} stored ones, damaged or not (answers: {} \
+         rows or ends, {} by 14, {} by 9), {} rows beside csv-core, {sets} sets of 14 with 9",
+        seen[0],
+        seen[14],
+        seen[9],
+        csv + more
+    );
+}
