@@ -1,9 +1,11 @@
 #!/usr/bin/env python3
 """Checks the proved core against programs that have nothing to do with it:
-Python's zlib, datetime and struct, and the published CRC-32 check values."""
+Python's zlib, datetime, struct and csv, and the published CRC-32 check values."""
 
 import argparse
+import csv
 import datetime
+import io
 import os
 import random
 import struct
@@ -203,12 +205,119 @@ def keys(program, rng):
     return compare("keys by sorted sets", program, cases)
 
 
-PARTS = [published, crcs, dates, large_dates, new_dates, generations, numbers, keys]
+LONGEST_ROW = 8192
+
+
+def values(rng, count):
+    """Values of random bytes, with the special ones among them."""
+    def one():
+        length = rng.choice([0, 1, 1, 2, 3, 5, 8, rng.randrange(40), rng.randrange(400) if rng.random() < .1 else 4])
+        kind = rng.choice([b'ab",\r\n ', b'abc 123', b'"', bytes(range(256)), b'a",', b"\r\n", b'"a'])
+        return bytes(rng.choice(kind) for _ in range(length))
+    return [one() for _ in range(count)]
+
+
+def written(rows, **how):
+    """The rows by Python's csv; a byte is a character of Latin-1."""
+    out = io.StringIO(newline="")
+    writer = csv.writer(out, **how)
+    for row in rows:
+        writer.writerow([v.decode("latin-1") for v in row])
+    return out.getvalue().encode("latin-1")
+
+
+def read(table):
+    text = io.StringIO(table.decode("latin-1"), newline="")
+    return [[v.encode("latin-1") for v in row] for row in csv.reader(text, strict=True)]
+
+
+def handed(row):
+    return "%s %s" % (hexadecimal(b"".join(row)), ",".join(str(len(v)) for v in row) or "-")
+
+
+def columns(program):
+    return [int(n) for n in ask(program, ["columns %d" % t for t in range(8)])]
+
+
+def rows(program, rng):
+    """Every row that the core writes is what Python's csv would write, with a
+    row end of LF; and Python's csv reads it back."""
+    widths = columns(program)
+    cases, back = [], []
+    for t in range(8):
+        line = bytes.fromhex(ask(program, ["names %d" % t])[0])
+        table = [values(rng, widths[t]) for _ in range(5000)]
+        answers = ask(program, ["row %d %s" % (t, handed(row)) for row in table])
+        stored = line + b"".join(bytes.fromhex(a) for a in answers if not a.startswith("refusal"))
+        names = line.decode().rstrip("\n").split(",")
+        expected = [[n.encode() for n in names]]
+        for row, answer in zip(table, answers):
+            # a row end of CRLF, so that CR is quoted too
+            python = written([row], lineterminator="\r\n")[:-2] + b"\n"
+            if len(python) > LONGEST_ROW:
+                cases.append((row, "refusal 14", answer))
+            else:
+                cases.append((row, python.hex(), answer))
+                expected.append(row)
+        got = read(stored)
+        back += list(zip(expected, got))
+        if len(got) != len(expected) or len(names) != widths[t]:
+            cases.append((table[0], "%d rows" % len(expected), "%d rows" % len(got)))
+    bad = [(r, e, g) for r, e, g in cases if e != g] + [(e, e, g) for e, g in back if e != g]
+    print("rows by csv: %d written as csv writes them, %d read back by csv, %d differ" % (
+        len(cases), len(back), len(bad)))
+    for row, expected, got in sorted(bad, key=lambda b: len(b"".join(b[0])))[:SHOWN]:
+        print("  %r: the core has %s, Python %s" % (row, str(got)[:200], str(expected)[:200]))
+    return bool(bad)
+
+
+def stored_rows(program, rng):
+    """Rows that Python's csv wrote, quoted where they need not be too."""
+    cases = []
+    for _ in range(20000):
+        width = rng.randrange(1, 12)
+        row, other = values(rng, width), values(rng, width)
+        how = rng.choice([csv.QUOTE_ALL, csv.QUOTE_MINIMAL])
+        if width == 1 and how == csv.QUOTE_MINIMAL:
+            how = csv.QUOTE_ALL
+        before, after = (written([r], lineterminator="\n", quoting=how) for r in (other, row))
+        # CR outside quotes is a byte of its field
+        place, end = len(before), len(before) + len(after)
+        table = hexadecimal(before + after + rng.choice([b"", before, b'"']))
+        cases.append(("read %s %d %d" % (table, width, place), " ".join(
+            [str(end)] + [hexadecimal(v) for v in row]) if len(after) <= LONGEST_ROW else "refusal 14"))
+        cases.append(("read %s %d %d" % (table, width + 1, place), "refusal 14"))
+    return compare("stored rows by csv", program, cases)
+
+
+def filters(program, rng):
+    cases = []
+    for size in [0, 1, 2, 3, 7, 100, 16384, 65535, 65536, 65537] + [rng.randrange(1, 3000) for _ in range(200)]:
+        ids = [rng.randbytes(rng.randrange(1, 41)) for _ in range(rng.randrange(1, 60))]
+        ids += [rng.choice(ids) for _ in range(5)] + [b""]
+        if not 1 <= size <= 65536:
+            expected = "refusal 2"
+        else:
+            bits, answers = bytearray(size), ""
+            for i in ids:
+                crc = zlib.crc32(i)
+                step = (crc << 13 | crc >> 19) % (1 << 32) | 1
+                places = [(crc + k * step) % (1 << 32) % (8 * size) for k in range(4)]
+                there = int(all(bits[p // 8] >> p % 8 & 1 for p in places))
+                answers += "%d%d1" % (there, there)
+                for p in places:
+                    bits[p // 8] |= 1 << p % 8
+            expected = "%s %s" % (answers, hexadecimal(bytes(bits)))
+        cases.append(("filter %d %s" % (size, ",".join(hexadecimal(i) for i in ids)), expected))
+    return compare("filters by zlib's CRC", program, cases)
+
+
+PARTS = [published, crcs, dates, large_dates, new_dates, generations, numbers, keys, rows, stored_rows, filters]
 
 
 def main():
     parser = argparse.ArgumentParser(
-        description="Checks the core against Python's zlib, datetime and struct, and the "
+        description="Checks the core against Python's zlib, datetime, struct and csv, and the "
         "published CRC-32 values.",
         epilog="Exit status: 0 no difference, 1 differences, 3 the program answers isn't there.")
     parser.add_argument("--answers", metavar="FILE", default=ANSWERS,

@@ -1,5 +1,9 @@
 //! The core's answers, for programs in other languages to check.
-use bankcore::{answers::KeyAnswer, banks::Picks};
+use bankcore::{
+    answers::KeyAnswer,
+    banks::Picks,
+    rows::{self, FilterAnswer, ReadAnswer, RowAnswer, Values},
+};
 use std::{
     fs,
     io::{self, BufRead, BufWriter, Write},
@@ -26,6 +30,18 @@ Reads requests, one a line, and prints the core's answer to each, one a line:
                    the key of an identity and picks, or 'refusal N': identity and
                    the picks' texts in a row in hexadecimal, their lengths with
                    commas between, five to a pick; - for none
+  columns T        how many columns table T has
+  names T          the names line of table T in hexadecimal, or 'refusal N'
+  row T TEXTS LENGTHS
+                   the row of some values of table T, or 'refusal N': texts in a
+                   row and a length for each
+  read HEX WIDTH PLACE
+                   the row of so many values at a place of a table: the next
+                   place and the values in hexadecimal; 'end', or 'refusal N'
+  filter N IDS     inserts each id, in hexadecimal with commas between, into an
+                   empty filter of N bytes: what a query before, the insertion
+                   and a query behind it answer for each, and the filter; or
+                   'refusal N'
 
 --dates FILE writes one bit for each number from 0 to 100020000 (bit N modulo 8
 of byte N / 8), set where the number is a date's. Exit status: 0 done, 1 a
@@ -33,6 +49,7 @@ request isn't understood or the file can't be written, 2 wrong use.
 ";
 
 const LONGEST_KEY: usize = 67_795;
+const LONGEST_ROW: usize = 8192;
 /// The numbers that --dates covers.
 const DATES: usize = 100_020_001;
 
@@ -51,6 +68,55 @@ fn hex(bytes: &[u8]) -> String {
         return "-".into();
     }
     bytes.iter().map(|b| format!("{b:02x}")).collect()
+}
+
+fn lengths(list: &str) -> Option<Vec<u32>> {
+    match list {
+        "-" => Some(Vec::new()),
+        list => list.split(',').map(|n| n.parse().ok()).collect(),
+    }
+}
+
+fn line(answer: RowAnswer, out: &[u8]) -> String {
+    match answer {
+        RowAnswer { refusal: 0, length } => hex(&out[..length]),
+        RowAnswer { refusal, .. } => format!("refusal {refusal}"),
+    }
+}
+
+fn read(table: &[u8], width: usize, place: usize) -> String {
+    let mut out = [0; LONGEST_ROW];
+    let mut ends = vec![0; width.min(LONGEST_ROW)];
+    match rows::read_row(table, width, place, &mut out, &mut ends) {
+        ReadAnswer { refusal: 0, found: 1, next, .. } => {
+            let mut words = vec![next.to_string()];
+            let mut from = 0;
+            for &to in &ends {
+                words.push(hex(&out[from..to]));
+                from = to;
+            }
+            words.join(" ")
+        }
+        ReadAnswer { refusal: 0, .. } => "end".into(),
+        ReadAnswer { refusal, .. } => format!("refusal {refusal}"),
+    }
+}
+
+fn filter(size: usize, ids: &str) -> Option<String> {
+    let mut bits = vec![0; size];
+    let mut answers = String::new();
+    for id in ids.split(',') {
+        let id = bytes(id)?;
+        let before = rows::query(&bits, &id);
+        let inserted = rows::insert(&mut bits, &id);
+        for answer in [before, inserted, rows::query(&bits, &id)] {
+            match answer {
+                FilterAnswer { refusal: 0, present } => answers += &present.to_string(),
+                FilterAnswer { refusal, .. } => return Some(format!("refusal {refusal}")),
+            }
+        }
+    }
+    Some(format!("{answers} {}", hex(&bits)))
 }
 
 fn answer(request: &str) -> Option<String> {
@@ -77,11 +143,7 @@ fn answer(request: &str) -> Option<String> {
             hex(&b)
         }
         ["key", identity, texts, lengths] => {
-            let lengths: Option<Vec<u32>> = match lengths {
-                "-" => Some(Vec::new()),
-                list => list.split(',').map(|n| n.parse().ok()).collect(),
-            };
-            let (texts, lengths) = (bytes(texts)?, lengths?);
+            let (texts, lengths) = (bytes(texts)?, self::lengths(lengths)?);
             let mut out = vec![0; LONGEST_KEY];
             let picks = Picks { texts: &texts, lengths: &lengths };
             match bankcore::banks::key(&bytes(identity)?, picks, &mut out) {
@@ -89,6 +151,21 @@ fn answer(request: &str) -> Option<String> {
                 KeyAnswer { refusal, .. } => format!("refusal {refusal}"),
             }
         }
+        ["columns", table] => rows::column_count(table.parse().ok()?).to_string(),
+        ["names", table] => {
+            let mut out = [0; LONGEST_ROW];
+            line(rows::names_line(table.parse().ok()?, &mut out), &out)
+        }
+        ["row", table, texts, lengths] => {
+            let (texts, lengths) = (bytes(texts)?, self::lengths(lengths)?);
+            let mut out = [0; LONGEST_ROW];
+            let values = Values { texts: &texts, lengths: &lengths };
+            line(rows::row(table.parse().ok()?, values, &mut out), &out)
+        }
+        ["read", table, width, place] => {
+            read(&bytes(table)?, width.parse().ok()?, place.parse().ok()?)
+        }
+        ["filter", size, ids] => filter(size.parse().ok()?, ids)?,
         ["rotate", x] => bankcore::rotate13(x.parse().ok()?).to_string(),
         _ => return None,
     })
