@@ -1,8 +1,12 @@
-//! CRC-32 side by side: the core, crc32fast's table path, crc32fast, zlib; and
-//! keys and banks beside the lifted Rust.
+//! CRC-32 side by side: the core, crc32fast's table path, crc32fast, zlib; keys,
+//! banks and the filter beside the lifted Rust; rows beside csv-core.
 #[cfg(feature = "banks")]
 mod banks;
+#[cfg(feature = "banks")]
+mod filter;
 mod measure;
+#[cfg(feature = "banks")]
+mod rows;
 
 use common::Random;
 use measure::{Times, measure};
@@ -12,23 +16,26 @@ use std::{
 };
 
 const HELP: &str = "\
-bench [--quick] [crc] [banks]
+bench [--quick] [crc] [banks] [rows] [filter]
 
 crc     times the core's CRC-32 beside crc32fast's table path, crc32fast with
         SIMD and zlib, in one run, and prints their speeds as ratios to the
         table path
 banks   times load, validate, key and key match beside the lifted Rust, built
         with crc32fast's table path and with SIMD
+rows    times the writing and the reading of rows beside csv-core
+filter  times queries and insertions of the trip filter beside the lifted Rust,
+        built in both ways
 
-Without a word both are run.
+Without a word all are run.
 
   --quick   a fifth of the rounds
   --help    this text
 
 All take turns in short batches, so that a busy machine slows all alike. A time
 is the lower decile of its batches; for CRC-32 the median is given beside it. A
-ratio above 1 is faster than the table path. Exit status: 0 CRC-32 reached its
-three marks, 1 not, 2 wrong use.
+ratio above 1 is faster than the table path, or than csv-core. Exit status: 0
+CRC-32, rows and filter reached their marks, 1 not, 2 wrong use.
 ";
 
 #[link(name = "z")]
@@ -136,7 +143,8 @@ fn crc(rounds: usize) -> Option<bool> {
 
 fn main() -> ExitCode {
     let mut rounds = 3000;
-    let (mut crc_wanted, mut banks_wanted) = (false, false);
+    const PARTS: [&str; 4] = ["crc", "banks", "rows", "filter"];
+    let mut wanted = Vec::new();
     for argument in std::env::args().skip(1) {
         match argument.as_str() {
             "--help" | "-h" => {
@@ -144,8 +152,7 @@ fn main() -> ExitCode {
                 return ExitCode::SUCCESS;
             }
             "--quick" => rounds = 600,
-            "crc" => crc_wanted = true,
-            "banks" => banks_wanted = true,
+            part if PARTS.contains(&part) => wanted.push(argument),
             other => {
                 eprintln!("bench: there is no option {other}; see bench --help");
                 return ExitCode::from(2);
@@ -162,20 +169,31 @@ fn main() -> ExitCode {
         );
         return ExitCode::from(2);
     }
-    let all = !crc_wanted && !banks_wanted;
+    let asked = |part: &str| wanted.is_empty() || wanted.iter().any(|w| w == part);
     let mut reached = true;
-    if all || crc_wanted {
+    if asked("crc") {
         match crc(rounds) {
             Some(yes) => reached = yes,
             None => return ExitCode::FAILURE,
         }
     }
-    if all || banks_wanted {
-        #[cfg(feature = "banks")]
-        banks::banks(rounds);
-        #[cfg(not(feature = "banks"))]
+    #[cfg(feature = "banks")]
+    {
+        if asked("banks") {
+            banks::banks(rounds);
+        }
+        if asked("rows") {
+            reached &= rows::rows(rounds / 3);
+        }
+        if asked("filter") {
+            reached &= filter::filter(rounds / 3);
+        }
+    }
+    #[cfg(not(feature = "banks"))]
+    if asked("banks") || asked("rows") || asked("filter") {
         println!(
-            "keys and banks: not in this build; cargo build --release --offline -p bench has them"
+            "keys, banks, rows and filter: not in this build; cargo build --release --offline \
+             -p bench has them"
         );
     }
     if reached { ExitCode::SUCCESS } else { ExitCode::FAILURE }

@@ -1,0 +1,260 @@
+//! Rows: the core beside csv-core, writing and reading.
+use crate::measure::{Times, measure};
+use bankcore::rows::{self, Values};
+use common::Random;
+use csv_core::{ReadRecordResult, Reader, WriteResult, Writer};
+use std::cell::RefCell;
+
+/// How many rows a call goes through, each once.
+const ROWS: usize = 64;
+const LONGEST: usize = 8192;
+
+/// Rows of a table, ready in the form that each takes.
+struct Case {
+    number: u32,
+    width: usize,
+    /// Each row's texts, lengths and values.
+    rows: Vec<(Vec<u8>, Vec<u32>, Vec<Vec<u8>>)>,
+    table: Vec<u8>,
+    out: RefCell<Vec<u8>>,
+    ends: RefCell<Vec<usize>>,
+    writer: RefCell<Writer>,
+    reader: RefCell<Reader>,
+}
+
+impl Case {
+    fn new(number: u32, row: impl Fn(&mut Random, usize) -> Vec<String>) -> Self {
+        let mut random = Random::new(1);
+        let values: Vec<Vec<Vec<u8>>> = (0..ROWS)
+            .map(|i| row(&mut random, i).into_iter().map(String::into_bytes).collect())
+            .collect();
+        let mut case = Self {
+            number,
+            width: rows::column_count(number),
+            rows: values
+                .into_iter()
+                .map(|v| (v.concat(), v.iter().map(|v| v.len() as u32).collect(), v))
+                .collect(),
+            table: Vec::new(),
+            out: RefCell::new(vec![0; ROWS * LONGEST]),
+            ends: RefCell::new(vec![0; 16]),
+            writer: RefCell::new(Writer::new()),
+            reader: RefCell::new(Reader::new()),
+        };
+        let length = core::write(&case) as usize;
+        case.table = case.out.borrow()[..length].to_vec();
+        case
+    }
+}
+
+mod core {
+    use super::*;
+
+    /// All rows, one behind the other.
+    pub fn write(case: &Case) -> u64 {
+        let out = &mut case.out.borrow_mut()[..];
+        let mut at = 0;
+        for (texts, lengths, _) in &case.rows {
+            let answer = rows::row(case.number, Values { texts, lengths }, &mut out[at..]);
+            at += answer.length;
+        }
+        at as u64
+    }
+    /// All rows, each into the same output; the sum of their values' bytes.
+    pub fn read(case: &Case) -> u64 {
+        let out = &mut case.out.borrow_mut()[..LONGEST];
+        let ends = &mut case.ends.borrow_mut()[..];
+        let (mut place, mut sum) = (0, 0);
+        loop {
+            let answer = rows::read_row(&case.table, case.width, place, out, ends);
+            if answer.found == 0 {
+                return sum;
+            }
+            place = answer.next;
+            sum += answer.size as u64;
+        }
+    }
+}
+
+mod csv {
+    use super::*;
+
+    pub fn write(case: &Case) -> u64 {
+        let out = &mut case.out.borrow_mut()[..];
+        let writer = &mut case.writer.borrow_mut();
+        let mut at = 0;
+        for (_, _, values) in &case.rows {
+            for (k, value) in values.iter().enumerate() {
+                if k > 0 {
+                    at += writer.delimiter(&mut out[at..]).1;
+                }
+                let (result, _, n) = writer.field(value, &mut out[at..]);
+                if result != WriteResult::InputEmpty {
+                    return 0;
+                }
+                at += n;
+            }
+            at += writer.terminator(&mut out[at..]).1;
+        }
+        at as u64
+    }
+    pub fn read(case: &Case) -> u64 {
+        let out = &mut case.out.borrow_mut()[..LONGEST];
+        let ends = &mut case.ends.borrow_mut()[..];
+        let reader = &mut case.reader.borrow_mut();
+        reader.reset();
+        let (mut place, mut sum) = (0, 0);
+        loop {
+            let (result, read, size, _) = reader.read_record(&case.table[place..], out, ends);
+            if result != ReadRecordResult::Record {
+                return sum;
+            }
+            place += read;
+            sum += size as u64;
+        }
+    }
+}
+
+/// The bytes that both write, and the values' ends that both read, row by row.
+fn same(case: &Case) -> bool {
+    let written = |run: fn(&Case) -> u64| {
+        let length = run(case) as usize;
+        case.out.borrow()[..length].to_vec()
+    };
+    let mut reader = Reader::new();
+    let (mut out, mut other) = (vec![0; LONGEST], vec![0; LONGEST]);
+    let (mut ends, mut others) = ([0; 16], [0; 16]);
+    let mut place = 0;
+    let read = case.rows.iter().all(|(texts, _, _)| {
+        let answer = rows::read_row(&case.table, case.width, place, &mut out, &mut ends);
+        let (_, read, size, count) =
+            reader.read_record(&case.table[place..], &mut other, &mut others);
+        place += read;
+        (size, count) == (answer.size, case.width)
+            && out[..size] == other[..size]
+            && out[..size] == texts[..]
+            && ends[..count] == others[..count]
+    });
+    read && place == case.table.len() && written(core::write) == written(csv::write)
+}
+
+fn texts<const N: usize>(values: [&str; N]) -> Vec<String> {
+    values.map(String::from).into()
+}
+
+/// A value of so many letters, with a byte every so often.
+fn long(random: &mut Random, length: usize, with: char, every: usize) -> String {
+    let letter = |i: usize| {
+        let plain = char::from(b'a' + random.below(26) as u8);
+        if every > 0 && i % every == every / 2 { with } else { plain }
+    };
+    (0..length).map(letter).collect()
+}
+
+fn cases() -> Vec<(&'static str, Case)> {
+    let long_row = |with, every| {
+        move |random: &mut Random, _: usize| {
+            [60, 200, 310].map(|n| long(random, n, with, every)).into()
+        }
+    };
+    vec![
+        (
+            "Routes",
+            Case::new(0, |random, i| {
+                texts([&format!("R:{:07}", random.below(9_999_999)), &format!("{i}"), "700"])
+            }),
+        ),
+        (
+            "Stops, a third quoted",
+            Case::new(1, |random, i| {
+                let name = match random.below(6) {
+                    0 => format!("Platz \"{i}\""),
+                    1 => format!("Stop {i}, east"),
+                    _ => format!("Main Street {i}"),
+                };
+                texts([&format!("NSR:{:06}", random.below(999_999)), &format!("4{i:04}"), &name])
+            }),
+        ),
+        (
+            "Trips",
+            Case::new(2, |random, i| {
+                let route = format!("R:{:07}", random.below(9_999_999));
+                let trip = format!("T:{:09}", random.below(999_999_999));
+                texts([&route, &format!("S{i}"), &trip, "Central Station", "1"])
+            }),
+        ),
+        (
+            "StopTimes",
+            Case::new(3, |random, i| {
+                let trip = format!("T:{:09}", random.below(999_999_999));
+                let stop = format!("NSR:{:06}", random.below(999_999));
+                let time = format!("{:02}:{:02}:00", random.below(24), random.below(60));
+                texts([&trip, &stop, &format!("{i}"), &time, &time, "0", "0", "Central"])
+            }),
+        ),
+        (
+            "Calendar",
+            Case::new(4, |random, i| {
+                let mut values = vec![format!("S{i}")];
+                values.extend((0..7).map(|_| random.below(2).to_string()));
+                values.extend(texts(["20260101", "20261231"]));
+                values
+            }),
+        ),
+        (
+            "Transfers, mostly empty",
+            Case::new(7, |random, _| {
+                let stops = [0; 2].map(|_| format!("NSR:{:06}", random.below(999_999)));
+                texts([&stops[0], &stops[1], "2", "180", "", "", "", ""])
+            }),
+        ),
+        ("long values, plain", Case::new(1, long_row('x', 0))),
+        ("long values, commas", Case::new(1, long_row(',', 30))),
+        ("long values, few quotes", Case::new(1, long_row('"', 60))),
+        ("long values, many quotes", Case::new(1, long_row('"', 8))),
+    ]
+}
+
+/// Whether both ways reached 1.0 times csv-core on every shape.
+pub fn rows(rounds: usize) -> bool {
+    println!("Rows, one run on one machine, release builds, warm buffers. core: this");
+    println!("library. csv: csv-core's writer and reader. {ROWS} rows of a shape are written");
+    println!("or read one after the other; the core takes a row's values in a call, csv-core");
+    println!("a value. The core reads a row whole before it hands out any of it.");
+    println!();
+    println!("Lower decile of the batches");
+    println!("{:>26}{:>8}{:>34}{:>34}", "", "bytes", "writing, ns a row", "reading, ns a row");
+    print!("{:>26}{:>8}", "", "a row");
+    for _ in 0..2 {
+        print!("{:>12}{:>11}{:>11}", "core", "csv", "csv/core");
+    }
+    println!();
+    let mut reached = true;
+    let mut low = Vec::new();
+    for (name, case) in &cases() {
+        if !same(case) {
+            println!("{name:<26} the answers differ");
+            reached = false;
+            continue;
+        }
+        print!("{name:<26}{:>8.1}", case.table.len() as f64 / ROWS as f64);
+        for (way, runs) in
+            [("writing", [core::write, csv::write]), ("reading", [core::read, csv::read])]
+        {
+            let [a, b]: [Times; 2] = measure(runs, case, rounds);
+            let ratio = b.decile / a.decile;
+            let each = |t: Times| t.decile / ROWS as f64;
+            print!("{:>12.1}{:>11.1}{ratio:>11.2}", each(a), each(b));
+            if ratio < 1.0 {
+                low.push(format!("{way} {name} {ratio:.2}"));
+            }
+        }
+        println!();
+    }
+    println!();
+    reached &= low.is_empty();
+    println!("reach: rows: at least 1.0 both ways: {}", if reached { "yes" } else { "no" });
+    low.iter().for_each(|text| println!("  {text}"));
+    println!();
+    reached
+}
