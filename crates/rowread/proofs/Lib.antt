@@ -1,4 +1,5 @@
 pub mod Laws
+pub mod Lines
 pub mod Copies
 pub mod Calls
 pub mod Table

@@ -1,8 +1,11 @@
 -- What the private functions promise each other. Nothing here says what a row is.
 use Prim.Native.Nat.{ℕ, _+_, _-_}
 use mathlib.Core.Path.{_≡_}
-use mathlib.Core.List.{List, []}
-use lib.ListN.{length}
+use mathlib.Core.Bool.{Bool, false, _||_}
+use mathlib.Core.List.{List, [], _∷_}
+use lib.Dec.{eqb}
+use lib.ListN.{length, getD}
+use Rattle.number.specs.Number.{pick}
 use Rattle.csv.specs.Read.{Got, got, bad, Row, row, malformed, values}
 use Rattle.rowread.specs.declared.Piece.{Piece}
 use Rattle.rowread.specs.declared.Piece.the-variants.{Value, Bad}
@@ -38,3 +41,35 @@ scanOf width t = scanFrom (length t) 0 (values width t)
 abbrev pub IsRow : Row → Type 0
 IsRow (row vs r) = Unit {0}
 IsRow malformed = ⊥
+
+-- ---- a row without quotes
+
+-- a byte before which it stops: a quote or LF
+unfoldable pub isStop : ℕ → Bool
+isStop b = eqb b 34 || eqb b 10
+
+unfoldable pub anyStop : List ℕ → Bool
+anyStop [] = false
+anyStop (b ∷ v) = isStop b || anyStop v
+
+-- the bytes before the first one
+unfoldable pub lineOf : List ℕ → List ℕ
+lineOf [] = []
+lineOf (b ∷ t) = pick (isStop b) [] (b ∷ lineOf t)
+
+-- how many of them are commas, which are the others, and where among these the values end
+unfoldable pub commasIn : List ℕ → ℕ
+commasIn [] = 0
+commasIn (b ∷ v) = pick (eqb b 44) 1 0 + commasIn v
+
+unfoldable pub textIn : List ℕ → List ℕ
+textIn [] = []
+textIn (b ∷ v) = pick (eqb b 44) (textIn v) (b ∷ textIn v)
+
+unfoldable pub marksIn : ℕ → List ℕ → List ℕ
+marksIn n [] = n ∷ []
+marksIn n (b ∷ v) = pick (eqb b 44) (n ∷ marksIn n v) (marksIn (n + 1) v)
+
+-- a row of so many values stands at the front without quotes, and ends before a place
+abbrev pub IsLine : List ℕ → ℕ → ℕ → Type 0
+IsLine t width line = (line ≡ length (lineOf t) + 1) × (getD t (length (lineOf t)) 0 ≡ 10) × (commasIn (lineOf t) + 1 ≡ width)

@@ -1,12 +1,12 @@
 // A stored row is read, by RFC 4180. The row is gone through before anything is handed out, so that a refusal leaves the outputs alone.
 ghost use mathlib.Core.Path.{_≡_};
-ghost use Prim.Native.Nat.{_+_, _-_, _≤_, min};
+ghost use Prim.Native.Nat.{_+_, _-_, _≤_, _<_, min};
 ghost use lib.ListN.{length, drop, getD};
 ghost use lib.Seq.{sets};
 ghost use Rattle.csv.specs.Csv.{isText};
 ghost use Rattle.csv.specs.Read.{plainValue, inner, fieldAt, rowEnd, values};
 ghost use Rattle.rowread.specs.Stored.{valuesOf, valuesAt, joined, endsOf, readAnswer, after};
-ghost use Rattle.rowread.specs.Steps.{pieceOf, valueOf, restOf, IsGot, scanOf, IsRow};
+ghost use Rattle.rowread.specs.Steps.{pieceOf, valueOf, restOf, IsGot, scanOf, IsRow, isStop, anyStop, lineOf, commasIn, textIn, marksIn, IsLine};
 use refusal::Refusal;
 
 pub enum ReadAnswer {
@@ -27,6 +27,12 @@ enum Piece {
 enum Scan {
     Whole { next: usize, size: usize },
     Broken,
+}
+
+// What was found of a row; line is the place behind it where it has no quotes, or 0.
+struct Found {
+    scan: Scan,
+    line: usize,
 }
 
 // Where a value that was copied ends: in the row, and in the output.
@@ -210,6 +216,130 @@ fn copy_row(t: &[u8], width: usize, out: &mut [u8], ends: &mut [usize])
     }
 }
 
+// A byte before which a row without quotes stops: LF, where it ends, or a quote.
+fn is_stop(b: u8) -> bool
+    ensures { λ r. ⌜ r ≡ isStop b ⌝ }
+{
+    (b == 34) | (b == 10)
+}
+
+// Whether there is one; all bytes are gone through, so that many are tested at once.
+fn any_stop(v: &[u8]) -> bool
+    ensures { λ r. ⌜ r ≡ anyStop (now (v .entry)) ⌝ }
+{
+    let mut found = false;
+    let mut i: usize = 0;
+    while i < v.len() {
+        found = found | is_stop(v[i]);
+        i += 1;
+    }
+    found
+}
+
+// Where the first one stands from a place on, or the end.
+fn stop_from(t: &[u8], from: usize) -> usize
+    requires { ⌜ from ≤ length (now t) ⌝ }
+    ensures { λ r. ⌜ r ≡ from + length (lineOf (drop from (now (t .entry)))) ⌝ }
+{
+    let mut i = from;
+    while i < t.len() {
+        if is_stop(t[i]) {
+            return i;
+        }
+        i += 1;
+    }
+    i
+}
+
+// The same from the start, sixteen bytes at a time.
+fn stop(t: &[u8]) -> usize
+    ensures { λ r. ⌜ r ≡ length (lineOf (now (t .entry))) ⌝ }
+{
+    let mut i: usize = 0;
+    while 16 <= t.len() - i {
+        let end = i + 16;
+        if any_stop(&t[i..end]) {
+            return stop_from(t, i);
+        }
+        i = end;
+    }
+    stop_from(t, i)
+}
+
+// How many commas there are.
+fn commas(v: &[u8]) -> usize
+    requires { ⌜ length (now v) ≤ 8192 ⌝ }
+    ensures { λ r. ⌜ r ≡ commasIn (now (v .entry)) ⌝ }
+{
+    let mut n: u32 = 0;
+    let mut i: usize = 0;
+    while i < v.len() {
+        if v[i] == 44 {
+            n += 1;
+        }
+        i += 1;
+    }
+    n as usize
+}
+
+// The row of so many values at the front, quickly where it has no quotes.
+fn find_row(t: &[u8], width: usize) -> Found
+    requires { ⌜ length (now t) ≤ 8192 ⌝ }
+    ensures { λ r. ⌜ (r .scan ≡ scanOf width (now (t .entry))) × ((r .line ≡ 0 → ⊥) → IsLine (now (t .entry)) width (r .line)) ⌝ }
+{
+    let e = stop(t);
+    if at(t, e) == 10 {
+        let n = commas(&t[0..e]);
+        if n + 1 == width {
+            return Found {
+                scan: Scan::Whole {
+                    next: e + 1,
+                    size: e - n,
+                },
+                line: e + 1,
+            };
+        }
+    }
+    Found {
+        scan: scan_row(t, width),
+        line: 0,
+    }
+}
+
+// The values of a row without quotes, whose bytes are v, and their ends.
+fn copy_line(v: &[u8], out: &mut [u8], ends: &mut [usize])
+    requires { ⌜ (length (textIn (now v)) ≤ length (now out)) × (commasIn (now v) < length (now ends)) ⌝ }
+    ensures { λ _. ⌜ (now (out .exit) ≡ sets (now (out .entry)) 0 (textIn (now (v .entry)))) × (now (ends .exit) ≡ sets (now (ends .entry)) 0 (marksIn 0 (now (v .entry)))) ⌝ }
+{
+    let mut n: usize = 0;
+    let mut k: usize = 0;
+    let mut j: usize = 0;
+    while j < v.len() {
+        let b = v[j];
+        if b == 44 {
+            ends[k] = n;
+            k += 1;
+        } else {
+            out[n] = b;
+            n += 1;
+        }
+        j += 1;
+    }
+    ends[k] = n;
+}
+
+// The values of the row at the front, and their ends; line as it was found.
+fn copy_found(t: &[u8], width: usize, line: usize, out: &mut [u8], ends: &mut [usize])
+    requires { ⌜ IsRow (values width (now t)) × (length (joined (valuesOf (values width (now t)))) ≤ length (now out)) × (width ≤ length (now ends)) × ((line ≡ 0 → ⊥) → IsLine (now t) width line) ⌝ }
+    ensures { λ _. ⌜ (now (out .exit) ≡ sets (now (out .entry)) 0 (joined (valuesOf (values width (now (t .entry)))))) × (now (ends .exit) ≡ sets (now (ends .entry)) 0 (endsOf 0 (valuesOf (values width (now (t .entry)))))) ⌝ }
+{
+    if line == 0 {
+        copy_row(t, width, out, ends);
+        return;
+    }
+    copy_line(&t[0..line - 1], out, ends);
+}
+
 // Where the bytes end among which a row may stand that starts at a place.
 fn part_end(len: usize, place: usize) -> usize
     requires { ⌜ place ≤ len ⌝ }
@@ -240,7 +370,9 @@ pub fn read_row(
     }
     let end = part_end(table.len(), place);
     let t = &table[place..end];
-    let Scan::Whole { next, size } = scan_row(t, width) else {
+    let found = find_row(t, width);
+    let scan = found.scan;
+    let Scan::Whole { next, size } = scan else {
         return ReadAnswer::Refused(Refusal::Row);
     };
     if out.len() < size {
@@ -249,7 +381,7 @@ pub fn read_row(
     if ends.len() < width {
         return ReadAnswer::Refused(Refusal::Small);
     }
-    copy_row(t, width, out, ends);
+    copy_found(t, width, found.line, out, ends);
     ReadAnswer::Stored {
         next: place + next,
         size,

@@ -34,11 +34,11 @@ part-t-start c = search needs
 part-t-end : tie.Need-part-t-end
 part-t-end c = search needs
 
-scan-row-requires : tie.Need-scan-row-requires
-scan-row-requires c κs = search needs
+find-row-requires : tie.Need-find-row-requires
+find-row-requires c κs = search needs
 
-enum-known-next : tie.Need-enum-known-next
-enum-known-next c = search needs
+enum-known-scan : tie.Need-enum-known-scan
+enum-known-scan c = search needs
 
 enum-told : tie.Need-enum-told
 enum-told c = search needs
@@ -49,7 +49,7 @@ returns-3 c =
     let h : a .place ≤ length (a .table .now) = c .before .before .before .before .before .before .if1 .left in
     let n : a .place ≡ length (a .table .now) → ⊥ = c .before .before .before .before .before .if2 .left in
     let e = part-is (a .table .now) (a .place) (c .before .before .before .before .part-end .result) h (c .before .before .before .before .part-end .ensures) in
-    let r = read-broken (a .table .now) (a .width) (a .place) (a .out .now) (a .ends .now) h n (sym (c .enum-told .given .1) ∙ c .before .before .scan-row .ensures ∙ ap (scanOf (a .width)) e) in
+    let r = read-broken (a .table .now) (a .width) (a .place) (a .out .now) (a .ends .now) h n (sym (c .enum-told .given .1) ∙ c .before .before .find-row .ensures .0 ∙ ap (scanOf (a .width)) e) in
     (r .is, r .bytes, r .marks)
 
 returns-4 : tie.Need-returns-4
@@ -58,8 +58,8 @@ returns-4 c =
     let h : a .place ≤ length (a .table .now) = c .before .before .before .before .before .before .before .before .if1 .left in
     let n : a .place ≡ length (a .table .now) → ⊥ = c .before .before .before .before .before .before .before .if2 .left in
     let e = part-is (a .table .now) (a .place) (c .before .before .before .before .before .before .part-end .result) h (c .before .before .before .before .before .before .part-end .ensures) in
-    let g = c .before .before .next .given in
-    let q : Whole (g .0 .0) (g .0 .1 .0) ≡ scanOf (a .width) (partAt (a .table .now) (a .place)) = sym (g .1) ∙ c .before .before .before .before .scan-row .ensures ∙ ap (scanOf (a .width)) e in
+    let g = c .before .before .scan .given in
+    let q : Whole (g .0 .0) (g .0 .1 .0) ≡ scanOf (a .width) (partAt (a .table .now) (a .place)) = sym (g .1) ∙ c .before .before .before .before .find-row .ensures .0 ∙ ap (scanOf (a .width)) e in
     let r = read-short (a .table .now) (a .width) (a .place) (a .out .now) (a .ends .now) h n (g .0 .0) (g .0 .1 .0) q (c .if3 .taken) in
     (r .is, r .bytes, r .marks)
 
@@ -69,30 +69,30 @@ returns-5 c =
     let h : a .place ≤ length (a .table .now) = c .before .before .before .before .before .before .before .before .before .if1 .left in
     let n : a .place ≡ length (a .table .now) → ⊥ = c .before .before .before .before .before .before .before .before .if2 .left in
     let e = part-is (a .table .now) (a .place) (c .before .before .before .before .before .before .before .part-end .result) h (c .before .before .before .before .before .before .before .part-end .ensures) in
-    let g = c .before .before .before .next .given in
-    let q : Whole (g .0 .0) (g .0 .1 .0) ≡ scanOf (a .width) (partAt (a .table .now) (a .place)) = sym (g .1) ∙ c .before .before .before .before .before .scan-row .ensures ∙ ap (scanOf (a .width)) e in
+    let g = c .before .before .before .scan .given in
+    let q : Whole (g .0 .0) (g .0 .1 .0) ≡ scanOf (a .width) (partAt (a .table .now) (a .place)) = sym (g .1) ∙ c .before .before .before .before .before .find-row .ensures .0 ∙ ap (scanOf (a .width)) e in
     let r = read-few (a .table .now) (a .width) (a .place) (a .out .now) (a .ends .now) h n (g .0 .0) (g .0 .1 .0) q (c .before .if3 .left) (c .if4 .taken) in
     (r .is, r .bytes, r .marks)
 
-copy-row-requires : tie.Need-copy-row-requires
-copy-row-requires c κs =
+copy-found-requires : tie.Need-copy-found-requires
+copy-found-requires c κs =
     let a = c .before .before .before .before .before .before .before .before .before .before .before .before .before .before .before .args in
     let h : a .place ≤ length (a .table .now) = c .before .before .before .before .before .before .before .before .before .before .before .if1 .left in
     let n : a .place ≡ length (a .table .now) → ⊥ = c .before .before .before .before .before .before .before .before .before .before .if2 .left in
     let e = part-is (a .table .now) (a .place) (c .before .before .before .before .before .before .before .before .before .part-end .result) h (c .before .before .before .before .before .before .before .before .before .part-end .ensures) in
-    let g = c .before .before .before .before .before .next .given in
-    let q : Whole (g .0 .0) (g .0 .1 .0) ≡ scanOf (a .width) (partAt (a .table .now) (a .place)) = sym (g .1) ∙ c .before .before .before .before .before .before .before .scan-row .ensures ∙ ap (scanOf (a .width)) e in
+    let g = c .before .before .before .before .before .scan .given in
+    let q : Whole (g .0 .0) (g .0 .1 .0) ≡ scanOf (a .width) (partAt (a .table .now) (a .place)) = sym (g .1) ∙ c .before .before .before .before .before .before .before .find-row .ensures .0 ∙ ap (scanOf (a .width)) e in
     let y = row-bytes (a .table .now) (a .width) (a .place) (a .out .now) (a .ends .now) h n (g .0 .0) (g .0 .1 .0) q in
-    rw e (is-row (a .table .now) (a .width) (a .place) (a .out .now) (a .ends .now) h n (g .0 .0) (g .0 .1 .0) q, omega (arith, y, c .before .before .before .if3 .left), c .before .before .if4 .left)
+    rw e (is-row (a .table .now) (a .width) (a .place) (a .out .now) (a .ends .now) h n (g .0 .0) (g .0 .1 .0) q, omega (arith, y, c .before .before .before .if3 .left), c .before .before .if4 .left, rw e at (c .before .before .before .before .before .before .before .find-row .ensures .1))
 
-add-t10 : tie.Need-add-t10
-add-t10 c =
+add-t12 : tie.Need-add-t12
+add-t12 c =
     let a = c .before .before .before .before .before .before .before .before .before .before .before .before .before .before .before .before .before .before .before .before .args in
     let h : a .place ≤ length (a .table .now) = c .before .before .before .before .before .before .before .before .before .before .before .before .before .before .before .before .if1 .left in
     let n : a .place ≡ length (a .table .now) → ⊥ = c .before .before .before .before .before .before .before .before .before .before .before .before .before .before .before .if2 .left in
     let e = part-is (a .table .now) (a .place) (c .before .before .before .before .before .before .before .before .before .before .before .before .before .before .part-end .result) h (c .before .before .before .before .before .before .before .before .before .before .before .before .before .before .part-end .ensures) in
-    let g = c .before .before .before .before .before .before .before .before .before .before .next .given in
-    let q : Whole (g .0 .0) (g .0 .1 .0) ≡ scanOf (a .width) (partAt (a .table .now) (a .place)) = sym (g .1) ∙ c .before .before .before .before .before .before .before .before .before .before .before .before .scan-row .ensures ∙ ap (scanOf (a .width)) e in
+    let g = c .before .before .before .before .before .before .before .before .before .before .scan .given in
+    let q : Whole (g .0 .0) (g .0 .1 .0) ≡ scanOf (a .width) (partAt (a .table .now) (a .place)) = sym (g .1) ∙ c .before .before .before .before .before .before .before .before .before .before .before .before .find-row .ensures .0 ∙ ap (scanOf (a .width)) e in
     let y = next-inside (a .table .now) (a .width) (a .place) (a .out .now) (a .ends .now) h n (g .0 .0) (g .0 .1 .0) q in
     omega (arith, y, length-take 8192 (drop (a .place) (a .table .now)), length-drop (a .place) (a .table .now))
 
@@ -108,9 +108,9 @@ returns-6 c =
     let h : a .place ≤ length (a .table .now) = c .before .before .before .before .before .before .before .before .before .before .before .before .before .before .before .before .if1 .left in
     let n : a .place ≡ length (a .table .now) → ⊥ = c .before .before .before .before .before .before .before .before .before .before .before .before .before .before .before .if2 .left in
     let e = part-is (a .table .now) (a .place) (c .before .before .before .before .before .before .before .before .before .before .before .before .before .before .part-end .result) h (c .before .before .before .before .before .before .before .before .before .before .before .before .before .before .part-end .ensures) in
-    let g = c .before .before .before .before .before .before .before .before .before .before .next .given in
-    let q : Whole (g .0 .0) (g .0 .1 .0) ≡ scanOf (a .width) (partAt (a .table .now) (a .place)) = sym (g .1) ∙ c .before .before .before .before .before .before .before .before .before .before .before .before .scan-row .ensures ∙ ap (scanOf (a .width)) e in
-    let w = c .before .before .before .before .copy-row .ensures in
+    let g = c .before .before .before .before .before .before .before .before .before .before .scan .given in
+    let q : Whole (g .0 .0) (g .0 .1 .0) ≡ scanOf (a .width) (partAt (a .table .now) (a .place)) = sym (g .1) ∙ c .before .before .before .before .before .before .before .before .before .before .before .before .find-row .ensures .0 ∙ ap (scanOf (a .width)) e in
+    let w = c .before .before .before .before .copy-found .ensures in
     let r = read-whole (a .table .now) (a .width) (a .place) (a .out .now) (a .ends .now) h n (g .0 .0) (g .0 .1 .0) q (c .before .before .before .before .before .before .before .before .if3 .left) (c .before .before .before .before .before .before .before .if4 .left) _ _ (w .0 ∙ rw e) (w .1 ∙ rw e) in
     (r .is, r .bytes, r .marks)
 
@@ -124,14 +124,14 @@ read-row-spec =
     sub-t
     part-t-start
     part-t-end
-    scan-row-requires
-    enum-known-next
+    find-row-requires
+    enum-known-scan
     enum-told
     returns-3
     returns-4
     returns-5
-    copy-row-requires
-    add-t10
+    copy-found-requires
+    add-t12
     same-length
     same-length-2
     returns-6)
