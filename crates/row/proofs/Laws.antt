@@ -1,10 +1,10 @@
 -- What a loop's turn does to what is left to write.
-use Prim.Native.Nat.{ℕ, suc, _+_, _-_, _≤_, _<_, min}
+use Prim.Native.Nat.{ℕ, zero, suc, _+_, _-_, _≤_, _<_, min}
 use native.Mathlib.Omega.{arith}
 use native.Mathlib.Decide.{decLt}
 use native.Mathlib.Numerals.{add-one}
 use native.Mathlib.Nat.{add-zero, add-suc}
-use mathlib.Core.Bool.{Bool, true, false}
+use mathlib.Core.Bool.{Bool, true, false, _||_}
 use mathlib.Core.Path.{_≡_, refl, sym, ap, _∙_}
 use mathlib.Core.List.{List, [], _∷_, _++_}
 use lib.Dec.{eqb}
@@ -42,6 +42,60 @@ pub any-out : (v : List ℕ) (i : ℕ) → length v ≤ i → false ≡ anySpeci
 unfolding anySpecial
 any-out v i h = rw (drop-of-length-le v h)
 
+or-assoc : (a b c : Bool) → (a || b) || c ≡ a || (b || c)
+or-assoc true b c = refl
+or-assoc false b c = refl
+
+or-none : (a : Bool) → a ≡ a || false
+or-none true = refl
+or-none false = refl
+
+pub some-turn : (v : List ℕ) (i : ℕ) (found : Bool) → i < length v → (found || special (getD v i 0)) || anySpecial (drop (i + 1) v) ≡ found || anySpecial (drop i v)
+unfolding anySpecial
+some-turn v i found h = rw (add-one i, drop-cons v i 0 h) (or-assoc found (special (getD v i 0)) (anySpecial (drop (suc i) v)))
+
+pub some-out : (v : List ℕ) (i : ℕ) (found : Bool) → length v ≤ i → found ≡ found || anySpecial (drop i v)
+unfolding anySpecial
+some-out v i found h = rw (drop-of-length-le v h) (or-none found)
+
+-- the first n bytes, and those behind them
+special-split : (n : ℕ) (v : List ℕ) → anySpecial v ≡ anySpecial (take n v) || anySpecial (drop n v)
+unfolding anySpecial
+special-split zero v = refl
+special-split (suc n) [] = refl
+special-split (suc n) (b ∷ v) = ap (λ (q : Bool). special b || q) (special-split n v) ∙ sym (or-assoc (special b) (anySpecial (take n v)) (anySpecial (drop n v)))
+
+pub chunk-yes : (v : List ℕ) (i n : ℕ) → anySpecial (take n (drop i v)) ≡ true → true ≡ anySpecial (drop i v)
+chunk-yes v i n e = sym (special-split n (drop i v) ∙ simp e)
+
+pub chunk-no : (v : List ℕ) (i : ℕ) → anySpecial (take (i + 16 - i) (drop i v)) ≡ false → anySpecial (drop i v) ≡ anySpecial (drop (i + 16) v)
+chunk-no v i e =
+    let n : i + 16 - i ≡ 16 = omega arith in
+    let s : anySpecial (take 16 (drop i v)) ≡ false = rw n at e in
+    special-split 16 (drop i v) ∙ simp s (rw (drop-drop 16 i v))
+
+pub doubled-split : (n : ℕ) (v : List ℕ) → doubled v ≡ doubled (take n v) ++ doubled (drop n v)
+unfolding doubled
+doubled-split zero v = refl
+doubled-split (suc n) [] = refl
+doubled-split (suc n) (b ∷ v) = go (eqb b 34) (doubled-split n v)
+  where
+    go : (t : Bool) → doubled v ≡ doubled (take n v) ++ doubled (drop n v) → pick t (34 ∷ 34 ∷ doubled v) (b ∷ doubled v) ≡ pick t (34 ∷ 34 ∷ doubled (take n v)) (b ∷ doubled (take n v)) ++ doubled (drop n v)
+    go true e = ap (λ (l : List ℕ). 34 ∷ 34 ∷ l) e
+    go false e = ap (λ (l : List ℕ). b ∷ l) e
+
+-- k bytes from a place on, and those behind them
+pub doubled-part : (v : List ℕ) (i k : ℕ) → doubled (drop i v) ≡ doubled (take (i + k - i) (drop i v)) ++ doubled (drop (i + k) v)
+doubled-part v i k =
+    let n : i + k - i ≡ k = omega arith in
+    rw n (doubled-split k (drop i v) ∙ rw (drop-drop k i v))
+
+pub part-length : (v : List ℕ) (i k : ℕ) → k ≤ length v - i → length (take (i + k - i) (drop i v)) ≡ k
+part-length v i k h = let n : i + k - i ≡ k = omega arith in rw n (omega (arith, length-take k (drop i v), length-drop i v))
+
+pub rest-is : (v : List ℕ) (i : ℕ) → take (length v - i) (drop i v) ≡ drop i v
+rest-is v i = take-all (length v - i) (drop i v) (omega (arith, length-drop i v))
+
 pub doubled-quote : (v : List ℕ) (i : ℕ) → i < length v → getD v i 0 ≡ 34 → doubled (drop i v) ≡ 34 ∷ getD v i 0 ∷ doubled (drop (i + 1) v)
 unfolding doubled
 doubled-quote v i h e = rw (add-one i, drop-cons v i 0 h) (simp (eq-eqb (getD v i 0) 34 e) (rw e))
@@ -53,6 +107,30 @@ doubled-byte v i h e = rw (add-one i, drop-cons v i 0 h) (simp (ne-eqb (getD v i
 pub doubled-out : (v : List ℕ) (i : ℕ) → length v ≤ i → doubled (drop i v) ≡ []
 unfolding doubled
 doubled-out v i h = rw (drop-of-length-le v h)
+
+-- quotes counted in 64 bytes more, and in the rest
+pub count-turn : (v : List ℕ) (i n q : ℕ) → 64 ≤ length v - i → q + length (take (i + 64 - i) (drop i v)) ≡ length (doubled (take (i + 64 - i) (drop i v)))
+    → n + length (doubled (drop i v)) ≡ length (doubled v) + (length v - i) → n + q + length (doubled (drop (i + 64) v)) ≡ length (doubled v) + (length v - (i + 64))
+count-turn v i n q h e f =
+    let d = ap length (doubled-part v i 64) ∙ length-append (doubled (take (i + 64 - i) (drop i v))) (doubled (drop (i + 64) v)) in
+    omega (arith, d, e, f, part-length v i 64 h)
+
+pub count-end : (v : List ℕ) (i n q : ℕ) → i ≤ length v → q + length (take (length v - i) (drop i v)) ≡ length (doubled (take (length v - i) (drop i v)))
+    → n + length (doubled (drop i v)) ≡ length (doubled v) + (length v - i) → n + q ≡ length (doubled v)
+count-end v i n q h e f =
+    let d = ap length (rest-is v i) in
+    let g = ap (λ (l : List ℕ). length (doubled l)) (rest-is v i) in
+    omega (arith, d, e, f, g, length-drop i v)
+
+-- sixteen bytes more are written
+pub part-written : (v out o : List ℕ) (i n r : ℕ) → r ≡ n + length (doubled (take (i + 16 - i) (drop i v))) → o ≡ sets out n (doubled (take (i + 16 - i) (drop i v)))
+    → sets out n (doubled (drop i v)) ≡ sets o r (doubled (drop (i + 16) v))
+part-written v out o i n r e f =
+    let p = doubled (take (i + 16 - i) (drop i v)) in
+    ap (sets out n) (doubled-part v i 16) ∙ sets-append out n p (doubled (drop (i + 16) v)) ∙ rw (e, f)
+
+pub part-size : (v : List ℕ) (i : ℕ) → length (doubled (drop i v)) ≡ length (doubled (take (i + 16 - i) (drop i v))) + length (doubled (drop (i + 16) v))
+part-size v i = ap length (doubled-part v i 16) ∙ length-append (doubled (take (i + 16 - i) (drop i v))) (doubled (drop (i + 16) v))
 
 pub doubled-less : (v : List ℕ) → length v ≤ length (doubled v)
 unfolding doubled

@@ -2,7 +2,7 @@
 ghost use mathlib.Core.Path.{_≡_};
 ghost use Prim.Native.Nat.{_+_, _≤_, _<_, min};
 ghost use lib.Dec.{eqb};
-ghost use lib.ListN.{length};
+ghost use lib.ListN.{length, drop};
 ghost use lib.Seq.{sets};
 ghost use Rattle.number.specs.Number.{pick};
 ghost use Rattle.csv.specs.Write.{special, anySpecial, doubled, fieldOf, rowOf};
@@ -82,11 +82,25 @@ fn is_special(b: u8) -> bool
     (b == 34) | ((b == 44) | ((b == 13) | (b == 10)))
 }
 
-// Whether a value is quoted.
-fn any_special(v: &[u8]) -> bool
+// Whether there is one; all bytes are gone through, so that many are tested at once.
+fn some_special(v: &[u8]) -> bool
     ensures { λ r. ⌜ r ≡ anySpecial (now (v .entry)) ⌝ }
 {
+    let mut found = false;
     let mut i: usize = 0;
+    while i < v.len() {
+        found = found | is_special(v[i]);
+        i += 1;
+    }
+    found
+}
+
+// Whether there is one from a place on.
+fn special_from(v: &[u8], from: usize) -> bool
+    requires { ⌜ from ≤ length (now v) ⌝ }
+    ensures { λ r. ⌜ r ≡ anySpecial (drop from (now (v .entry))) ⌝ }
+{
+    let mut i = from;
     while i < v.len() {
         if is_special(v[i]) {
             return true;
@@ -96,27 +110,56 @@ fn any_special(v: &[u8]) -> bool
     false
 }
 
-// How many bytes a value has with its quotes doubled.
-fn doubled_size(v: &[u8]) -> usize
-    requires { ⌜ length (now v) ≤ 8192 ⌝ }
-    ensures { λ r. ⌜ r ≡ length (doubled (now (v .entry))) ⌝ }
+// Whether a value is quoted.
+fn any_special(v: &[u8]) -> bool
+    ensures { λ r. ⌜ r ≡ anySpecial (now (v .entry)) ⌝ }
 {
-    let mut n: usize = 0;
+    let mut i: usize = 0;
+    while 16 <= v.len() - i {
+        let end = i + 16;
+        if some_special(&v[i..end]) {
+            return true;
+        }
+        i = end;
+    }
+    special_from(v, i)
+}
+
+// How many quotes there are among a few bytes: what they grow by when these are doubled.
+fn quotes(v: &[u8]) -> u8
+    requires { ⌜ length (now v) ≤ 64 ⌝ }
+    ensures { λ r. ⌜ r + length (now (v .entry)) ≡ length (doubled (now (v .entry))) ⌝ }
+{
+    let mut n: u8 = 0;
     let mut i: usize = 0;
     while i < v.len() {
         if v[i] == 34 {
             n += 1;
         }
-        n += 1;
         i += 1;
     }
     n
 }
 
-// A value with its quotes doubled, into out from a place on.
-fn put_doubled(v: &[u8], out: &mut [u8], to: usize)
+// How many bytes a value has with its quotes doubled.
+fn doubled_size(v: &[u8]) -> usize
+    requires { ⌜ length (now v) ≤ 8192 ⌝ }
+    ensures { λ r. ⌜ r ≡ length (doubled (now (v .entry))) ⌝ }
+{
+    let mut n = v.len();
+    let mut i: usize = 0;
+    while 64 <= v.len() - i {
+        let end = i + 64;
+        n += quotes(&v[i..end]) as usize;
+        i = end;
+    }
+    n + quotes(&v[i..v.len()]) as usize
+}
+
+// Some bytes with their quotes doubled, into out from a place on, and where they end.
+fn put_each(v: &[u8], out: &mut [u8], to: usize) -> usize
     requires { ⌜ to + length (doubled (now v)) ≤ length (now out) ⌝ }
-    ensures { λ _. ⌜ now (out .exit) ≡ sets (now (out .entry)) to (doubled (now (v .entry))) ⌝ }
+    ensures { λ r. ⌜ (r ≡ to + length (doubled (now (v .entry)))) × (now (out .exit) ≡ sets (now (out .entry)) to (doubled (now (v .entry)))) ⌝ }
 {
     let mut n = to;
     let mut i: usize = 0;
@@ -130,6 +173,34 @@ fn put_doubled(v: &[u8], out: &mut [u8], to: usize)
         n += 1;
         i += 1;
     }
+    n
+}
+
+// The same for a few bytes, copied where there is no quote among them.
+fn put_few(v: &[u8], out: &mut [u8], to: usize) -> usize
+    requires { ⌜ (length (now v) ≤ 64) × (to + length (doubled (now v)) ≤ length (now out)) ⌝ }
+    ensures { λ r. ⌜ (r ≡ to + length (doubled (now (v .entry)))) × (now (out .exit) ≡ sets (now (out .entry)) to (doubled (now (v .entry)))) ⌝ }
+{
+    if quotes(v) == 0 {
+        copy(v, out, to);
+        return to + v.len();
+    }
+    put_each(v, out, to)
+}
+
+// A value with its quotes doubled, into out from a place on.
+fn put_doubled(v: &[u8], out: &mut [u8], to: usize)
+    requires { ⌜ to + length (doubled (now v)) ≤ length (now out) ⌝ }
+    ensures { λ _. ⌜ now (out .exit) ≡ sets (now (out .entry)) to (doubled (now (v .entry))) ⌝ }
+{
+    let mut n = to;
+    let mut i: usize = 0;
+    while 16 <= v.len() - i {
+        let end = i + 16;
+        n = put_few(&v[i..end], out, n);
+        i = end;
+    }
+    put_each(&v[i..v.len()], out, n);
 }
 
 // The same, with how many bytes it takes: a value without quotes is copied as it is.

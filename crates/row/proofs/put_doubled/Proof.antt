@@ -1,11 +1,11 @@
 use mathlib.Core.Path.{_≡_, refl, sym, ap, _∙_}
-use mathlib.Core.Logic.{⊎-elim}
-use Prim.Native.Nat.{_≤_, _-_, _+_}
+use mathlib.Core.List.{List}
+use Prim.Native.Nat.{ℕ, _≤_, _-_, _+_}
 use native.Mathlib.Omega.{arith}
-use lib.ListN.{length, drop, getD, length-set}
-use lib.Seq.{sets}
+use lib.ListN.{length, take, drop}
+use lib.Seq.{sets, length-sets}
 use Rattle.csv.specs.Write.{doubled}
-use Rattle.row.proofs.Laws.{doubled-quote, doubled-byte, doubled-out, sets-one, sets-two, twice-set}
+use Rattle.row.proofs.Laws.{part-length, part-size, part-written, rest-is}
 use borrow.Author.Needs.{needs}
 use Rattle.row.proofs.put_doubled.Statement.{statement}
 use Rattle.row.proofs.put_doubled.Tie as tie
@@ -17,86 +17,70 @@ abbrev μ-loop : tie.MeasureT-loop
 μ-loop v out₀ to n₀ i₀ out n i = length v - i
 
 loop-holds : tie.Need-loop-holds Inv-loop μ-loop
-loop-holds c = (omega arith, refl, omega arith, refl)
+loop-holds c = (omega arith, refl, refl, refl)
 
-shared-slice-read-b : tie.Need-shared-slice-read-b Inv-loop μ-loop
-shared-slice-read-b c = search needs
+sub-loop : tie.Need-sub-loop Inv-loop μ-loop
+sub-loop c = search needs
 
-slice-write-out : tie.Need-slice-write-out Inv-loop μ-loop
-slice-write-out c =
-    let a = c .before .before .before .before .args in
-    let p = c .before .before .before .before .pre in
+add-end : tie.Need-add-end Inv-loop μ-loop
+add-end c = search needs
+
+sub-put-few : tie.Need-sub-put-few Inv-loop μ-loop
+sub-put-few c = search needs
+
+part-put-few-start : tie.Need-part-put-few-start Inv-loop μ-loop
+part-put-few-start c = search needs
+
+part-put-few-end : tie.Need-part-put-few-end Inv-loop μ-loop
+part-put-few-end c = search needs
+
+put-few-requires : tie.Need-put-few-requires Inv-loop μ-loop
+put-few-requires c κs =
     let l = c .before .before .before .loop in
-    let v = a .v .now in
-    omega (arith, p, l .inv .1, l .inv .2, ap length (doubled-quote v (l .i) (omega arith) (c .if1 .taken)))
-
-add-n : tie.Need-add-n Inv-loop μ-loop
-add-n c =
-    let a = c .before .before .before .before .args in
-    let p = c .before .before .before .before .pre in
-    let l = c .before .before .before .loop in
-    let v = a .v .now in
-    omega (arith, p, l .inv .1, l .inv .2, ap length (doubled-quote v (l .i) (omega arith) (c .if1 .taken)))
-
-slice-write-out-2 : tie.Need-slice-write-out-2 Inv-loop μ-loop
-slice-write-out-2 c =
-    let a = c .before .before .before .before .args in
-    let p = c .before .before .before .before .pre in
-    let l = c .before .before .before .loop in
-    let v = a .v .now in
-    ⊎-elim
-    (λ w.
-    let q = doubled-quote v (l .i) (omega arith) (w .0 .taken) in
-    omega (arith, p, l .inv .1, l .inv .2, ap length q, ap length (w .1), length-set (l .out) (l .n) 34, w .2))
-    (λ w.
-    let q = doubled-byte v (l .i) (omega arith) (w .0 .left) in
-    omega (arith, p, l .inv .1, l .inv .2, ap length q, ap length (w .1), w .2))
-    (c .if1 .came)
-
-add-n-2 : tie.Need-add-n-2 Inv-loop μ-loop
-add-n-2 c =
-    let a = c .before .before .before .before .before .args in
-    let p = c .before .before .before .before .before .pre in
-    let l = c .before .before .before .before .loop in
-    let v = a .v .now in
-    ⊎-elim
-    (λ w.
-    let q = doubled-quote v (l .i) (omega arith) (w .0 .taken) in
-    omega (arith, p, l .inv .1, l .inv .2, ap length q, ap length (w .1), length-set (l .out) (l .n) 34, w .2))
-    (λ w.
-    let q = doubled-byte v (l .i) (omega arith) (w .0 .left) in
-    omega (arith, p, l .inv .1, l .inv .2, ap length q, ap length (w .1), w .2))
-    (c .before .if1 .came)
-
-add-i : tie.Need-add-i Inv-loop μ-loop
-add-i c = search needs
+    let s = c .before .before .before .before .before .before in
+    let v = s .args .v .now in
+    (omega (arith, part-length v (l .i) 16 (search needs)), omega (arith, s .pre, l .inv .1, l .inv .2, part-size v (l .i)))
 
 loop-less : tie.Need-loop-less Inv-loop μ-loop
-loop-less c = search needs
+loop-less c = omega arith
 
 loop-again : tie.Need-loop-again Inv-loop μ-loop
 loop-again c =
-    let a = c .before .before .before .before .before .args in
-    let p = c .before .before .before .before .before .pre in
-    let l = c .before .before .before .before .loop in
-    let v = a .v .now in
-    ⊎-elim
-    (λ w.
-    let q = doubled-quote v (l .i) (omega arith) (w .0 .taken) in
-    rw (w .1, w .2) (omega arith, twice-set (l .out) (l .n) 34 (l .n + 1) (getD v (l .i) 0) _ (l .inv .1), omega (arith, l .inv .2, ap length q), l .inv .3 ∙ sets-two (l .out) (l .n) 34 (getD v (l .i) 0) (doubled (drop (l .i) v)) _ q))
-    (λ w.
-    let q = doubled-byte v (l .i) (omega arith) (w .0 .left) in
-    rw (w .1, w .2) (omega arith, length-set (l .out) (l .n) (getD v (l .i) 0) ∙ l .inv .1, omega (arith, l .inv .2, ap length q), l .inv .3 ∙ sets-one (l .out) (l .n) (getD v (l .i) 0) (doubled (drop (l .i) v)) _ q))
-    (c .before .if1 .came)
+    let l = c .before .before .before .before .before .before .loop in
+    let v = c .before .before .before .before .before .before .before .before .before .args .v .now in
+    let e = c .before .before .put-few .ensures in
+    let p = doubled (take (l .i + 16 - l .i) (drop (l .i) v)) in
+    (omega arith, ap length (e .1) ∙ length-sets (l .out) (l .n) p ∙ l .inv .1, omega (arith, e .0, l .inv .2, part-size v (l .i)), l .inv .3 ∙ part-written v (l .out) _ (l .i) (l .n) _ (e .0) (e .1))
+
+sub-put-each : tie.Need-sub-put-each Inv-loop μ-loop
+sub-put-each c = search needs
+
+part-put-each-start : tie.Need-part-put-each-start Inv-loop μ-loop
+part-put-each-start c = search needs
+
+part-put-each-end : tie.Need-part-put-each-end Inv-loop μ-loop
+part-put-each-end c = search needs
+
+put-each-requires : tie.Need-put-each-requires Inv-loop μ-loop
+put-each-requires c κs =
+    let l = c .before .before .before .loop in
+    let s = c .before .before .before .before .before .before in
+    let v = s .args .v .now in
+    omega (arith, s .pre, l .inv .1, l .inv .2, ap (λ (x : List ℕ). length (doubled x)) (rest-is v (l .i)))
 
 same-length : tie.Need-same-length Inv-loop μ-loop
-same-length c = c .before .loop .inv .1
+same-length c =
+    let l = c .before .before .before .before .before .before .loop in
+    let v = c .before .before .before .before .before .before .before .before .before .args .v .now in
+    let e = c .before .before .put-each .ensures in
+    ap length (e .1) ∙ length-sets (l .out) (l .n) (doubled (take (length v - l .i) (drop (l .i) v))) ∙ l .inv .1
 
 returns : tie.Need-returns Inv-loop μ-loop
 returns c =
-    let l = c .before .loop in
-    let q = doubled-out (c .before .before .args .v .now) (l .i) (search needs) in
-    sym (l .inv .3 ∙ rw q)
+    let l = c .before .before .before .before .before .before .loop in
+    let v = c .before .before .before .before .before .before .before .before .before .args .v .now in
+    let e = c .before .before .put-each .ensures in
+    e .1 ∙ ap (λ (x : List ℕ). sets (l .out) (l .n) (doubled x)) (rest-is v (l .i)) ∙ sym (l .inv .3)
 
 pub put-doubled-spec : {M : Type 1} → statement M
 put-doubled-spec =
@@ -105,13 +89,17 @@ put-doubled-spec =
     Inv-loop
     μ-loop
     loop-holds
-    shared-slice-read-b
-    slice-write-out
-    add-n
-    slice-write-out-2
-    add-n-2
-    add-i
+    sub-loop
+    add-end
+    sub-put-few
+    part-put-few-start
+    part-put-few-end
+    put-few-requires
     loop-less
     loop-again
+    sub-put-each
+    part-put-each-start
+    part-put-each-end
+    put-each-requires
     same-length
     returns)
