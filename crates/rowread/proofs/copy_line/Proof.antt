@@ -1,11 +1,11 @@
 use mathlib.Core.Path.{_≡_, refl, sym, ap, _∙_}
 use mathlib.Core.Logic.{⊎-elim}
-use Prim.Native.Nat.{_≤_, _<_, _-_, _+_}
+use Prim.Native.Nat.{_≤_, _-_, _+_}
 use native.Mathlib.Omega.{arith}
 use lib.ListN.{length, drop, getD, length-set}
 use lib.Seq.{sets}
 use Rattle.rowread.specs.Steps.{commasIn, textIn, marksIn}
-use Rattle.rowread.proofs.Lines.{comma-yes, comma-no, comma-out, text-yes, text-no, text-out, marks-yes, marks-no, marks-out}
+use Rattle.rowread.proofs.Lines.{comma-yes, comma-no, text-yes, text-no, text-out, marks-yes, marks-no, marks-out}
 use Rattle.rowread.proofs.Copies.{sets-turn, sets-done}
 use borrow.Author.Needs.{needs}
 use Rattle.rowread.proofs.copy_line.Statement.{statement}
