@@ -81,13 +81,27 @@ fn is_record(a: &[u8], s: Source) -> bool {
     is(a, 0, 0) & is_word(a, 1, out, 384)
 }
 
+// The record at an index among all sources of a bank.
+fn among(region: &[u8], number: u32, i: u32) -> Source {
+    let x = loaded::sources(region, number);
+    let all = x.sources;
+    match i {
+        0 => all[0],
+        1 => all[1],
+        _ => all[2],
+    }
+}
+
+// A source's record, asked for by itself and with all the others.
 pub fn source(l: &[u8], region: &[u8]) -> bool {
     let a = rest(l, 3);
-    let x = loaded::source(region, number32(l, word(l, 1)), number32(l, word(l, 2)));
+    let n = number32(l, word(l, 1));
+    let i = number32(l, word(l, 2));
+    let x = loaded::source(region, n, i);
     let s = x.source;
     let outcome = x.outcome;
     match outcome {
-        Outcome::Done => is_record(a, s),
+        Outcome::Done => is_record(a, s) & is_record(a, among(region, n, i)),
         Outcome::Refused(r) => is_refusal(a, r),
     }
 }
