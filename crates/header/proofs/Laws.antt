@@ -1,6 +1,6 @@
 -- Laws about a header's tests.
 use mathlib.Core.Path.{_≡_, refl, ap, _∙_, sym}
-use mathlib.Core.Bool.{Bool, true, false, _&&_, false≢true}
+use mathlib.Core.Bool.{Bool, true, false, _&&_, false≢true, and-true, and-assoc}
 use mathlib.Core.List.{List, [], _∷_, _++_}
 use Prim.Native.Nat.{ℕ, suc, _+_, _*_, _-_, _<_, _≤_}
 use native.Mathlib.Omega.{arith}
@@ -34,14 +34,6 @@ unknown-bits (pos n) f = ne-eqb n 9223372036854775808 (λ e. omega (arith, f .sf
 unknown-bits (negsuc n) f = lowest-by n (eqb n 9223372036854775807) refl
 
 -- a test of each, one by one
-
-and-true : (a : Bool) → (a && true) ≡ a
-and-true true = refl
-and-true false = refl
-
-and-assoc : (a b c : Bool) → ((a && b) && c) ≡ (a && (b && c))
-and-assoc true b c = refl
-and-assoc false b c = refl
 
 each-last : {A : Type 0} (p : A → Bool) (xs : List A) (x : A) → each p (xs ++ (x ∷ [])) ≡ (each p xs && p x)
 unfolding each

@@ -1,6 +1,6 @@
 -- A walk through the sources comes to what the used ones say.
 use mathlib.Core.Path.{_≡_, refl, ap, _∙_, sym}
-use mathlib.Core.Bool.{Bool, true, false, _&&_}
+use mathlib.Core.Bool.{Bool, true, false, _&&_, and-true, and-assoc}
 use mathlib.Core.List.{List, [], _∷_}
 use Prim.Native.Nat.{ℕ, suc, _+_, _-_, _<_, _≤_}
 use native.Mathlib.Omega.{arith}
@@ -18,14 +18,6 @@ use Rattle.loaded.specs.Steps.{leftOf, observed, updatedOf, see, seen, n
 ended : ℤ → SourceTimes → List Source → ℤ
 ended now t [] = updatedOf t
 ended now t (s ∷ ss) = ended now (observed now t s) ss
-
-and-assoc : (a b c : Bool) → ((a && b) && c) ≡ (a && (b && c))
-and-assoc true b c = refl
-and-assoc false b c = refl
-
-and-true : (a : Bool) → (a && true) ≡ a
-and-true true = refl
-and-true false = refl
 
 ended-some : (now : ℤ) (c : Bool) (o : ℤ) (ss : List Source) → ended now (record { some = true; complete = c; oldest = o }) ss ≡ pick (c && each (known now) ss) (oldest o ss) unknown
 unfolding ended each oldest

@@ -1,11 +1,12 @@
-//! Banks: validate, load, sources, freshness, key match, checking in turns.
+//! Banks: validate, load, sources, stored rows, freshness, key match, checking in
+//! turns.
 use crate::{
     Plan, Tally,
     keys::{self, Selection},
 };
 use bankcore::{
     answers::{BankAnswer, FreshAnswer, SameKeyAnswer, TurnAnswer},
-    banks,
+    banks, rows,
 };
 use common::{
     Random,
@@ -257,6 +258,74 @@ fn ask_sources(tally: &mut Tally, expected: &Expected, round: usize, random: &mu
     }
 }
 
+/// Stored rows: the bytes of the block that the lifted `Source` has, read as a
+/// table by the core's own reader, which the part stored-rows is about.
+fn ask_rows(
+    tally: &mut Tally,
+    expected: &Expected,
+    round: usize,
+    random: &mut Random,
+) -> [usize; 3] {
+    let mut seen = [0; 3];
+    for bank in 0..2 {
+        let count = expected.header[bank].map_or(0, |b| BankFields::from(b).count);
+        for _ in 0..6 {
+            let source = random.below(count as usize + 2) as u32;
+            let table = random.pick(&[0, 1, 4, 6, 6, 6, 7, 8, u32::MAX]);
+            let (room, slots) = (random.pick(&[0, 1, 3, 60, 8192]), random.pick(&[0, 1, 2, 8, 12]));
+            let (before, marks) = (vec![round as u8; room], vec![round; slots]);
+            let (mut out, mut ends) = (before.clone(), marks.clone());
+            let (mut after, mut places) = (before, marks);
+            let mut place = if random.once_in(9) { random.pick(&[1, 40, usize::MAX]) } else { 0 };
+            let stored: Result<&[u8], u32> = match expected.header[bank] {
+                _ if table > 7 => Err(2),
+                Err(number) => Err(number),
+                Ok(_) if source >= count => Err(6),
+                Ok(found) => {
+                    let record = written(expected.region, found, source);
+                    let at = 84 + table as usize * 12;
+                    let (offset, length) = (get(&record, at), get(&record, at + 4));
+                    let data = &expected.region[bank * BANK + SECTOR..][..CAPACITY];
+                    let from = if length == 0 { 0 } else { offset as usize };
+                    Ok(&data[from..][..length as usize])
+                }
+            };
+            loop {
+                let args = (bank as u32, source, table, place);
+                let core = banks::bank_row(
+                    expected.region,
+                    args.0,
+                    args.1,
+                    args.2,
+                    args.3,
+                    &mut out,
+                    &mut ends,
+                );
+                let core = (core.refusal, core.found, core.next, core.size);
+                let rust = match stored {
+                    Err(number) => (number, 0, 0, 0),
+                    Ok(bytes) => {
+                        let width = rows::column_count(table);
+                        let a = rows::read_row(bytes, width, place, &mut after, &mut places);
+                        (a.refusal, a.found, a.next, a.size)
+                    }
+                };
+                let what = || format!("row {args:?} into {room} bytes and {slots} ends");
+                tally.same(core, rust, || expected.describe(round, bank, what()));
+                tally.same((&out, &ends), (&after, &places), || {
+                    expected.describe(round, bank, what())
+                });
+                seen[if core.0 != 0 { 2 } else { 1 - core.1 as usize }] += 1;
+                if core.1 == 0 {
+                    break;
+                }
+                place = core.2;
+            }
+        }
+    }
+    seen
+}
+
 fn ask_fresh(tally: &mut Tally, expected: &Expected, round: usize, random: &mut Random) {
     let bank = random.below(2);
     let mut dates = DAYS.to_vec();
@@ -476,10 +545,14 @@ fn fill(random: &mut Random, pool: &[u8], region: &mut [u8], bank: usize) -> Sel
 
 pub fn banks(plan: &Plan, tally: &mut Tally) {
     let mut random = Random::new(plan.seed);
-    let pool = random.bytes(CAPACITY);
+    // every other stretch is of bytes that make rows
+    let pool: Vec<u8> = (random.bytes(CAPACITY).into_iter().enumerate())
+        .map(|(i, b)| if i / 900 % 2 == 0 { b } else { b"a,b\n1,\"\"\n,"[b as usize % 10] })
+        .collect();
     let mut region = vec![255; REGION];
     let mut selections: [Selection; 2] = Default::default();
     let mut seen = [0_usize; 8];
+    let mut stored = [0_usize; 3];
     let rounds = if plan.quick { 1_000 } else { 50_000 };
     for round in 0..rounds {
         for (bank, selection) in selections.iter_mut().enumerate() {
@@ -496,10 +569,13 @@ pub fn banks(plan: &Plan, tally: &mut Tally) {
         ask_fresh(tally, &expected, round, &mut random);
         ask_keys(tally, &expected, round, &mut random, &selections);
         ask_turns(tally, &expected, round, &mut random);
+        let read = ask_rows(tally, &expected, round, &mut random);
+        stored.iter_mut().zip(read).for_each(|(sum, n)| *sum += n);
     }
     tally.note = format!(
-        "{rounds} regions (banks: {} good, {} by 3, {} by 4, {} by 5, {} by 6, {} by 7)",
-        seen[0], seen[3], seen[4], seen[5], seen[6], seen[7]
+        "{rounds} regions (banks: {} good, {} by 3, {} by 4, {} by 5, {} by 6, {} by 7; \
+         stored rows: {} read, {} ends of a table, {} refused)",
+        seen[0], seen[3], seen[4], seen[5], seen[6], seen[7], stored[0], stored[1], stored[2]
     );
 }
 

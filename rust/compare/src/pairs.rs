@@ -3,7 +3,9 @@
 //! stays as it was.
 use crate::{Plan, Tally, keys::Selection};
 use bankcore::{
-    answers::{BankAnswer, FreshAnswer, KeyAnswer, SameKeyAnswer, TurnAnswer, UNKNOWN},
+    answers::{
+        BankAnswer, BankRowAnswer, FreshAnswer, KeyAnswer, SameKeyAnswer, TurnAnswer, UNKNOWN,
+    },
     banks,
 };
 use common::{
@@ -16,6 +18,8 @@ use common::{
 enum Cause {
     Region,
     Bank,
+    /// A table above 7.
+    Table,
     Day,
     Picks,
     Size,
@@ -32,14 +36,21 @@ enum Cause {
     StateLate,
     Data,
     Identity,
+    /// A place past the table's end.
+    Row,
     Small,
 }
 use Cause::*;
 
+/// A stored row of two values, and the table that it stands in.
+const STORED: &[u8] = b"a,b\n";
+const FEED_INFO: usize = 6;
+
 /// In the order of the tests, so the first of a set is the one answered.
-const ORDER: [(Cause, u32); 16] = [
+const ORDER: [(Cause, u32); 18] = [
     (Region, 1),
     (Bank, 2),
+    (Table, 2),
     (Day, 2),
     (Picks, 2),
     (Size, 2),
@@ -53,14 +64,16 @@ const ORDER: [(Cause, u32); 16] = [
     (StateLate, 11),
     (Data, 7),
     (Identity, 8),
+    (Row, 14),
     (Small, 9),
 ];
 
-const CALLS: [(&str, &[Cause]); 9] = [
+const CALLS: [(&str, &[Cause]); 10] = [
     ("validate", &[Region, Bank, Mark, Seal, Span, Source, Data]),
     ("header", &[Region, Bank, Mark, Seal, Span, Source]),
     ("load", &[Region]),
     ("source", &[Region, Bank, Mark, Seal, Span, Source, Index, Small]),
+    ("bank_row", &[Region, Bank, Table, Mark, Seal, Span, Source, Index, Row, Small]),
     ("fresh", &[Region, Bank, Day, Mark, Seal, Span, Source]),
     ("key", &[Picks, Size, Identity, Small]),
     ("same_key", &[Region, Bank, Picks, Size, Mark, Seal, Span, Source, Identity]),
@@ -71,7 +84,7 @@ const CALLS: [(&str, &[Cause]); 9] = [
 /// Whether two causes can't be true at once: a bank that isn't there has no
 /// header, and a state has one position.
 fn apart(a: Cause, b: Cause) -> bool {
-    let of_bank = [Mark, Seal, Span, Source, Index, StateLate, Data];
+    let of_bank = [Mark, Seal, Span, Source, Index, Row, StateLate, Data];
     let position = [StateFar, StateLate, Data];
     let one_way = |a: Cause, b: Cause| {
         matches!(a, Bank | StateBank) && of_bank.contains(&b)
@@ -138,10 +151,12 @@ impl<'a> Case<'a> {
         if has(Data) {
             made.crc = Some(random.u32());
         }
+        made.records[0].tables[FEED_INFO] = [400, STORED.len() as u32, 0];
         let mut bytes = vec![255; REGION + 1];
         for bank in 0..2 {
             let key = Selection::of(b"iii", &[]).key().unwrap();
             bytes[bank * made::BANK + SECTOR..][..key.len()].copy_from_slice(&key);
+            bytes[bank * made::BANK + SECTOR + 400..][..STORED.len()].copy_from_slice(STORED);
             made.write(&mut bytes, bank);
         }
         Self { set, way, bytes, made, selection: selection(set, way), refusal: number(set) }
@@ -176,6 +191,24 @@ impl<'a> Case<'a> {
                 let mut out = vec![77; if self.has(Small) { [383, 0, 1][self.way] } else { 384 }];
                 let refusal = banks::source(region, bank, index, &mut out);
                 plain(refusal, out.iter().all(|b| *b == 77))
+            }
+            "bank_row" => {
+                let index = if self.has(Index) { [4, 10, u32::MAX][self.way] } else { 0 };
+                let table = FEED_INFO as u32 + if self.has(Table) { 2 } else { 0 };
+                let place = if self.has(Row) { STORED.len() + 1 + self.way } else { 0 };
+                let (room, slots) = match self.way {
+                    _ if !self.has(Small) => (2, 2),
+                    0 => (1, 2),
+                    1 => (2, 1),
+                    _ => (0, 0),
+                };
+                let (mut out, mut ends) = (vec![77; room], vec![77; slots]);
+                let answer =
+                    banks::bank_row(region, bank, index, table, place, &mut out, &mut ends);
+                let refusal = answer.refusal;
+                let nothing = BankRowAnswer { refusal, found: 0, next: 0, size: 0 };
+                let lent = out.iter().all(|b| *b == 77) && ends.iter().all(|e| *e == 77);
+                plain(refusal, answer == nothing && lent)
             }
             "fresh" => {
                 let mut days = [20260101, 20260102, 20260103];
