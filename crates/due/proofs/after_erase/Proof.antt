@@ -1,0 +1,18 @@
+use mathlib.Core.Path.{ap}
+use Rattle.writer.specs.declared.Operation.{Operation}
+use Rattle.writer.specs.declared.Stage.the-variants.{Due}
+use Rattle.due.specs.Due.{withStage}
+use borrow.Author.Needs.{needs}
+use Rattle.due.proofs.after_erase.Statement.{statement}
+use Rattle.due.proofs.after_erase.Tie as tie
+
+next-due-requires : tie.Need-next-due-requires
+next-due-requires c κs = search needs
+
+returns : tie.Need-returns
+returns c =
+    let n = c .before .before .before .before .before in
+    ap (λ (o : Operation). withStage (n .before .args .w) (Due o)) (n .next-due .ensures)
+
+pub after-erase-spec : {M : Type 1} → statement M
+after-erase-spec = tie.close (tie.spec next-due-requires returns)

@@ -1,0 +1,26 @@
+use mathlib.Core.Path.{ap, _∙_}
+use mathlib.Core.Bool.{Bool, _||_}
+use Rattle.writer.specs.State.{did}
+use Rattle.due.specs.Due.{withEmptied}
+use Rattle.due.proofs.Laws.{compared}
+use borrow.Author.Needs.{needs}
+use Rattle.due.proofs.do_compare.Statement.{statement}
+use Rattle.due.proofs.do_compare.Tie as tie
+
+differs-requires : tie.Need-differs-requires
+differs-requires c κs = search needs
+
+with-emptied-requires : tie.Need-with-emptied-requires
+with-emptied-requires c κs = search needs
+
+did-requires : tie.Need-did-requires
+did-requires c κs = search needs
+
+returns : tie.Need-returns
+returns c =
+    let d = c .before .before .before in
+    let a = d .before .before .before .before .before .args in
+    c .did .ensures ∙ ap did (c .before .with-emptied .ensures ∙ ap (λ (t : Bool). withEmptied (a .w) (a .w .taken .different || t)) (d .differs .ensures) ∙ compared (a .region .now) (a .w) (a .offset) (a .n))
+
+pub do-compare-spec : {M : Type 1} → statement M
+do-compare-spec = tie.close (tie.spec differs-requires with-emptied-requires did-requires returns)

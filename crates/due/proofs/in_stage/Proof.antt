@@ -1,0 +1,91 @@
+use mathlib.Core.Path.{sym, ap, _∙_}
+use Rattle.flash.specs.Flash.{performed}
+use Rattle.writer.specs.declared.Stage.{Stage}
+use Rattle.writer.specs.State.{target}
+use Rattle.due.specs.Due.{opsOf, stepOf}
+use borrow.Author.Needs.{needs}
+use Rattle.due.proofs.in_stage.Statement.{statement}
+use Rattle.due.proofs.in_stage.Tie as tie
+
+enum-known-s : tie.Need-enum-known-s
+enum-known-s c = search needs
+
+operate-requires : tie.Need-operate-requires
+operate-requires c κs =
+    let s = c .before .before .before .before .before in
+    (s .pre .0, s .pre .1, c .before .before .s .given .1)
+
+enum-told : tie.Need-enum-told
+enum-told c = search needs
+
+none-due-requires : tie.Need-none-due-requires
+none-due-requires c κs = search needs
+
+enum-told-2 : tie.Need-enum-told-2
+enum-told-2 c = search needs
+
+none-due-requires-2 : tie.Need-none-due-requires-2
+none-due-requires-2 c κs = search needs
+
+enum-told-3 : tie.Need-enum-told-3
+enum-told-3 c = search needs
+
+none-due-requires-3 : tie.Need-none-due-requires-3
+none-due-requires-3 c κs = search needs
+
+same-length : tie.Need-same-length
+same-length c = search needs
+
+returns : tie.Need-returns
+returns c =
+    let o = c .before .before .before .before .before in
+    let a = o .before .before .before .args in
+    let h = o .s .given .1 in (
+      c .before .before .operate .ensures .0 ∙ sym (ap (stepOf (a .region .now) (a .w)) h),
+      c .before .before .operate .ensures .1 ∙ sym (ap (λ (x : Stage). performed (target (a .w .beginning .active)) (opsOf (a .w .tail) x) (a .region .now)) h),
+    )
+
+returns-2 : tie.Need-returns-2
+unfolding performed
+returns-2 c =
+    let a = c .before .before .before .before .args in
+    let h = c .before .enum-told .given .1 in (
+      c .none-due .ensures ∙ sym (ap (stepOf (a .region .now) (a .w)) h),
+      sym (ap (λ (x : Stage). performed (target (a .w .beginning .active)) (opsOf (a .w .tail) x) (a .region .now)) h),
+    )
+
+returns-3 : tie.Need-returns-3
+unfolding performed
+returns-3 c =
+    let a = c .before .before .before .before .args in
+    let h = c .before .enum-told2 .given .1 in (
+      c .none-due2 .ensures ∙ sym (ap (stepOf (a .region .now) (a .w)) h),
+      sym (ap (λ (x : Stage). performed (target (a .w .beginning .active)) (opsOf (a .w .tail) x) (a .region .now)) h),
+    )
+
+returns-4 : tie.Need-returns-4
+unfolding performed
+returns-4 c =
+    let a = c .before .before .before .before .args in
+    let h = c .before .enum-told3 .given .1 in (
+      c .none-due3 .ensures ∙ sym (ap (stepOf (a .region .now) (a .w)) h),
+      sym (ap (λ (x : Stage). performed (target (a .w .beginning .active)) (opsOf (a .w .tail) x) (a .region .now)) h),
+    )
+
+pub in-stage-spec : {M : Type 1} → statement M
+in-stage-spec =
+    tie.close
+    (tie.spec
+    enum-known-s
+    operate-requires
+    enum-told
+    none-due-requires
+    enum-told-2
+    none-due-requires-2
+    enum-told-3
+    none-due-requires-3
+    same-length
+    returns
+    returns-2
+    returns-3
+    returns-4)

@@ -1,0 +1,59 @@
+use mathlib.Core.Path.{_≡_, ap, _∙_}
+use mathlib.Core.List.{List}
+use Prim.Native.Nat.{ℕ, _+_, _-_}
+use native.Mathlib.Nat.{sub-zero}
+use lib.ListN.{length, take}
+use Rattle.flash.specs.Flash.{writtenIn}
+use Rattle.due.proofs.Laws.{padded-is}
+use borrow.Author.Needs.{needs}
+use Rattle.due.proofs.write_tail.Statement.{statement}
+use Rattle.due.proofs.write_tail.Tie as tie
+
+filled-requires : tie.Need-filled-requires
+filled-requires c κs = search needs
+
+padded-length-requires : tie.Need-padded-length-requires
+padded-length-requires c κs = search needs
+
+sub-bytes : tie.Need-sub-bytes
+sub-bytes c = search needs
+
+part-bytes-start : tie.Need-part-bytes-start
+part-bytes-start c = search needs
+
+part-bytes-end : tie.Need-part-bytes-end
+part-bytes-end c = search needs
+
+add-write : tie.Need-add-write
+add-write c = search needs
+
+write-requires : tie.Need-write-requires
+write-requires c κs = search needs
+
+same-length : tie.Need-same-length
+same-length c = search needs
+
+returns : tie.Need-returns
+returns c =
+    let w = c .before .before in
+    let p = w .before .before .before .before in
+    let f = p .before in
+    let s = f .before .before in
+    let a = s .args in
+    let m = p .padded-length .result in
+    let k : length (a .tail) ≡ 256 = search needs in
+    w .write .ensures ∙ ap (λ (xs : List ℕ). writtenIn (a .region .now) (a .bank) (4096 + a .a) xs) (ap (take (m - 0)) (f .filled .ensures) ∙ rw sub-zero (padded-is (a .tail) (a .n) m k (s .pre) (p .padded-length .ensures .0) (p .padded-length .ensures .1)))
+
+pub write-tail-spec : {M : Type 1} → statement M
+write-tail-spec =
+    tie.close
+    (tie.spec
+    filled-requires
+    padded-length-requires
+    sub-bytes
+    part-bytes-start
+    part-bytes-end
+    add-write
+    write-requires
+    same-length
+    returns)
