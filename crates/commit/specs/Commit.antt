@@ -1,5 +1,5 @@
 -- Commit: two writes, one a call: the whole header with 255 in the commit word, then the word.
-use mathlib.Core.Bool.{Bool, true, false, not, _&&_, _||_}
+use mathlib.Core.Bool.{Bool, true, false, not, _&&_}
 use mathlib.Core.List.{List, [], _∷_}
 use Prim.Native.Nat.{ℕ}
 use lib.Dec.{eqb}
@@ -7,7 +7,6 @@ use lib.IntN.{ℤ}
 use lib.ListN.{length, take, getD}
 use lib.Signed.{leZ}
 use Rattle.number.specs.Number.{pick}
-use Rattle.refusal.specs.declared.Refusal.{Refusal}
 use Rattle.refusal.specs.declared.Refusal.the-variants.{Region, Turn, Obsolete, Unfit}
 use Rattle.record.specs.declared.Source.{Source}
 use Rattle.record.specs.Record.{noBlock}

@@ -14,7 +14,6 @@ use Rattle.header.specs.Header.{recordsOf}
 use Rattle.bank.specs.declared.Loaded.{Loaded}
 use Rattle.bank.specs.declared.Loaded.the-variants.{Found, Nothing, Refused as NotRead}
 use Rattle.writer.specs.declared.Writer.{Writer}
-use Rattle.writer.specs.declared.Answer.{Answer}
 use Rattle.writer.specs.declared.Answer.the-variants.{Same, Different}
 use Rattle.writer.specs.declared.Step.{Step}
 use Rattle.writer.specs.State.{keyLength, inRange, stays}
@@ -26,9 +25,9 @@ sameBlock a b = eqb (a .offset) (b .offset) && (eqb (a .length) (b .length) && e
 
 -- one by one, as far as the first list goes
 unfoldable pub sameEach : {A : Type 0} → (A → A → Bool) → List A → List A → Bool
-sameEach f [] bs = true
-sameEach f (a ∷ as·) [] = false
-sameEach f (a ∷ as·) (b ∷ bs) = f a b && sameEach f as· bs
+sameEach f [] ys = true
+sameEach f (a ∷ xs) [] = false
+sameEach f (a ∷ xs) (b ∷ ys) = f a b && sameEach f xs ys
 
 -- dates and blocks
 unfoldable pub sameSource : Source → Source → Bool

@@ -1,0 +1,331 @@
+// The lower layer's last calls: commit in two, and unchanged.
+ghost use mathlib.Core.Path.{_≡_};
+ghost use mathlib.Core.Bool.{Bool, true, _&&_};
+ghost use mathlib.Core.List.{_∷_, []};
+ghost use Prim.Native.Nat.{_≤_};
+ghost use lib.ListN.{length, take};
+ghost use lib.Signed.{leZ};
+ghost use Rattle.number.specs.Number.{pick};
+ghost use Rattle.header.specs.Header.{recordsOf};
+ghost use Rattle.headerwrite.specs.Header.{headerBytes, blankWord, commitBytes};
+ghost use Rattle.flash.specs.Flash.{write as writing, performed};
+ghost use Rattle.writer.specs.declared.Answer.the-variants as Answers;
+ghost use Rattle.writer.specs.declared.Stage.the-variants as Stages;
+ghost use Rattle.writer.specs.State as State;
+ghost use Rattle.due.specs.Due as Due;
+ghost use Rattle.commit.specs.Commit as Commit;
+ghost use Rattle.commit.specs.Unchanged as Unchanged;
+use bank::Loaded;
+use bank::bank_of;
+use due::target;
+use flash::write;
+use header::Bank;
+use header::record_at;
+use headerwrite::commit_bytes;
+use headerwrite::fit;
+use headerwrite::header_bytes;
+use leaf::generation::next;
+use number::le;
+use record::Block;
+use record::Source;
+use record::source_size;
+use refusal::Refusal;
+use writer::Answer;
+use writer::Stage;
+use writer::Step;
+use writer::Writer;
+use writer::did;
+use writer::in_range;
+use writer::stays;
+
+// The host's stamp, if any.
+pub enum Stamp {
+    Given(i64),
+    Missing,
+}
+
+fn is_idle(s: Stage) -> bool
+    ensures { λ r. ⌜ r ≡ Commit.isIdle s ⌝ }
+{
+    match s {
+        Stage::Idle => true,
+        Stage::Due(_) => false,
+        Stage::Headed => false,
+        Stage::Committed => false,
+    }
+}
+
+fn headed(w: Writer) -> Writer
+    ensures { λ r. ⌜ r ≡ Due.withStage w Stages.Headed ⌝ }
+{
+    Writer {
+        stage: Stage::Headed,
+        ..w
+    }
+}
+
+fn later(s: i64, at: i64) -> i64
+    ensures { λ r. ⌜ r ≡ pick (leZ at s) s at ⌝ }
+{
+    if le(at, s) { s } else { at }
+}
+
+fn checked_time(stamp: Stamp, at: i64) -> i64
+    ensures { λ r. ⌜ r ≡ Commit.checkedTime stamp at ⌝ }
+{
+    match stamp {
+        Stamp::Given(s) => later(s, at),
+        Stamp::Missing => at,
+    }
+}
+
+fn next_generation(l: Loaded) -> u32
+    ensures { λ r. ⌜ r ≡ State.nextGeneration l ⌝ }
+{
+    match l {
+        Loaded::Found(b) => next(b.generation),
+        Loaded::Nothing => 0,
+        Loaded::Refused(_) => 0,
+    }
+}
+
+fn routes_offset(ss: [Source; 3]) -> u32
+    ensures { λ r. ⌜ r ≡ Commit.routesOffset ss ⌝ }
+{
+    let s = ss[0];
+    let ts = s.tables;
+    let b = ts[0];
+    b.offset
+}
+
+fn key_length(offset: u32) -> u32
+    ensures { λ r. ⌜ r ≡ State.keyLength offset ⌝ }
+{
+    if offset < 8 { 0 } else { offset - 8 }
+}
+
+// The bank to be committed.
+fn bank_for(w: Writer, stamp: Stamp) -> Bank
+    ensures { λ r. ⌜ r ≡ Commit.bankFor w stamp ⌝ }
+{
+    let b = w.beginning;
+    let l = b.active;
+    let t = w.taken;
+    let x = w.tables;
+    let ss = w.sources;
+    Bank {
+        number: target(l),
+        version: 3,
+        generation: next_generation(l),
+        length: t.written,
+        crc: t.crc,
+        count: x.count,
+        key: key_length(routes_offset(ss)),
+        checked: checked_time(stamp, b.now),
+    }
+}
+
+fn may_commit(w: Writer) -> bool
+    ensures { λ r. ⌜ r ≡ Commit.mayCommit w ⌝ }
+{
+    let t = w.taken;
+    let s = w.stage;
+    in_range(w) & (t.closed & is_idle(s))
+}
+
+fn is_current(w: Writer, current: bool) -> bool
+    ensures { λ r. ⌜ r ≡ Commit.isCurrent w current ⌝ }
+{
+    let b = w.beginning;
+    !b.comparing & current
+}
+
+fn write_header(w: Writer, region: &mut [u8], b: Bank) -> Step
+    requires { ⌜ (length (now region) ≡ 983040) × (b .number ≤ 1) ⌝ }
+    ensures { λ r. ⌜ (r ≡ State.did (Due.withStage w Stages.Headed)) × (now (region .exit) ≡ performed (b .number) (writing 0 (headerBytes b (take (b .count) (w .sources)) blankWord) ∷ []) (now (region .entry))) ⌝ }
+{
+    let ss = w.sources;
+    let bytes = header_bytes(b, ss);
+    write(region, b.number, 0, &bytes);
+    let v = headed(w);
+    did(v)
+}
+
+// The first call of a commit: writes the header, 255 in the commit word.
+pub fn commit(w: Writer, region: &mut [u8], stamp: Stamp, current: bool) -> Step
+    ensures { λ r. ⌜ (r ≡ Commit.commitStep (now (region .entry)) w stamp current) × (now (region .exit) ≡ Commit.commitRegion (now (region .entry)) w stamp current) ⌝ }
+{
+    if region.len() == 983040 {
+        if may_commit(w) {
+            if is_current(w, current) {
+                let b = bank_for(w, stamp);
+                let ss = w.sources;
+                if fit(b, ss) {
+                    return write_header(w, region, b);
+                }
+                return stays(w, Refusal::Unfit);
+            }
+            return stays(w, Refusal::Obsolete);
+        }
+        return stays(w, Refusal::Turn);
+    }
+    stays(w, Refusal::Region)
+}
+
+fn is_headed(s: Stage) -> bool
+    ensures { λ r. ⌜ r ≡ Commit.isHeaded s ⌝ }
+{
+    match s {
+        Stage::Headed => true,
+        Stage::Idle => false,
+        Stage::Due(_) => false,
+        Stage::Committed => false,
+    }
+}
+
+fn committed(w: Writer) -> Writer
+    ensures { λ r. ⌜ r ≡ Due.withStage w Stages.Committed ⌝ }
+{
+    Writer {
+        stage: Stage::Committed,
+        ..w
+    }
+}
+
+fn may_write_word(w: Writer) -> bool
+    ensures { λ r. ⌜ r ≡ (State.inRange w && Commit.isHeaded (w .stage)) ⌝ }
+{
+    let s = w.stage;
+    in_range(w) & is_headed(s)
+}
+
+fn write_word(w: Writer, region: &mut [u8]) -> Step
+    requires { ⌜ length (now region) ≡ 983040 ⌝ }
+    ensures { λ r. ⌜ (r ≡ State.did (Due.withStage w Stages.Committed)) × (now (region .exit) ≡ performed (State.target (w .beginning .active)) (writing 44 commitBytes ∷ []) (now (region .entry))) ⌝ }
+{
+    let b = w.beginning;
+    let l = b.active;
+    let bank = target(l);
+    let word = commit_bytes();
+    write(region, bank, 44, &word);
+    let v = committed(w);
+    did(v)
+}
+
+// The second call of a commit: writes the commit word.
+pub fn commit_word(w: Writer, region: &mut [u8]) -> Step
+    ensures { λ r. ⌜ (r ≡ Commit.wordStep (now (region .entry)) w) × (now (region .exit) ≡ Commit.wordRegion (now (region .entry)) w) ⌝ }
+{
+    if region.len() == 983040 {
+        if may_write_word(w) {
+            return write_word(w, region);
+        }
+        return stays(w, Refusal::Turn);
+    }
+    stays(w, Refusal::Region)
+}
+
+fn same_block(a: Block, b: Block) -> bool
+    ensures { λ r. ⌜ r ≡ Unchanged.sameBlock a b ⌝ }
+{
+    (a.offset == b.offset) & ((a.length == b.length) & (a.crc == b.crc))
+}
+
+fn same_blocks(xs: [Block; 8], ys: [Block; 8]) -> bool
+    ensures { λ r. ⌜ r ≡ Unchanged.sameEach Unchanged.sameBlock xs ys ⌝ }
+{
+    let mut same = true;
+    let mut j = 0;
+    while j < 8 {
+        let x = xs[j];
+        let y = ys[j];
+        same = same & same_block(x, y);
+        j += 1;
+    }
+    same
+}
+
+// Dates and blocks.
+fn same_source(a: Source, b: Source) -> bool
+    ensures { λ r. ⌜ r ≡ Unchanged.sameSource a b ⌝ }
+{
+    let xs = a.tables;
+    let ys = b.tables;
+    (a.start == b.start) & ((a.end == b.end) & same_blocks(xs, ys))
+}
+
+// The first n sources against the first n records of a bank.
+fn same_sources(ss: [Source; 3], n: usize, l: &[u8], version: u32) -> bool
+    requires { ⌜ n ≤ 3 ⌝ }
+    ensures { λ r. ⌜ r ≡ Unchanged.sameEach Unchanged.sameSource (take n ss) (recordsOf version (now (l .entry)) n) ⌝ }
+{
+    let size = source_size(version);
+    let mut same = true;
+    let mut i = 0;
+    while i < n {
+        let a = ss[i];
+        let b = record_at(l, version, 48 + i * size);
+        same = same & same_source(a, b);
+        i += 1;
+    }
+    same
+}
+
+fn same_bank(region: &[u8], w: Writer, b: Bank) -> bool
+    requires { ⌜ w .tables .count ≤ 3 ⌝ }
+    ensures { λ r. ⌜ r ≡ Unchanged.sameBank (now (region .entry)) w b ⌝ }
+{
+    let t = w.taken;
+    let x = w.tables;
+    let ss = w.sources;
+    let l = bank_of(region, b.number);
+    let key = key_length(routes_offset(ss));
+    let sources = same_sources(ss, x.count as usize, l, b.version);
+    !t.different & ((t.written == b.length) & ((x.count == b.count) & ((key == b.key) & sources)))
+}
+
+fn is_unchanged(region: &[u8], w: Writer, l: Loaded) -> bool
+    requires { ⌜ w .tables .count ≤ 3 ⌝ }
+    ensures { λ r. ⌜ r ≡ Unchanged.isUnchanged (now (region .entry)) w l ⌝ }
+{
+    match l {
+        Loaded::Found(b) => same_bank(region, w, b),
+        Loaded::Nothing => false,
+        Loaded::Refused(_) => false,
+    }
+}
+
+fn may_ask(w: Writer) -> bool
+    ensures { λ r. ⌜ r ≡ Unchanged.mayAsk w ⌝ }
+{
+    let b = w.beginning;
+    let t = w.taken;
+    let s = w.stage;
+    in_range(w) & (b.comparing & (t.closed & is_idle(s)))
+}
+
+fn same_answer(same: bool) -> Answer
+    ensures { λ r. ⌜ r ≡ pick same Answers.Same Answers.Different ⌝ }
+{
+    if same {
+        return Answer::Same;
+    }
+    Answer::Different
+}
+
+// Whether the update is what the active bank has.
+pub fn unchanged(w: Writer, region: &[u8]) -> Step
+    ensures { λ r. ⌜ r ≡ Unchanged.unchangedStep (now (region .entry)) w ⌝ }
+{
+    if region.len() == 983040 {
+        if may_ask(w) {
+            let b = w.beginning;
+            let l = b.active;
+            let same = is_unchanged(region, w, l);
+            let answer = same_answer(same);
+            return Step { answer, writer: w };
+        }
+        return stays(w, Refusal::Turn);
+    }
+    stays(w, Refusal::Region)
+}
