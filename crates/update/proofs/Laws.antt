@@ -1,0 +1,449 @@
+-- Runs of lower calls, and the upper calls case by case.
+use mathlib.Core.Path.{_≡_, refl, sym, ap, _∙_}
+use mathlib.Core.Bool.{Bool, true, false, not, _&&_, _||_}
+use mathlib.Core.List.{List, [], _∷_, _++_}
+use mathlib.Core.Option.{Option, none, some}
+use Prim.Native.Nat.{ℕ, zero, suc, _+_, _*_, _-_, _/_, _%_, _≤_, _<_}
+use native.Mathlib.Omega.{arith}
+use lib.Dec.{leb, eqb, ltb}
+use lib.IntN.{ℤ}
+use lib.ListN.{length, take, drop, replicate, length-drop, drop-of-length-le}
+use lib.Seq.{take-all, take-at, drop-drop}
+use borrow.Author.Tests.{eq-eqb, ne-eqb, le-leb, lt-leb, leb-true}
+use Rattle.number.specs.Number.{pick}
+use Rattle.refusal.specs.declared.Refusal.{Refusal}
+use Rattle.refusal.specs.declared.Refusal.the-variants.{Region, Argument, Identity, Small, Full, Turn, Row}
+use Rattle.leaf.specs.Bytes.{le32, written}
+use Rattle.leaf.proofs.Laws.{length-written}
+use Rattle.key.specs.declared.KeyAnswer.{KeyAnswer}
+use Rattle.key.specs.declared.KeyAnswer.the-variants.{Written as KeyWritten, Refused as KeyRefused}
+use Rattle.key.specs.Picks as Picks
+use Rattle.key.specs.Layout.{prefix, keyOf, every, sized, fit, keyAnswer, within as keyWithin, after as keyAfter}
+use Rattle.key.proofs.Sizes.{both-true, entry-small, small, few}
+use Rattle.key.proofs.Answers.{key-length}
+use Rattle.row.specs.declared.RowAnswer.{RowAnswer}
+use Rattle.row.specs.declared.RowAnswer.the-variants.{Written, Refused as RowRefused}
+use Rattle.row.specs.Columns.{columnCount, columnsOf, columns, line, namesLine}
+use Rattle.csv.specs.Write.{rowOf}
+use Rattle.row.specs.Write.{within, after, handed, namesAnswer, rowAnswer}
+use Rattle.record.specs.declared.Source.{Source}
+use Rattle.header.specs.Region.{regionSize, capacity}
+use Rattle.header.proofs.Laws.{and-left, and-right}
+use Rattle.bank.specs.declared.Loaded.the-variants.{Refused as NotRead}
+use Rattle.bank.specs.Bank.{loaded}
+use Rattle.flash.specs.Flash.{Op, performed}
+use Rattle.writer.specs.declared.Answer.the-variants.{Refused}
+use Rattle.writer.specs.declared.Stage.{Stage}
+use Rattle.writer.specs.declared.Stage.the-variants.{Idle, Due, Headed, Committed}
+use Rattle.writer.specs.declared.Writer.{Writer}
+use Rattle.writer.specs.declared.Step.{Step}
+use Rattle.writer.specs.State.{did, stays, position, isOpen, inRange, target}
+use Rattle.writer.proofs.Laws.{ranged, position-fits, open-table}
+use Rattle.lower.specs.Lower.{started, begun, mayTake, mayBegin, endStep, closeStep, sourceStep, tableStep, bytesStep}
+use Rattle.due.specs.Due.{dueStep, dueOps, dueRegion, stepOf, opsOf}
+use Rattle.update.specs.Run.{Lower, source, table, bytes, end, close, due, lowerStep, lowerOps, lowerRegion, ranWriter, ranRegion}
+use Rattle.update.specs.Upper.{Upper, sourceWithDates, tableWithNames, row, tableEnd, closing, dues, feed, taken, lowerOf, runOf, argumentOk, orderOk, rowOk, sourceFits, allFits, refusalOf, runIf, upperRun, answered, upperStep, upperRegion, beginRefusal, keyBytes, beginRun, beganWith, beginStep, beginRegion}
+
+-- ---- what is due
+
+-- a stage in which nothing is due
+abbrev pub quiet : Stage → Bool
+quiet (Due o) = false
+quiet Idle = true
+quiet Headed = true
+quiet Committed = true
+
+module _ (region : List ℕ) (w : Writer) where
+  by-step : (t r : Bool) (s : Stage) → quiet s ≡ true → pick t (pick r (stepOf region w s) (stays w Turn)) (stays w Region) .writer ≡ w
+  by-step true true (Due o) e = cc
+  by-step true true Idle e = refl
+  by-step true true Headed e = refl
+  by-step true true Committed e = refl
+  by-step true false s e = refl
+  by-step false r s e = refl
+
+  by-ops : (t : Bool) (s : Stage) → quiet s ≡ true → pick t (opsOf (w .tail) s) [] ≡ []
+  by-ops true (Due o) e = cc
+  by-ops true Idle e = refl
+  by-ops true Headed e = refl
+  by-ops true Committed e = refl
+  by-ops false s e = refl
+
+  pub quiet-step : quiet (w .stage) ≡ true → dueStep region w .writer ≡ w
+  unfolding dueStep
+  quiet-step e = by-step (eqb (length region) regionSize) (inRange w) (w .stage) e
+
+  pub quiet-region : quiet (w .stage) ≡ true → lowerRegion region w due ≡ region
+  unfolding lowerOps dueOps performed
+  quiet-region e = ap (λ (ops : List Op). performed (target (w .beginning .active)) ops region) (by-ops (eqb (length region) regionSize && inRange w) (w .stage) e)
+
+  -- a due call changes nothing there
+  pub quiet-writer : (cs : List Lower) → quiet (w .stage) ≡ true → ranWriter region w (due ∷ cs) ≡ ranWriter region w cs
+  unfolding ranWriter lowerStep
+  quiet-writer cs e = λ i. ranWriter (quiet-region e i) (quiet-step e i) cs
+
+  pub quiet-ran : (cs : List Lower) → quiet (w .stage) ≡ true → ranRegion region w (due ∷ cs) ≡ ranRegion region w cs
+  unfolding ranRegion lowerStep
+  quiet-ran cs e = λ i. ranRegion (quiet-region e i) (quiet-step e i) cs
+
+  pub quiet-dues-writer : (cs : List Lower) → quiet (w .stage) ≡ true → ranWriter region w (dues ++ cs) ≡ ranWriter region w cs
+  quiet-dues-writer cs e = quiet-writer (due ∷ due ∷ cs) e ∙ quiet-writer (due ∷ cs) e ∙ quiet-writer cs e
+
+  pub quiet-dues-ran : (cs : List Lower) → quiet (w .stage) ≡ true → ranRegion region w (dues ++ cs) ≡ ranRegion region w cs
+  quiet-dues-ran cs e = quiet-ran (due ∷ due ∷ cs) e ∙ quiet-ran (due ∷ cs) e ∙ quiet-ran cs e
+
+  pub quiet-settled : (s : Stage) → w .stage ≡ s → quiet s ≡ true → (w ≡ ranWriter region w dues) × (region ≡ ranRegion region w dues)
+  unfolding ranWriter ranRegion
+  quiet-settled s h e = let q = ap quiet h ∙ e in (sym (quiet-dues-writer [] q), sym (quiet-dues-ran [] q))
+
+-- ---- runs
+
+pub ran-append-writer : (xs ys : List Lower) (region : List ℕ) (w : Writer) → ranWriter region w (xs ++ ys) ≡ ranWriter (ranRegion region w xs) (ranWriter region w xs) ys
+unfolding ranWriter ranRegion
+ran-append-writer [] ys region w = refl
+ran-append-writer (c ∷ xs) ys region w = ran-append-writer xs ys (lowerRegion region w c) (lowerStep region w c .writer)
+
+pub ran-append-region : (xs ys : List Lower) (region : List ℕ) (w : Writer) → ranRegion region w (xs ++ ys) ≡ ranRegion (ranRegion region w xs) (ranWriter region w xs) ys
+unfolding ranWriter ranRegion
+ran-append-region [] ys region w = refl
+ran-append-region (c ∷ xs) ys region w = ran-append-region xs ys (lowerRegion region w c) (lowerStep region w c .writer)
+
+pub feed-append : (xs ys : List ℕ) → feed (xs ++ ys) ≡ feed xs ++ feed ys
+unfolding feed
+feed-append [] ys = refl
+feed-append (x ∷ xs) ys = ap (λ (cs : List Lower). bytes (x ∷ []) ∷ (dues ++ cs)) (feed-append xs ys)
+
+-- a run in two parts
+module _ (region : List ℕ) (w : Writer) (xs ys : List Lower) (v : Writer) (r : List ℕ) (a : v ≡ ranWriter region w xs) (b : r ≡ ranRegion region w xs) where
+  pub then-writer : (u : Writer) → u ≡ ranWriter r v ys → u ≡ ranWriter region w (xs ++ ys)
+  then-writer u e = e ∙ (λ i. ranWriter (b i) (a i) ys) ∙ sym (ran-append-writer xs ys region w)
+
+  pub then-region : (u : List ℕ) → u ≡ ranRegion r v ys → u ≡ ranRegion region w (xs ++ ys)
+  then-region u e = e ∙ (λ i. ranRegion (b i) (a i) ys) ∙ sym (ran-append-region xs ys region w)
+
+-- three due calls
+module _ (region : List ℕ) (w : Writer) where
+  pub three : (a b c : Step) (r₁ r₂ r₃ : List ℕ) → a ≡ dueStep region w → r₁ ≡ dueRegion region w → b ≡ dueStep r₁ (a .writer) → r₂ ≡ dueRegion r₁ (a .writer)
+      → c ≡ dueStep r₂ (b .writer) → r₃ ≡ dueRegion r₂ (b .writer) → (c .writer ≡ ranWriter region w dues) × (r₃ ≡ ranRegion region w dues)
+  unfolding ranWriter ranRegion lowerStep lowerOps dueRegion
+  three a b c r₁ r₂ r₃ ea e₁ eb e₂ ec e₃ =
+      let wa = ap (λ (s : Step). s .writer) ea in
+      let wb : b .writer ≡ dueStep (dueRegion region w) (dueStep region w .writer) .writer = ap (λ (s : Step). s .writer) eb ∙ (λ i. dueStep (e₁ i) (wa i) .writer) in
+      let f₂ : r₂ ≡ dueRegion (dueRegion region w) (dueStep region w .writer) = e₂ ∙ (λ i. dueRegion (e₁ i) (wa i)) in
+      (ap (λ (s : Step). s .writer) ec ∙ (λ i. dueStep (f₂ i) (wb i) .writer), e₃ ∙ (λ i. dueRegion (f₂ i) (wb i)))
+
+-- a byte, then what is due
+pub one-fed : (region : List ℕ) (w : Writer) (bs : List ℕ) → 1 ≤ length bs → (s : Step) → s ≡ bytesStep w (take 1 bs) → (v : Writer) (r : List ℕ) → v ≡ ranWriter region (s .writer) dues → r ≡ ranRegion region (s .writer) dues
+    → (ranWriter r v (feed (drop 1 bs)) ≡ ranWriter region w (feed bs)) × (ranRegion r v (feed (drop 1 bs)) ≡ ranRegion region w (feed bs))
+unfolding feed ranWriter ranRegion lowerStep lowerOps performed
+one-fed region w [] h s e v r a b = absurd (omega arith)
+one-fed region w (x ∷ xs) h s e v r a b = (
+  then-writer region (s .writer) dues (feed xs) v r a b (ranWriter r v (feed xs)) refl ∙ ap (λ (t : Step). ranWriter region (t .writer) (dues ++ feed xs)) e,
+  then-region region (s .writer) dues (feed xs) v r a b (ranRegion r v (feed xs)) refl ∙ ap (λ (t : Step). ranRegion region (t .writer) (dues ++ feed xs)) e,
+)
+
+-- what is due, then a lower call that does no operation, then others
+abbrev pub Still : Lower → Type 0
+Still c = (r : List ℕ) (x : Writer) → lowerRegion r x c ≡ r
+
+pub still-source : (s : Source) → Still (source s)
+unfolding lowerOps performed
+still-source s r x = refl
+
+pub still-table : (t : ℕ) → Still (table t)
+unfolding lowerOps performed
+still-table t r x = refl
+
+pub still-end : Still end
+unfolding lowerOps performed
+still-end r x = refl
+
+pub still-close : Still close
+unfolding lowerOps performed
+still-close r x = refl
+
+module _ (region : List ℕ) (w : Writer) (c : Lower) (k : Still c) (cs : List Lower) (v : Writer) (r : List ℕ) (a : v ≡ ranWriter region w dues) (b : r ≡ ranRegion region w dues) (s : Step) (e : s ≡ lowerStep r v c) where
+  pub call-writer : (u : Writer) → u ≡ ranWriter r (s .writer) cs → u ≡ ranWriter region w (dues ++ (c ∷ cs))
+  unfolding ranWriter
+  call-writer u h = then-writer region w dues (c ∷ cs) v r a b u (h ∙ (λ i. ranWriter (sym (k r v) i) (e i .writer) cs))
+
+  pub call-region : (u : List ℕ) → u ≡ ranRegion r (s .writer) cs → u ≡ ranRegion region w (dues ++ (c ∷ cs))
+  unfolding ranRegion
+  call-region u h = then-region region w dues (c ∷ cs) v r a b u (h ∙ (λ i. ranRegion (sym (k r v) i) (e i .writer) cs))
+
+-- ---- the calls' cases
+
+module _ (region : List ℕ) (w : Writer) (u : Upper) where
+  abbrev Leaves : Step → List ℕ → Type 0
+  Leaves s r = (s ≡ upperStep region w u) × (r ≡ upperRegion region w u)
+
+  refused : (x : Refusal) → refusalOf region w u ≡ some x → Leaves (stays w x) region
+  unfolding upperStep upperRegion upperRun ranWriter ranRegion
+  refused x e = (
+    sym (ap (λ (o : Option Refusal). answered o (ranWriter region w (runIf o (runOf u)))) e),
+    sym (ap (λ (o : Option Refusal). ranRegion region w (runIf o (runOf u))) e),
+  )
+
+  pub upper-region : (length region ≡ regionSize → ⊥) → Leaves (stays w Region) region
+  unfolding refusalOf
+  upper-region h = refused Region (rw (ne-eqb (length region) regionSize h))
+
+  module _ (h : length region ≡ regionSize) where
+    pub upper-argument : argumentOk u ≡ false → Leaves (stays w Argument) region
+    unfolding refusalOf
+    upper-argument e = refused Argument (rw (eq-eqb (length region) regionSize h, e))
+
+    pub upper-turn : argumentOk u ≡ true → orderOk w u ≡ false → Leaves (stays w Turn) region
+    unfolding refusalOf
+    upper-turn e f = refused Turn (rw (eq-eqb (length region) regionSize h, e, f))
+
+    pub upper-row : argumentOk u ≡ true → orderOk w u ≡ true → rowOk w u ≡ false → Leaves (stays w Row) region
+    unfolding refusalOf
+    upper-row e f g = refused Row (rw (eq-eqb (length region) regionSize h, e, f, g))
+
+    pub upper-full : argumentOk u ≡ true → orderOk w u ≡ true → rowOk w u ≡ true → allFits w u ≡ false → Leaves (stays w Full) region
+    unfolding refusalOf
+    upper-full e f g x = refused Full (rw (eq-eqb (length region) regionSize h, e, f, g, x))
+
+    passed : argumentOk u ≡ true → orderOk w u ≡ true → rowOk w u ≡ true → allFits w u ≡ true → refusalOf region w u ≡ none
+    unfolding refusalOf
+    passed e f g x = rw (eq-eqb (length region) regionSize h, e, f, g, x)
+
+    pub upper-done : argumentOk u ≡ true → orderOk w u ≡ true → rowOk w u ≡ true → allFits w u ≡ true → (v : Writer) (r : List ℕ) → v ≡ ranWriter region w (runOf u) → r ≡ ranRegion region w (runOf u) → Leaves (did v) r
+    unfolding upperStep upperRegion upperRun
+    upper-done e f g x v r a b =
+        let n = passed e f g x in (
+          ap did a ∙ sym (ap (λ (o : Option Refusal). answered o (ranWriter region w (runIf o (runOf u)))) n),
+          b ∙ sym (ap (λ (o : Option Refusal). ranRegion region w (runIf o (runOf u))) n),
+        )
+
+-- no bytes always fit
+pub none-fits : (w : Writer) (b : Bool) → (mayTake w && b) ≡ true → leb (position (w .taken) + 0) capacity ≡ true
+none-fits w b e =
+    let m = and-left (mayTake w) b e in
+    le-leb (position (w .taken) + 0) capacity (omega (arith, position-fits (w .taken) (ranged w (and-left (inRange w) (not (w .taken .closed)) m) .taken)))
+
+-- ---- the loop of feed
+
+pub rest-is : (bs : List ℕ) (i : ℕ) → i ≤ length bs → take (length bs - i) (drop i bs) ≡ drop i bs
+rest-is bs i h = take-all (length bs - i) (drop i bs) (omega (arith, length-drop i bs))
+
+module _ {A : Type 0} (f g : List ℕ → A) (x : A) (bs : List ℕ) (i n : ℕ) where
+  pub fed-more : i ≤ length bs → g (drop n (take (length bs - i) (drop i bs))) ≡ f (take (length bs - i) (drop i bs)) → f (drop i bs) ≡ x → g (drop (i + n) bs) ≡ x
+  fed-more h e k =
+      let r = rest-is bs i h in
+      ap g (sym (drop-drop n i bs)) ∙ ap (λ (l : List ℕ). g (drop n l)) (sym r) ∙ e ∙ ap f r ∙ k
+
+module _ (region : List ℕ) (w : Writer) (bs : List ℕ) (i : ℕ) (h : length bs ≤ i) where
+  pub fed-all-writer : (x : Writer) → ranWriter region w (feed (drop i bs)) ≡ x → w ≡ x
+  unfolding feed ranWriter
+  fed-all-writer x e = ap (λ (l : List ℕ). ranWriter region w (feed l)) (sym (drop-of-length-le bs h)) ∙ e
+
+  pub fed-all-region : (x : List ℕ) → ranRegion region w (feed (drop i bs)) ≡ x → region ≡ x
+  unfolding feed ranRegion
+  fed-all-region x e = ap (λ (l : List ℕ). ranRegion region w (feed l)) (sym (drop-of-length-le bs h)) ∙ e
+
+-- ---- the bytes of a call
+
+pub dates-are : (a b : ℕ) → written (written (replicate 8 0) 0 (le32 a)) 4 (le32 b) ≡ le32 a ++ le32 b
+unfolding written le32
+dates-are a b = refl
+
+-- bytes written at the start
+pub start-is : (bs out : List ℕ) → length bs ≤ length out → take (length bs) (written out 0 bs) ≡ bs
+unfolding written
+start-is bs out h = rw (le-leb (0 + length bs) (length out) (omega arith)) (take-at bs (drop (0 + length bs) out) (length bs) refl)
+
+pub names-fit : (t : ℕ) → t ≤ 7 → length (namesLine t) ≤ 128
+unfolding columnsOf columns line
+names-fit zero h = omega arith
+names-fit (suc zero) h = omega arith
+names-fit (suc (suc zero)) h = omega arith
+names-fit (suc (suc (suc zero))) h = omega arith
+names-fit (suc (suc (suc (suc zero)))) h = omega arith
+names-fit (suc (suc (suc (suc (suc zero))))) h = omega arith
+names-fit (suc (suc (suc (suc (suc (suc zero)))))) h = omega arith
+names-fit (suc (suc (suc (suc (suc (suc (suc zero))))))) h = omega arith
+names-fit (suc (suc (suc (suc (suc (suc (suc (suc n)))))))) h = absurd (omega arith)
+
+module _ (t : ℕ) (out o : List ℕ) (a : RowAnswer) (h : t ≤ 7) (l : length out ≡ 128) (e : a ≡ namesAnswer t (length out)) (k : o ≡ after a (namesLine t) out) where
+  names-room : length (namesLine t) ≤ length out
+  names-room = omega (arith, names-fit t h)
+
+  names-answer : a ≡ Written (length (namesLine t))
+  unfolding namesAnswer within
+  names-answer = e ∙ rw (le-leb t 7 h, le-leb (length (namesLine t)) (length out) names-room)
+
+  pub names-there : (n : ℕ) → a ≡ Written n → (n ≤ 128) × (n ≡ length (namesLine t)) × (take n o ≡ namesLine t)
+  names-there n x =
+      let m : n ≡ length (namesLine t) = cc names-answer in (
+        omega (arith, names-fit t h),
+        m,
+        (λ i. take (m i) ((k ∙ ap (λ (b : RowAnswer). after b (namesLine t) out) names-answer) i)) ∙ start-is (namesLine t) out names-room,
+      )
+
+  pub names-never : (x : Refusal) → a ≡ RowRefused x → ⊥
+  names-never x f = let z : _≡_ {A = ℕ} 0 1 = cc names-answer in omega arith
+
+-- ---- a row
+
+by-two : (p q : Bool) (m : ℕ) (small : RowAnswer) → pick p (pick q (pick q (Written m) small) (RowRefused Row)) (RowRefused Row) ≡ pick (p && q) (Written m) (RowRefused Row)
+by-two true true m s = refl
+by-two true false m s = refl
+by-two false q m s = refl
+
+by-written : (p : Bool) (m n : ℕ) → pick p (Written m) (RowRefused Row) ≡ Written n → (p ≡ true) × (n ≡ m)
+by-written true m n e = (refl, cc)
+by-written false m n e = (cc, cc)
+
+by-refused : (p : Bool) (m : ℕ) (x : Refusal) → pick p (Written m) (RowRefused Row) ≡ RowRefused x → p ≡ false
+by-refused true m x e = cc
+by-refused false m x e = refl
+
+module _ (t : ℕ) (texts lengths out o : List ℕ) (a : RowAnswer) (h : t ≤ 7) (l : length out ≡ 8192) (e : a ≡ rowAnswer t texts lengths (length out)) (k : o ≡ after a (rowOf (handed texts lengths)) out) where
+  abbrev row-ok : Bool
+  row-ok = eqb (length lengths) (columnCount t) && leb (length (rowOf (handed texts lengths))) 8192
+
+  row-answer : a ≡ pick row-ok (Written (length (rowOf (handed texts lengths)))) (RowRefused Row)
+  unfolding rowAnswer within
+  row-answer = e ∙ rw (le-leb t 7 h, l) (by-two (eqb (length lengths) (columnCount t)) (leb (length (rowOf (handed texts lengths))) 8192) (length (rowOf (handed texts lengths))) (RowRefused Small))
+
+  pub row-not : (x : Refusal) → a ≡ RowRefused x → row-ok ≡ false
+  row-not x f = by-refused row-ok (length (rowOf (handed texts lengths))) x (sym row-answer ∙ f)
+
+  module _ (n : ℕ) (f : a ≡ Written n) where
+    pub row-written : (row-ok ≡ true) × (n ≡ length (rowOf (handed texts lengths)))
+    row-written = by-written row-ok (length (rowOf (handed texts lengths))) n (sym row-answer ∙ f)
+
+    pub row-short : n ≤ 8192
+    row-short =
+        omega
+        (arith, row-written .1, leb-true (length (rowOf (handed texts lengths))) 8192 (and-right (eqb (length lengths) (columnCount t)) (leb (length (rowOf (handed texts lengths))) 8192) (row-written .0)))
+
+    row-out : o ≡ written out 0 (rowOf (handed texts lengths))
+    row-out = k ∙ ap (λ (b : RowAnswer). after b (rowOf (handed texts lengths)) out) f
+
+    pub row-length : length o ≡ 8192
+    row-length = ap length row-out ∙ length-written out 0 (rowOf (handed texts lengths)) ∙ l
+
+    pub row-there : take n o ≡ rowOf (handed texts lengths)
+    row-there = (λ i. take (row-written .1 i) (row-out i)) ∙ start-is (rowOf (handed texts lengths)) out (omega (arith, row-written .1, row-short))
+
+-- ---- the beginning
+
+module _ (region : List ℕ) (w : Writer) (xs ys zs : List ℕ) (z : xs ++ ys ≡ zs) (v : Writer) (r : List ℕ) (a : v ≡ ranWriter region w (feed xs)) (b : r ≡ ranRegion region w (feed xs)) where
+  pub feeds-writer : (u : Writer) → u ≡ ranWriter r v (feed ys) → u ≡ ranWriter region w (feed zs)
+  feeds-writer u e = then-writer region w (feed xs) (feed ys) v r a b u e ∙ ap (ranWriter region w) (sym (feed-append xs ys) ∙ ap feed z)
+
+  pub feeds-region : (u : List ℕ) → u ≡ ranRegion r v (feed ys) → u ≡ ranRegion region w (feed zs)
+  feeds-region u e = then-region region w (feed xs) (feed ys) v r a b u e ∙ ap (ranRegion region w) (sym (feed-append xs ys) ∙ ap feed z)
+
+pub prefix-none : (region : List ℕ) (w : Writer) (id : List ℕ) → length id ≡ 0 → (w ≡ ranWriter region w (feed (prefix id))) × (region ≡ ranRegion region w (feed (prefix id)))
+unfolding prefix feed ranWriter ranRegion
+prefix-none region w [] h = (refl, refl)
+prefix-none region w (x ∷ xs) h = absurd (omega arith)
+
+pub prefix-is : (id : List ℕ) → (length id ≡ 0 → ⊥) → (255 ∷ length id % 256 ∷ length id / 256 % 256 ∷ []) ++ id ≡ prefix id
+unfolding prefix
+prefix-is [] h = absurd (h refl)
+prefix-is (x ∷ xs) h = refl
+
+-- a state with a refusal where the bank stands
+abbrev pub notRead : Writer → Refusal → Bool → ℤ → Step
+notRead w x comparing now =
+    record {
+      answer = Refused x;
+      writer = record { stage = w .stage; beginning = record { active = NotRead x; comparing = comparing; now = now }; taken = w .taken; tables = w .tables; sources = w .sources; tail = w .tail };
+    }
+
+pub not-read : (region : List ℕ) (comparing : Bool) (now at : ℤ) (s : Step) (x : Refusal) → s ≡ begun region comparing at → notRead (s .writer) x comparing now ≡ record { answer = Refused x; writer = started (NotRead x) comparing now }
+unfolding begun started
+not-read region comparing now at s x e = ap (λ (t : Step). notRead (t .writer) x comparing now) e
+
+-- without an identity
+body-short : (b l : List ℕ) → fit b l ≡ true → length (keyOf [] (Picks.handed b l)) ≤ 2257
+unfolding fit prefix
+body-short b l h =
+    let t = both-true (leb (Picks.count l) 16) (every (Picks.count l * 5) (sized (Picks.text b l))) h in
+    let n : Picks.count l ≤ 16 = leb-true _ _ (t .0) in
+    let m = small (Picks.count l) (Picks.pickAt b l) (entry-small (Picks.text b l) (Picks.count l) (t .1)) in
+    omega (arith, key-length [] (Picks.handed b l), few (Picks.count l) (Picks.pickAt b l), m)
+
+key-true : (p : Bool) (m n : ℕ) → pick p (KeyWritten m) (KeyRefused Argument) ≡ KeyWritten n → (p ≡ true) × (n ≡ m)
+key-true true m n e = (refl, cc)
+key-true false m n e = (cc, cc)
+
+key-false : (p : Bool) (m : ℕ) (x : Refusal) → pick p (KeyWritten m) (KeyRefused Argument) ≡ KeyRefused x → p ≡ false
+key-false true m x e = cc
+key-false false m x e = refl
+
+module _ (b l out o : List ℕ) (a : KeyAnswer) (h : length out ≡ 2257) (e : a ≡ keyAnswer [] b l (length out)) (k : o ≡ keyAfter a (keyOf [] (Picks.handed b l)) out) where
+  key-by : (p : Bool) → fit b l ≡ p → a ≡ pick p (KeyWritten (length (keyOf [] (Picks.handed b l)))) (KeyRefused Argument)
+  unfolding keyAnswer keyWithin
+  key-by true f = e ∙ rw (f, le-leb (length (keyOf [] (Picks.handed b l))) (length out) (omega (arith, body-short b l f)))
+  key-by false f = e ∙ rw f
+
+  pub key-not : (x : Refusal) → a ≡ KeyRefused x → fit b l ≡ false
+  key-not x f = key-false (fit b l) (length (keyOf [] (Picks.handed b l))) x (sym (key-by (fit b l) refl) ∙ f)
+
+  module _ (n : ℕ) (f : a ≡ KeyWritten n) where
+    key-both : (fit b l ≡ true) × (n ≡ length (keyOf [] (Picks.handed b l)))
+    key-both = key-true (fit b l) (length (keyOf [] (Picks.handed b l))) n (sym (key-by (fit b l) refl) ∙ f)
+
+    pub key-fit : fit b l ≡ true
+    key-fit = key-both .0
+
+    key-out : o ≡ written out 0 (keyOf [] (Picks.handed b l))
+    key-out = k ∙ ap (λ (x : KeyAnswer). keyAfter x (keyOf [] (Picks.handed b l)) out) f
+
+    pub key-room : n ≤ length o
+    key-room = omega (arith, key-both .1, body-short b l key-fit, ap length key-out, length-written out 0 (keyOf [] (Picks.handed b l)))
+
+    pub key-there : (id : List ℕ) → prefix id ++ take n o ≡ keyBytes id b l
+    unfolding keyOf prefix
+    key-there id = ap (λ (x : List ℕ). prefix id ++ x) ((λ i. take (key-both .1 i) (key-out i)) ∙ start-is (keyOf [] (Picks.handed b l)) out (omega (arith, body-short b l key-fit)))
+
+module _ (region : List ℕ) (comparing : Bool) (now : ℤ) (id b l : List ℕ) where
+  abbrev Begins : Step → List ℕ → Type 0
+  Begins s r = (s ≡ beginStep region comparing now id b l) × (r ≡ beginRegion region comparing now id b l)
+
+  abbrev first : Writer
+  first = started (loaded region) comparing now
+
+  begin-refused : (x : Refusal) → beginRefusal region id b l ≡ some x → Begins (record { answer = Refused x; writer = started (NotRead x) comparing now }) region
+  unfolding beginStep beginRegion beginRun ranRegion
+  begin-refused x e = (
+    sym (ap (λ (o : Option Refusal). beganWith o (ranWriter region first (runIf o (feed (keyBytes id b l)))) comparing now) e),
+    sym (ap (λ (o : Option Refusal). ranRegion region first (runIf o (feed (keyBytes id b l)))) e),
+  )
+
+  pub begin-region : (length region ≡ regionSize → ⊥) → Begins (record { answer = Refused Region; writer = started (NotRead Region) comparing now }) region
+  unfolding beginRefusal
+  begin-region h = begin-refused Region (rw (ne-eqb (length region) regionSize h))
+
+  module _ (h : length region ≡ regionSize) where
+    pub begin-argument : fit b l ≡ false → Begins (record { answer = Refused Argument; writer = started (NotRead Argument) comparing now }) region
+    unfolding beginRefusal
+    begin-argument e = begin-refused Argument (rw (eq-eqb (length region) regionSize h, e))
+
+    pub begin-identity : fit b l ≡ true → 65535 < length id → Begins (record { answer = Refused Identity; writer = started (NotRead Identity) comparing now }) region
+    unfolding beginRefusal
+    begin-identity e k = begin-refused Identity (rw (eq-eqb (length region) regionSize h, e, lt-leb (length id) 65535 k))
+
+    begin-passed : fit b l ≡ true → length id ≤ 65535 → beginRefusal region id b l ≡ none
+    unfolding beginRefusal
+    begin-passed e k = rw (eq-eqb (length region) regionSize h, e, le-leb (length id) 65535 k)
+
+    pub begin-done : fit b l ≡ true → length id ≤ 65535 → (v : Writer) (r : List ℕ) → v ≡ ranWriter region first (feed (keyBytes id b l)) → r ≡ ranRegion region first (feed (keyBytes id b l)) → Begins (did v) r
+    unfolding beginStep beginRegion beginRun
+    begin-done e k v r x y =
+        let n = begin-passed e k in (
+          ap did x ∙ sym (ap (λ (o : Option Refusal). beganWith o (ranWriter region first (runIf o (feed (keyBytes id b l)))) comparing now) n),
+          y ∙ sym (ap (λ (o : Option Refusal). ranRegion region first (runIf o (feed (keyBytes id b l)))) n),
+        )
+
+-- an open table is one of the eight
+pub open-fits : (w : Writer) → (mayTake w && isOpen (w .tables)) ≡ true → w .tables .table ≤ 7
+open-fits w e =
+    let m = and-left (mayTake w) (isOpen (w .tables)) e in
+    open-table (position (w .taken)) (w .tables) (ranged w (and-left (inRange w) (not (w .taken .closed)) m) .tables) (and-right (mayTake w) (isOpen (w .tables)) e) .0
