@@ -1,0 +1,236 @@
+-- The call that does what is due carries the invariant on, whole or cut.
+use mathlib.Core.Path.{_≡_, refl, sym, ap, _∙_, subst}
+use mathlib.Core.Bool.{Bool, true, false, _||_, false≢true}
+use mathlib.Core.Logic.{inr}
+use mathlib.Core.List.{List, [], _∷_}
+use Prim.Native.Nat.{ℕ, zero, suc, _+_, _*_, _%_}
+use native.Mathlib.Omega.{arith}
+use borrow.Author.Tests.{eq-eqb, ne-eqb}
+use lib.Dec.{eqb}
+use lib.ListN.{length, take}
+use lib.Seq.{take-nil}
+use Rattle.record.specs.declared.Source.{Source}
+use Rattle.header.specs.Region.{regionSize, bankSize, sectorSize, bankOf}
+use Rattle.header.specs.Header.{marked}
+use Rattle.bank.specs.declared.Loaded.{Loaded}
+use Rattle.flash.specs.Flash.{Op, erase, write, size, done, applied, performed}
+use Rattle.flash.proofs.Laws.{length-bank, bank-applied}
+use Rattle.writer.specs.declared.Operation.{Operation}
+use Rattle.writer.specs.declared.Operation.the-variants.{Erase, Write, Compare}
+use Rattle.writer.specs.declared.Stage.{Stage}
+use Rattle.writer.specs.declared.Stage.the-variants.{Idle, Due, Headed, Committed}
+use Rattle.writer.specs.declared.Answer.{Answer}
+use Rattle.writer.specs.declared.Answer.the-variants.{Done, Took, NoneDue, Same, Different, Refused}
+use Rattle.writer.specs.declared.Taken.{Taken}
+use Rattle.writer.specs.declared.Writer.{Writer}
+use Rattle.writer.specs.declared.Step.{Step}
+use Rattle.writer.specs.State.{position, isDue, writeDue, dataDue, target, operationOk, stageOk}
+use Rattle.writer.proofs.Laws.{Ranged, ranged, fill-fits, position-fits}
+use Rattle.due.specs.Due.{padded, opsOf, dueOps, differs, emptied, withStage, withEmptied, operated, stepOf, dueStep}
+use Rattle.update.specs.Run.{due}
+use Rattle.powerloss.specs.History.{Update, updateAfter}
+use Rattle.powerloss.specs.Machine.{Image}
+use Rattle.powerloss.proofs.Load.{target-fits}
+use Rattle.powerloss.proofs.Inv.{Kept, Live, Laid, Lies, LiveAt, Mode, Open, kept-unmarked, live-after}
+use Rattle.powerloss.proofs.Laid.{laid-unmarked, bare-erase, laid-erase, laid-write}
+use Rattle.powerloss.proofs.Range.{range-of, tail-aligned, due-fill, empty-taken, empty-idle, write-ok, data-ok, due-ok, due-of, erase-mode, write-at, erase-data, tables-later}
+use Rattle.powerloss.proofs.Quiet.{data-lies}
+
+-- what operations on bank n leave, all of them or the first ones
+pub record Carried (ops : List Op) (n : ℕ) (region : List ℕ) (hd : Loaded) (rs : List Source) (im : Image) (w : Writer) (u : Update) : Type 0 where
+  pub whole : Kept (performed n ops region) hd rs im
+  pub open· : Open (performed n ops region) hd w u
+  pub cut : (k : ℕ) → Kept (performed n (take k ops) region) hd rs im
+
+module _ (n : ℕ) (region : List ℕ) (hd : Loaded) (rs : List Source) (im : Image) (w : Writer) (u : Update) (k : Kept region hd rs im) where
+  pub no-ops : Open region hd w u → Carried [] n region hd rs im w u
+  unfolding performed
+  no-ops o = record { whole = k; open· = o; cut = λ j. rw (take-nil {A = Op} j) k }
+
+  pub one-op : (op : Op) → Kept (applied n op region) hd rs im → Open (applied n op region) hd w u → Carried (op ∷ []) n region hd rs im w u
+  unfolding performed
+  one-op op q o = record { whole = q; open· = o; cut = parts }
+    where
+      parts : (j : ℕ) → Kept (performed n (take j (op ∷ [])) region) hd rs im
+      parts zero = k
+      parts (suc j) = rw (take-nil {A = Op} j) q
+
+-- an operation on the bank that is written, named by the state
+module _ (region : List ℕ) (hd a : Loaded) (rs : List Source) (im : Image) (k : Kept region hd rs im) (v : Live region hd a) (op : Op) where
+  pub kept-unmarked-at : marked (done (size op) op (bankOf region (target a))) ≡ false → Kept (applied (target a) op region) hd rs im
+  kept-unmarked-at =
+      subst (λ (x : Loaded). marked (done (size op) op (bankOf region (target x))) ≡ false → Kept (applied (target x) op region) hd rs im) (sym (v .active)) (kept-unmarked region hd rs im k op a v)
+
+  pub live-at : Live (applied (target a) op region) hd a
+  live-at = subst (λ (x : Loaded). Live (applied (target x) op region) hd a) (sym (v .active)) (live-after region hd rs im k op a v)
+
+  pub bank-at : bankOf (applied (target a) op region) (target a) ≡ done (size op) op (bankOf region (target a))
+  bank-at = bank-applied region (target a) (k .size) (target-fits a) op
+
+  pub length-at : length (bankOf region (target a)) ≡ bankSize
+  length-at = length-bank region (target a) (k .size) (target-fits a)
+
+module _ (region : List ℕ) (hd : Loaded) (rs : List Source) (im : Image) (w : Writer) (u : Update) (k : Kept region hd rs im) (o : Open region hd w u) where
+  own : Ranged w
+  own = ranged w (o .tied .range)
+
+  pub seen : (c : Bool) (st : Stage) → w .beginning .comparing ≡ c → w .stage ≡ st → Mode c st region hd (w .beginning .active) (w .taken) (w .tail) u
+  seen c st e f =
+      subst (λ (s : Stage). Mode c s region hd (w .beginning .active) (w .taken) (w .tail) u) f
+      (subst (λ (d : Bool). Mode d (w .stage) region hd (w .beginning .active) (w .taken) (w .tail) u) e (o .mode))
+
+  pub stage-is : (st : Stage) → w .stage ≡ st → stageOk (w .beginning .comparing) (w .taken) st ≡ true
+  stage-is st f = ap (stageOk (w .beginning .comparing) (w .taken)) (sym f) ∙ own .stage
+
+  -- another stage, the same bytes
+  pub restage : (region′ : List ℕ) (st : Stage) → w .beginning .comparing ≡ false → stageOk false (w .taken) st ≡ true
+      → LiveAt st region′ hd (w .beginning .active) × Lies st (w .taken) (w .tail) u (bankOf region′ (target (w .beginning .active))) → Open region′ hd (withStage w st) u
+  restage region′ st c s m =
+      record {
+        tied =
+            record {
+              range = range-of (withStage w st) (own .active) (own .taken) (own .tables) (ap (λ (x : Bool). stageOk x (w .taken) st) c ∙ s);
+              began = o .tied .began;
+              counted = o .tied .counted;
+              noted = o .tied .noted;
+              tailed = o .tied .tailed;
+            };
+        mode = subst (λ (x : Bool). Mode x st region′ hd (w .beginning .active) (w .taken) (w .tail) u) (sym c) m;
+      }
+
+  -- the tail is empty again
+  empty : (region′ : List ℕ) (d : Bool) → isDue (w .taken) ≡ true → Mode (w .beginning .comparing) Idle region′ hd (w .beginning .active) (emptied (w .taken) d) (w .tail) u
+      → Open region′ hd (withEmptied w d) u
+  empty region′ d e m =
+      record {
+        tied =
+            record {
+              range =
+                  range-of (withEmptied w d) (own .active) (empty-taken (w .taken) d (own .taken) e)
+                  (tables-later (position (w .taken)) (position (emptied (w .taken) d)) (w .tables) (omega arith) (own .tables))
+                  (empty-idle (w .taken) d (w .beginning .comparing));
+              began = o .tied .began;
+              counted = record { length· = o .tied .counted .length· ∙ omega arith; crc = o .tied .counted .crc };
+              noted = o .tied .noted;
+              tailed = o .tied .tailed;
+            };
+        mode = m;
+      }
+
+  erase-first : w .stage ≡ Due (Erase 0) → Carried (erase 0 ∷ []) (target (w .beginning .active)) region hd rs im (withStage w (Due (dataDue (w .taken)))) u
+  unfolding dataDue
+  erase-first f =
+      let t = w .taken in
+      let a = w .beginning .active in
+      let d = due-ok (w .beginning .comparing) t (Erase 0) (stage-is (Due (Erase 0)) f) in
+      let c = erase-mode (w .beginning .comparing) t 0 (d .1) in
+      let m = seen false (Due (Erase 0)) c f in
+      let b = bankOf region (target a) in
+      let h = bare-erase t (w .tail) (u .data·) b (m .1) (length-at region hd a rs im k (m .0) (erase 0)) in
+      let al = tail-aligned t (own .taken) (due-fill t (d .0)) in
+      let r′ = applied (target a) (erase 0) region in
+      one-op (target a) region hd rs im (withStage w (Due (dataDue t))) u k (erase 0)
+      (kept-unmarked-at region hd a rs im k (m .0) (erase 0) (laid-unmarked 0 4096 (t .written) (t .fill) (w .tail) (u .data·) (done sectorSize (erase 0) b) h))
+      (restage r′ (Due (dataDue t)) c (due-of false t (dataDue t) (d .0) (data-ok t)) (
+        live-at region hd a rs im k (m .0) (erase 0),
+        data-lies t (w .tail) u (bankOf r′ (target a)) al
+            (subst (Laid 0 4096 (t .written) (t .fill) (w .tail) (u .data·)) (sym (bank-at region hd a rs im k (m .0) (erase 0))) h)
+            (eqb (t .written % 4096) 0) refl,
+      ))
+
+  erase-next : (j : ℕ) → w .stage ≡ Due (Erase (suc j)) → Carried (erase (suc j * sectorSize) ∷ []) (target (w .beginning .active)) region hd rs im (withStage w (Due (writeDue (w .taken)))) u
+  erase-next j f =
+      let t = w .taken in
+      let a = w .beginning .active in
+      let d = due-ok (w .beginning .comparing) t (Erase (suc j)) (stage-is (Due (Erase (suc j))) f) in
+      let c = erase-mode (w .beginning .comparing) t (suc j) (d .1) in
+      let m = seen false (Due (Erase (suc j))) c f in
+      let e = erase-data t j (ap (λ (x : Bool). operationOk x t (Erase (suc j))) (sym c) ∙ d .1) in
+      let b = bankOf region (target a) in
+      let op = erase (suc j * sectorSize) in
+      let h =
+      laid-erase t (w .tail) (u .data·) b (length-at region hd a rs im k (m .0) op) (m .1) (e .0) (position-fits t (own .taken)) (due-fill t (d .0)) (suc j * sectorSize)
+      (omega (arith, e .0, e .1)) in
+      let r′ = applied (target a) op region in
+      one-op (target a) region hd rs im (withStage w (Due (writeDue t))) u k op
+      (kept-unmarked-at region hd a rs im k (m .0) op (laid-unmarked 256 4097 (t .written) (t .fill) (w .tail) (u .data·) (done sectorSize op b) h))
+      (restage r′ (Due (writeDue t)) c (due-of false t (writeDue t) (d .0) (write-ok t)) (
+        live-at region hd a rs im k (m .0) op,
+        subst (Laid 256 4097 (t .written) (t .fill) (w .tail) (u .data·)) (sym (bank-at region hd a rs im k (m .0) op)) h,
+      ))
+
+  write-tail : w .beginning .comparing ≡ false → w .stage ≡ Due (Write (w .taken .written) (w .taken .fill))
+      → Carried (write (sectorSize + w .taken .written) (padded (take (w .taken .fill) (w .tail))) ∷ []) (target (w .beginning .active)) region hd rs im (withEmptied w (w .taken .different)) u
+  write-tail c f =
+      let t = w .taken in
+      let a = w .beginning .active in
+      let d = due-ok (w .beginning .comparing) t (Write (t .written) (t .fill)) (stage-is (Due (Write (t .written) (t .fill))) f) in
+      let m = seen false (Due (Write (t .written) (t .fill))) c f in
+      let b = bankOf region (target a) in
+      let ws = padded (take (t .fill) (w .tail)) in
+      let op = write (sectorSize + t .written) ws in
+      let p = due-fill t (d .0) in
+      let h =
+      laid-write t (w .tail) (u .data·) b (length-at region hd a rs im k (m .0) op) (m .1) (o .tied .tailed .bytes) (o .tied .tailed .length·) (fill-fits t (own .taken)) p in
+      let r′ = applied (target a) op region in
+      one-op (target a) region hd rs im (withEmptied w (t .different)) u k op
+      (kept-unmarked-at region hd a rs im k (m .0) op (laid-unmarked 0 4096 (t .written + t .fill) 0 (w .tail) (u .data·) (done (length ws) op b) h))
+      (empty r′ (t .different) (d .0)
+      (subst (λ (x : Bool). Mode x Idle r′ hd a (emptied t (t .different)) (w .tail) u) (sym c) (
+        live-at region hd a rs im k (m .0) op,
+        inr (subst (Laid 0 4096 (t .written + t .fill) 0 (w .tail) (u .data·)) (sym (bank-at region hd a rs im k (m .0) op)) h, omega arith),
+      )))
+
+  compare-tail : (i n : ℕ) (c : Bool) → w .beginning .comparing ≡ c → w .stage ≡ Due (Compare i n) → (d : Bool) → Carried [] (target (w .beginning .active)) region hd rs im (withEmptied w d) u
+  compare-tail i n false c f d = absurd (seen false (Due (Compare i n)) c f .1)
+  compare-tail i n true c f d =
+      let q = due-ok (w .beginning .comparing) (w .taken) (Compare i n) (stage-is (Due (Compare i n)) f) in
+      no-ops (target (w .beginning .active)) region hd rs im (withEmptied w d) u k
+      (empty region d (q .0) (subst (λ (x : Bool). Mode x Idle region hd (w .beginning .active) (emptied (w .taken) d) (w .tail) u) (sym c) tt))
+
+  write-mode : (c : Bool) (s : Taken) (i n : ℕ) → operationOk c s (Write i n) ≡ true → c ≡ false
+  unfolding operationOk
+  write-mode true s i n e = absurd (false≢true e)
+  write-mode false s i n e = refl
+
+  operation : (p : Operation) → w .stage ≡ Due p → Carried (opsOf (w .tail) (Due p)) (target (w .beginning .active)) region hd rs im (operated region w p) u
+  unfolding operated
+  operation (Erase zero) f = erase-first f
+  operation (Erase (suc j)) f = rw (ne-eqb (suc j) 0 (λ e. omega arith)) (erase-next j f)
+  operation (Write i n) f =
+      let d = due-ok (w .beginning .comparing) (w .taken) (Write i n) (stage-is (Due (Write i n)) f) in
+      let c = write-mode (w .beginning .comparing) (w .taken) i n (d .1) in
+      let e = write-at (w .taken) i n (ap (λ (x : Bool). operationOk x (w .taken) (Write i n)) (sym c) ∙ d .1) in
+      let g : w .stage ≡ Due (Write (w .taken .written) (w .taken .fill)) = f ∙ (λ j. Due (Write (e .0 j) (e .1 j))) in
+      subst (λ (ops : List Op). Carried ops (target (w .beginning .active)) region hd rs im (withEmptied w (w .taken .different)) u)
+      (λ j. write (sectorSize + sym (e .0) j) (padded (take (sym (e .1) j) (w .tail))) ∷ []) (write-tail c g)
+  operation (Compare i n) f = compare-tail i n (w .beginning .comparing) refl f (w .taken .different || differs region (w .beginning .active) (w .taken) (w .tail))
+
+  on-stage : (st : Stage) → w .stage ≡ st → Carried (opsOf (w .tail) st) (target (w .beginning .active)) region hd rs im (stepOf region w st .writer) u
+  on-stage Idle f = no-ops (target (w .beginning .active)) region hd rs im w u k o
+  on-stage (Due p) f = operation p f
+  on-stage Headed f = no-ops (target (w .beginning .active)) region hd rs im w u k o
+  on-stage Committed f = no-ops (target (w .beginning .active)) region hd rs im w u k o
+
+  pub due-is : dueStep region w ≡ stepOf region w (w .stage)
+  unfolding dueStep
+  due-is = rw (eq-eqb (length region) regionSize (k .size), o .tied .range)
+
+  pub due-ops-is : dueOps region w ≡ opsOf (w .tail) (w .stage)
+  unfolding dueOps
+  due-ops-is = rw (eq-eqb (length region) regionSize (k .size), o .tied .range)
+
+  no-change : (x : Answer) → updateAfter due x u ≡ u
+  unfolding updateAfter
+  no-change Done = refl
+  no-change (Took n) = refl
+  no-change NoneDue = refl
+  no-change Same = refl
+  no-change Different = refl
+  no-change (Refused r) = refl
+
+  pub on-due : Carried (dueOps region w) (target (w .beginning .active)) region hd rs im (dueStep region w .writer) (updateAfter due (dueStep region w .answer) u)
+  on-due =
+      subst (Carried (dueOps region w) (target (w .beginning .active)) region hd rs im (dueStep region w .writer)) (sym (no-change (dueStep region w .answer)))
+      (subst (λ (ops : List Op). Carried ops (target (w .beginning .active)) region hd rs im (dueStep region w .writer) u) (sym due-ops-is)
+      (subst (λ (s : Step). Carried (opsOf (w .tail) (w .stage)) (target (w .beginning .active)) region hd rs im (s .writer) u) (sym due-is) (on-stage (w .stage) refl)))

@@ -1,0 +1,16 @@
+pub mod Bytes
+pub mod Load
+pub mod Records
+pub mod Inv
+pub mod Laid
+pub mod Range
+pub mod Quiet
+pub mod Take
+pub mod Dues
+pub mod Commits
+pub mod Lowers
+pub mod Texts
+pub mod Runs
+pub mod Feeds
+pub mod Uppers
+pub mod States

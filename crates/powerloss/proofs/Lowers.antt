@@ -1,0 +1,228 @@
+-- Every lower call, answered or cut, and a beginning, carry the invariant on.
+use mathlib.Core.Path.{_≡_, refl, sym, ap}
+use mathlib.Core.Bool.{Bool, true, false, false≢true}
+use mathlib.Core.Logic.{inl}
+use mathlib.Core.Option.{Option, none, some}
+use mathlib.Core.List.{List, [], _∷_}
+use Prim.Native.Nat.{ℕ, zero, suc}
+use native.Mathlib.Omega.{arith}
+use borrow.Author.Tests.{eq-eqb, le-leb}
+use lib.Dec.{lit<}
+use lib.IntN.{ℤ}
+use lib.ListN.{length, take}
+use lib.Seq.{take-nil}
+use mir.Syntax.{w64}
+use mir.Val.{SFits}
+use Rattle.number.specs.Number.{pick}
+use Rattle.leaf.proofs.Checksum.{crc32-nil}
+use Rattle.refusal.specs.declared.Refusal.the-variants.{Turn}
+use Rattle.record.specs.declared.Source.{Source}
+use Rattle.record.specs.Record.{noSource}
+use Rattle.record.specs.Types.{All}
+use Rattle.record.proofs.Series.{length-fill}
+use Rattle.header.specs.Region.{regionSize}
+use Rattle.headerwrite.specs.Header.{commitBytes}
+use Rattle.headerwrite.specs.Types.{Bytes, Proper}
+use Rattle.bank.specs.declared.Loaded.{Loaded}
+use Rattle.bank.specs.declared.Loaded.the-variants.{Found, Nothing, Refused as NotRead}
+use Rattle.bank.specs.Bank.{loaded}
+use Rattle.flash.specs.Flash.{Op, write, performed}
+use Rattle.writer.specs.declared.Stage.the-variants.{Committed}
+use Rattle.writer.specs.declared.Answer.{Answer}
+use Rattle.writer.specs.declared.Answer.the-variants.{Done, Took, NoneDue, Same, Different, Refused}
+use Rattle.writer.specs.declared.Writer.{Writer}
+use Rattle.writer.specs.State.{isDue, target, activeOk, takenOk, stageOk, did, stays}
+use Rattle.lower.specs.Lower.{started, begun, answerOf}
+use Rattle.due.specs.Due.{withStage}
+use Rattle.commit.specs.Commit.{isHeaded, wordStep, wordOps}
+use Rattle.update.specs.Run.{Lower, source, table, bytes, end, close, due, unchanged, commit, word, lowerStep, lowerOps}
+use Rattle.powerloss.specs.History.{Update, opened, takes, recordsAfter, updateAfter, isWord, isDone, anyDone, committed, afterLower, afterLowerCut, afterBegin}
+use Rattle.powerloss.specs.Machine.{Image, Run, begin, cut, imageAfter, onCall, onCut, stateAfter, next}
+use Rattle.powerloss.specs.Claim.{LowerTyped}
+use Rattle.powerloss.proofs.Bytes.{bytes-fill}
+use Rattle.powerloss.proofs.Load.{load-own, other-held}
+use Rattle.powerloss.proofs.Inv.{Kept, Mode, Open, State}
+use Rattle.powerloss.proofs.Range.{range-of, tables-none}
+use Rattle.powerloss.proofs.Quiet.{on-source, on-table, on-end, on-unchanged}
+use Rattle.powerloss.proofs.Take.{on-bytes, on-close}
+use Rattle.powerloss.proofs.Dues.{Carried, no-ops, on-due}
+use Rattle.powerloss.proofs.Commits.{is-headed, on-commit, word-kept, word-open}
+
+-- a lower call that isn't the commit word
+abbrev pub Plain : Lower → Type 0
+Plain word = ⊥
+Plain (source s) = Proper s
+Plain (bytes xs) = Bytes xs
+Plain (commit stamp current) = LowerTyped (commit stamp current)
+Plain (table t) = Unit {0}
+Plain end = Unit {0}
+Plain close = Unit {0}
+Plain due = Unit {0}
+Plain unchanged = Unit {0}
+
+module _ (region : List ℕ) (hd : Loaded) (rs : List Source) (im : Image) (w : Writer) (u : Update) (k : Kept region hd rs im) (o : Open region hd w u) where
+  pub plain-call : (c : Lower) → Plain c
+      → Carried (lowerOps region w c) (target (w .beginning .active)) region hd rs im (lowerStep region w c .writer) (updateAfter c (lowerStep region w c .answer) u)
+  unfolding lowerOps lowerStep
+  plain-call (source s) p = no-ops (target (w .beginning .active)) region hd rs im _ _ k (on-source region hd w u o s p)
+  plain-call (table t) p = no-ops (target (w .beginning .active)) region hd rs im _ _ k (on-table region hd w u o t)
+  plain-call (bytes xs) p = no-ops (target (w .beginning .active)) region hd rs im _ _ k (on-bytes region hd w u o xs p)
+  plain-call end p = no-ops (target (w .beginning .active)) region hd rs im _ _ k (on-end region hd w u o)
+  plain-call close p = no-ops (target (w .beginning .active)) region hd rs im _ _ k (on-close region hd w u o)
+  plain-call due p = on-due region hd rs im w u k o
+  plain-call unchanged p = no-ops (target (w .beginning .active)) region hd rs im _ _ k (on-unchanged region hd w u o)
+  plain-call (commit stamp current) p = on-commit region hd rs im w u k o stamp current p
+  plain-call word p = absurd p
+
+-- what holds of the board and the history
+pub record Inv (r : Run) : Type 0 where
+  pub kept : Kept (r .region) (r .history .held) (r .history .records) (r .image)
+  pub open· : State (r .region) (r .history .held) (r .state) (r .history .open·)
+
+abbrev pub mk : List ℕ → Option Writer → Loaded → List Source → Option Update → Image → Run
+mk region s hd rs v im = record { region = region; state = s; history = record { held = hd; records = rs; open· = v }; image = im }
+
+module _ (region : List ℕ) (hd : Loaded) (rs : List Source) (im : Image) (w : Writer) (u : Update) (k : Kept region hd rs im) (o : Open region hd w u) where
+  abbrev here : Run
+  here = mk region (some w) hd rs (some u) im
+
+  plain-inv : (c : Lower) → isWord c ≡ false → Plain c → Inv (onCall c here (some w))
+  unfolding onCall afterLower committed imageAfter
+  plain-inv c e p =
+      let z = plain-call region hd rs im w u k o c p in
+      rw e (record { kept = z .whole; open· = z .open· })
+
+  plain-cut : (c : Lower) (j : ℕ) → isWord c ≡ false → Plain c → Inv (onCut c j here (some w))
+  unfolding onCut afterLowerCut committed imageAfter
+  plain-cut c j e p =
+      let z = plain-call region hd rs im w u k o c p in
+      rw e (record { kept = z .cut j; open· = tt })
+
+  -- the commit word
+  word-by : (b : Bool) → isHeaded (w .stage) ≡ b
+      → Inv (record {
+        region = performed (target (w .beginning .active)) (pick b (write 44 commitBytes ∷ []) []) region;
+        state = some (pick b (did (withStage w Committed)) (stays w Turn) .writer);
+        history = afterLower word (pick b (did (withStage w Committed)) (stays w Turn) .answer) (record { held = hd; records = rs; open· = some u }) (some u);
+        image = imageAfter true (isDone (pick b (did (withStage w Committed)) (stays w Turn) .answer)) (some u) (performed (target (w .beginning .active)) (pick b (write 44 commitBytes ∷ []) []) region) im;
+      })
+  unfolding performed afterLower committed imageAfter updateAfter
+  word-by true e =
+      let h = is-headed (w .stage) e in
+      record { kept = word-kept region hd rs im w u k o h; open· = word-open region hd rs im w u k o h }
+  word-by false e = record { kept = k; open· = o }
+
+  word-inv : Inv (onCall word here (some w))
+  unfolding onCall lowerStep lowerOps wordStep wordOps
+  word-inv = rw (eq-eqb (length region) regionSize (k .size), o .tied .range) (word-by (isHeaded (w .stage)) refl)
+
+  cut-by : (b : Bool) (j : ℕ) → isHeaded (w .stage) ≡ b
+      → Inv (record {
+        region = performed (target (w .beginning .active)) (take j (pick b (write 44 commitBytes ∷ []) [])) region;
+        state = none;
+        history = afterLowerCut word (length (take j (pick b (write 44 commitBytes ∷ []) []))) (record { held = hd; records = rs; open· = some u }) (some u);
+        image =
+            imageAfter true (anyDone (length (take j (pick b (write 44 commitBytes ∷ []) [])))) (some u) (performed (target (w .beginning .active)) (take j (pick b (write 44 commitBytes ∷ []) [])) region) im;
+      })
+  unfolding performed afterLowerCut committed imageAfter
+  cut-by true zero e = record { kept = k; open· = tt }
+  cut-by true (suc j) e = rw (take-nil {A = Op} j) (record { kept = word-kept region hd rs im w u k o (is-headed (w .stage) e); open· = tt })
+  cut-by false j e = rw (take-nil {A = Op} j) (record { kept = k; open· = tt })
+
+  word-cut : (j : ℕ) → Inv (onCut word j here (some w))
+  unfolding onCut lowerOps wordOps
+  word-cut j = rw (eq-eqb (length region) regionSize (k .size), o .tied .range) (cut-by (isHeaded (w .stage)) j refl)
+
+  inv-lower : (c : Lower) → LowerTyped c → Inv (onCall c here (some w))
+  inv-lower (source s) p = plain-inv (source s) refl p
+  inv-lower (table t) p = plain-inv (table t) refl p
+  inv-lower (bytes xs) p = plain-inv (bytes xs) refl p
+  inv-lower end p = plain-inv end refl p
+  inv-lower close p = plain-inv close refl p
+  inv-lower due p = plain-inv due refl p
+  inv-lower unchanged p = plain-inv unchanged refl p
+  inv-lower (commit stamp current) p = plain-inv (commit stamp current) refl p
+  inv-lower word p = word-inv
+
+  inv-lower-cut : (c : Lower) (j : ℕ) → LowerTyped c → Inv (onCut c j here (some w))
+  inv-lower-cut (source s) j p = plain-cut (source s) j refl p
+  inv-lower-cut (table t) j p = plain-cut (table t) j refl p
+  inv-lower-cut (bytes xs) j p = plain-cut (bytes xs) j refl p
+  inv-lower-cut end j p = plain-cut end j refl p
+  inv-lower-cut close j p = plain-cut close j refl p
+  inv-lower-cut due j p = plain-cut due j refl p
+  inv-lower-cut unchanged j p = plain-cut unchanged j refl p
+  inv-lower-cut (commit stamp current) j p = plain-cut (commit stamp current) j refl p
+  inv-lower-cut word j p = word-cut j
+
+-- with a state or without
+pub inv-call : (c : Lower) (region : List ℕ) (s : Option Writer) (hd : Loaded) (rs : List Source) (v : Option Update) (im : Image) → LowerTyped c → Inv (mk region s hd rs v im) → Inv (onCall c (mk region s hd rs v im) s)
+inv-call c region none hd rs v im p h = unfold onCall in h
+inv-call c region (some w) hd rs none im p h = absurd (h .open·)
+inv-call c region (some w) hd rs (some u) im p h = inv-lower region hd rs im w u (h .kept) (h .open·) c p
+
+pub inv-cut : (c : Lower) (j : ℕ) (region : List ℕ) (s : Option Writer) (hd : Loaded) (rs : List Source) (v : Option Update) (im : Image) → LowerTyped c → Inv (mk region s hd rs v im) → Inv (onCut c j (mk region s hd rs v im) s)
+inv-cut c j region none hd rs v im p h = unfold onCut in h
+inv-cut c j region (some w) hd rs none im p h = absurd (h .open·)
+inv-cut c j region (some w) hd rs (some u) im p h = inv-lower-cut region hd rs im w u (h .kept) (h .open·) c j p
+
+-- ---- a beginning
+
+begin-mode : (c : Bool) (region : List ℕ) (hd : Loaded) (now : ℤ) → length region ≡ regionSize → loaded region ≡ hd
+    → Mode c (started hd c now .stage) region hd (started hd c now .beginning .active) (started hd c now .taken) (started hd c now .tail) (takes [] (opened hd now))
+unfolding started opened
+begin-mode true region hd now l e = tt
+begin-mode false region hd now l e = (record { active = refl; other = other-held region hd l e }, inl (record { written = refl; all = refl }))
+
+begin-open : (region : List ℕ) (hd : Loaded) (c : Bool) (now : ℤ) → SFits w64 now → length region ≡ regionSize → loaded region ≡ hd → activeOk hd ≡ true
+    → Open region hd (started hd c now) (takes [] (opened hd now))
+unfolding started opened takenOk stageOk isDue recordsAfter All
+begin-open region hd c now f l e ok =
+    record {
+      tied =
+          record {
+            range = range-of (started hd c now) ok refl (tables-none 0 (started hd c now .tables) (omega arith) refl) refl;
+            began = record { number = refl; generation = refl; now = refl; fits = f };
+            counted = record { length· = refl; crc = sym (crc32-nil 0 (lit< tt)) };
+            noted =
+                record {
+                  records = λ ys. refl;
+                  proper = tt;
+                  sources = length-fill noSource 3;
+                  table = λ g. absurd (false≢true g);
+                };
+            tailed = record { length· = length-fill {A = ℕ} 0 256; bytes = bytes-fill 0 256 (omega arith) };
+          };
+      mode = begin-mode c region hd now l e;
+    }
+
+active-ok : (region : List ℕ) (hd : Loaded) → length region ≡ regionSize → loaded region ≡ hd → answerOf hd ≡ Done → activeOk hd ≡ true
+unfolding activeOk
+active-ok region (Found b) l e d = le-leb (b .number) 1 (load-own region b l e .number)
+active-ok region Nothing l e d = refl
+active-ok region (NotRead r) l e d = absurd (false≢true (ap isDone d))
+
+-- the new state, where the beginning is answered
+pub begun-open : (region : List ℕ) (hd : Loaded) (rs : List Source) (im : Image) (c : Bool) (now : ℤ) → SFits w64 now → Kept region hd rs im → answerOf hd ≡ Done
+    → Open region hd (started hd c now) (takes [] (opened hd now))
+begun-open region hd rs im c now f k d = begin-open region hd c now f (k .size) (k .loads) (active-ok region hd (k .size) (k .loads) d)
+
+begin-by : (c : Bool) (now : ℤ) (region : List ℕ) (s : Option Writer) (hd : Loaded) (rs : List Source) (v : Option Update) (im : Image) → SFits w64 now → Inv (mk region s hd rs v im) → (x : Answer) → answerOf hd ≡ x
+    → Inv (record {
+      region = region;
+      state = stateAfter x (started hd c now) s;
+      history = afterBegin now [] x (record { held = hd; records = rs; open· = v });
+      image = im;
+    })
+unfolding afterBegin
+begin-by c now region s hd rs v im f h Done e = record { kept = h .kept; open· = begun-open region hd rs im c now f (h .kept) e }
+begin-by c now region s hd rs v im f h (Took n) e = h
+begin-by c now region s hd rs v im f h NoneDue e = h
+begin-by c now region s hd rs v im f h Same e = h
+begin-by c now region s hd rs v im f h Different e = h
+begin-by c now region s hd rs v im f h (Refused r) e = h
+
+pub inv-begin : (c : Bool) (now : ℤ) (region : List ℕ) (s : Option Writer) (hd : Loaded) (rs : List Source) (v : Option Update) (im : Image) → SFits w64 now → Inv (mk region s hd rs v im)
+    → Inv (next (mk region s hd rs v im) (begin c now))
+unfolding next begun
+inv-begin c now region s hd rs v im f h = rw (h .kept .loads) (begin-by c now region s hd rs v im f h (answerOf hd) refl)

@@ -1,0 +1,260 @@
+-- States stay within their ranges.
+use mathlib.Core.Path.{_≡_, refl, sym, ap, _∙_}
+use mathlib.Core.Bool.{Bool, true, false, not, _&&_, _||_, false≢true, and-false}
+use mathlib.Core.Logic.{_⊎_, inl, inr}
+use Prim.Native.Nat.{ℕ, suc, _+_, _/_, _%_, _≤_, _<_}
+use native.Mathlib.Omega.{arith}
+use borrow.Author.Tests.{eq-eqb, ne-eqb, eqb-true, eqb-false, le-leb, leb-true, ltb-true, ltb-false, lt-ltb, not-true}
+use lib.Dec.{leb, ltb, eqb}
+use Rattle.number.specs.Number.{pick}
+use Rattle.header.proofs.Laws.{and-left, and-right}
+use Rattle.writer.specs.declared.Operation.{Operation}
+use Rattle.writer.specs.declared.Operation.the-variants.{Erase, Write, Compare}
+use Rattle.writer.specs.declared.Stage.{Stage}
+use Rattle.writer.specs.declared.Stage.the-variants.{Idle, Due, Headed, Committed}
+use Rattle.writer.specs.declared.Taken.{Taken}
+use Rattle.writer.specs.declared.Tables.{Tables}
+use Rattle.writer.specs.declared.Writer.{Writer}
+use Rattle.writer.specs.State.{position, isDue, writeDue, dataDue, firstDue, stageOf, aligned, openOk, inRange, activeOk, takenOk, tablesOk, operationOk, stageOk}
+use Rattle.writer.proofs.Laws.{fill-fits, position-fits}
+use Rattle.lower.specs.Lower.{closedTaken}
+use Rattle.due.specs.Due.{emptied}
+
+pub range-of : (w : Writer) → activeOk (w .beginning .active) ≡ true → takenOk (w .taken) ≡ true → tablesOk (position (w .taken)) (w .tables) ≡ true
+    → stageOk (w .beginning .comparing) (w .taken) (w .stage) ≡ true → inRange w ≡ true
+unfolding inRange
+range-of w a t s o = rw (a, t, s, o)
+
+pub or-true : (a : Bool) → (a || true) ≡ true
+or-true true = refl
+or-true false = refl
+
+pub or-left : (a : Bool) → (a || false) ≡ true → a ≡ true
+or-left true e = refl
+or-left false e = e
+
+pub or-both : (a b : Bool) → (a || b) ≡ false → (a ≡ false) × (b ≡ false)
+or-both true b e = absurd (false≢true (sym e))
+or-both false b e = (refl, e)
+
+or-either : (a b : Bool) → (a || b) ≡ true → (a ≡ true) ⊎ (b ≡ true)
+or-either true b e = inl refl
+or-either false b e = inr e
+
+pub true-false : {A : Type 0} (a : Bool) → a ≡ true → a ≡ false → A
+true-false a e f = absurd (false≢true (sym f ∙ e))
+
+-- ---- what was taken
+
+pub open-aligned : (t : Taken) → takenOk t ≡ true → t .closed ≡ false → t .written % 256 ≡ 0
+unfolding takenOk
+open-aligned t e c =
+    let a = and-right (leb (position t) 487424) (aligned t) (and-right (leb (t .fill) 256) (leb (position t) 487424 && aligned t) e) in
+    let f : (eqb (t .written % 256) 0 || false) ≡ true = ap (λ (x : Bool). eqb (t .written % 256) 0 || (x && eqb (t .fill) 0)) (sym c) ∙ a in
+    eqb-true (t .written % 256) 0 (or-left (eqb (t .written % 256) 0) f)
+
+-- while the tail holds bytes the count is a multiple of 256
+pub tail-aligned : (t : Taken) → takenOk t ≡ true → 0 < t .fill → t .written % 256 ≡ 0
+unfolding takenOk
+tail-aligned t e p =
+    let a = and-right (leb (position t) 487424) (aligned t) (and-right (leb (t .fill) 256) (leb (position t) 487424 && aligned t) e) in
+    let z : eqb (t .fill) 0 ≡ false = ne-eqb (t .fill) 0 (λ h. omega arith) in
+    let f : (eqb (t .written % 256) 0 || false) ≡ true = ap (λ (x : Bool). eqb (t .written % 256) 0 || x) (sym (and-false (t .closed)) ∙ ap (λ (x : Bool). t .closed && x) (sym z)) ∙ a in
+    eqb-true (t .written % 256) 0 (or-left (eqb (t .written % 256) 0) f)
+
+pub due-fill : (t : Taken) → isDue t ≡ true → 0 < t .fill
+unfolding isDue
+due-fill t e = due-by (or-either (eqb (t .fill) 256) (t .closed && ltb 0 (t .fill)) e)
+  where
+    due-by : (eqb (t .fill) 256 ≡ true) ⊎ ((t .closed && ltb 0 (t .fill)) ≡ true) → 0 < t .fill
+    due-by (inl h) = omega (arith, eqb-true (t .fill) 256 h)
+    due-by (inr h) = ltb-true 0 (t .fill) (and-right (t .closed) (ltb 0 (t .fill)) h)
+
+pub taken-of : (t : Taken) → t .fill ≤ 256 → position t ≤ 487424 → aligned t ≡ true → takenOk t ≡ true
+unfolding takenOk
+taken-of t a b c = rw (le-leb (t .fill) 256 a, le-leb (position t) 487424 b, c)
+
+pub aligned-of : (t : Taken) → t .written % 256 ≡ 0 → aligned t ≡ true
+aligned-of t e = rw (eq-eqb (t .written % 256) 0 e)
+
+-- the tail was written or compared
+pub empty-taken : (t : Taken) (d : Bool) → takenOk t ≡ true → isDue t ≡ true → takenOk (emptied t d) ≡ true
+unfolding isDue
+empty-taken t d e f =
+    taken-of (emptied t d) (omega arith) (omega (arith, position-fits t e)) (empty-by (or-either (eqb (t .fill) 256) (t .closed && ltb 0 (t .fill)) f))
+  where
+    empty-by : (eqb (t .fill) 256 ≡ true) ⊎ ((t .closed && ltb 0 (t .fill)) ≡ true) → aligned (emptied t d) ≡ true
+    empty-by (inl h) =
+        let q = eqb-true (t .fill) 256 h in
+        let m = tail-aligned t e (omega arith) in
+        aligned-of (emptied t d) (omega arith)
+    empty-by (inr h) = rw (and-left (t .closed) (ltb 0 (t .fill)) h) (or-true (eqb ((t .written + t .fill) % 256) 0))
+
+pub empty-idle : (t : Taken) (d c : Bool) → stageOk c (emptied t d) Idle ≡ true
+unfolding stageOk isDue
+empty-idle t d c = rw (and-false (t .closed))
+
+-- ---- stages
+
+pub write-ok : (t : Taken) → operationOk false t (writeDue t) ≡ true
+unfolding operationOk
+write-ok t = rw (eq-eqb (t .written) (t .written) refl, eq-eqb (t .fill) (t .fill) refl)
+
+data-by : (t : Taken) (z : Bool) → eqb (t .written % 4096) 0 ≡ z → operationOk false t (pick z (Erase (t .written / 4096 + 1)) (writeDue t)) ≡ true
+unfolding operationOk
+data-by t true e = rw (e, eq-eqb (t .written / 4096 + 1) (t .written / 4096 + 1) refl) (or-true (eqb (t .written) 0 && eqb (t .written / 4096 + 1) 0))
+data-by t false e = rw (eq-eqb (t .written) (t .written) refl, eq-eqb (t .fill) (t .fill) refl)
+
+pub data-ok : (t : Taken) → operationOk false t (dataDue t) ≡ true
+unfolding dataDue
+data-ok t = data-by t (eqb (t .written % 4096) 0) refl
+
+first-by : (t : Taken) (c z : Bool) → eqb (t .written) 0 ≡ z → operationOk c t (pick c (Compare (t .written) (t .fill)) (pick z (Erase 0) (dataDue t))) ≡ true
+unfolding operationOk
+first-by t true z e = rw (eq-eqb (t .written) (t .written) refl, eq-eqb (t .fill) (t .fill) refl)
+first-by t false true e = rw e
+first-by t false false e = data-ok t
+
+stage-by : (c : Bool) (t : Taken) (d : Bool) → isDue t ≡ d → stageOk c t (pick d (Due (firstDue c t)) Idle) ≡ true
+unfolding stageOk firstDue
+stage-by c t true e = rw e (first-by t c (eqb (t .written) 0) refl)
+stage-by c t false e = rw e
+
+pub stage-ok : (c : Bool) (t : Taken) → stageOk c t (stageOf c t) ≡ true
+unfolding stageOf
+stage-ok c t = stage-by c t (isDue t) refl
+
+-- a stage that is due
+pub due-ok : (c : Bool) (t : Taken) (o : Operation) → stageOk c t (Due o) ≡ true → (isDue t ≡ true) × (operationOk c t o ≡ true)
+unfolding stageOk
+due-ok c t o e = (and-left (isDue t) (operationOk c t o) e, and-right (isDue t) (operationOk c t o) e)
+
+pub due-of : (c : Bool) (t : Taken) (o : Operation) → isDue t ≡ true → operationOk c t o ≡ true → stageOk c t (Due o) ≡ true
+unfolding stageOk
+due-of c t o d e = rw (d, e)
+
+pub erase-mode : (c : Bool) (t : Taken) (k : ℕ) → operationOk c t (Erase k) ≡ true → c ≡ false
+unfolding operationOk
+erase-mode true t k e = absurd (false≢true e)
+erase-mode false t k e = refl
+
+pub write-at : (t : Taken) (a n : ℕ) → operationOk false t (Write a n) ≡ true → (a ≡ t .written) × (n ≡ t .fill)
+unfolding operationOk
+write-at t a n e = (eqb-true a (t .written) (and-left (eqb a (t .written)) (eqb n (t .fill)) e), eqb-true n (t .fill) (and-right (eqb a (t .written)) (eqb n (t .fill)) e))
+
+pub erase-zero : (t : Taken) → operationOk false t (Erase 0) ≡ true → t .written ≡ 0
+unfolding operationOk
+erase-zero t e = zero-by (or-either (eqb (t .written) 0 && eqb 0 0) (eqb (t .written % 4096) 0 && eqb 0 (t .written / 4096 + 1)) e)
+  where
+    zero-by : ((eqb (t .written) 0 && eqb 0 0) ≡ true) ⊎ ((eqb (t .written % 4096) 0 && eqb 0 (t .written / 4096 + 1)) ≡ true) → t .written ≡ 0
+    zero-by (inl h) = eqb-true (t .written) 0 (and-left (eqb (t .written) 0) (eqb 0 0) h)
+    zero-by (inr h) =
+        let q = eqb-true 0 (t .written / 4096 + 1) (and-right (eqb (t .written % 4096) 0) (eqb 0 (t .written / 4096 + 1)) h) in
+        absurd (omega arith)
+
+pub erase-data : (t : Taken) (k : ℕ) → operationOk false t (Erase (suc k)) ≡ true → (t .written % 4096 ≡ 0) × (suc k ≡ t .written / 4096 + 1)
+unfolding operationOk
+erase-data t k e = data-of (or-either (eqb (t .written) 0 && eqb (suc k) 0) (eqb (t .written % 4096) 0 && eqb (suc k) (t .written / 4096 + 1)) e)
+  where
+    data-of : ((eqb (t .written) 0 && eqb (suc k) 0) ≡ true) ⊎ ((eqb (t .written % 4096) 0 && eqb (suc k) (t .written / 4096 + 1)) ≡ true) → (t .written % 4096 ≡ 0) × (suc k ≡ t .written / 4096 + 1)
+    data-of (inl h) =
+        let q = eqb-true (suc k) 0 (and-right (eqb (t .written) 0) (eqb (suc k) 0) h) in
+        absurd (omega arith)
+    data-of (inr h) = (
+      eqb-true (t .written % 4096) 0 (and-left (eqb (t .written % 4096) 0) (eqb (suc k) (t .written / 4096 + 1)) h),
+      eqb-true (suc k) (t .written / 4096 + 1) (and-right (eqb (t .written % 4096) 0) (eqb (suc k) (t .written / 4096 + 1)) h),
+    )
+
+pub headed-of : (c : Bool) (t : Taken) → c ≡ false → t .closed ≡ true → t .fill ≡ 0 → stageOk c t Headed ≡ true
+unfolding stageOk
+headed-of c t a b e = rw (a, b, e)
+
+pub record AtEnd (c : Bool) (t : Taken) : Type 0 where
+  pub writing : c ≡ false
+  pub closed : t .closed ≡ true
+  pub empty : t .fill ≡ 0
+
+at-end : (c : Bool) (t : Taken) → (not c && (t .closed && eqb (t .fill) 0)) ≡ true → AtEnd c t
+at-end c t e =
+    let r = and-right (not c) (t .closed && eqb (t .fill) 0) e in
+    record {
+      writing = not-true c (and-left (not c) (t .closed && eqb (t .fill) 0) e);
+      closed = and-left (t .closed) (eqb (t .fill) 0) r;
+      empty = eqb-true (t .fill) 0 (and-right (t .closed) (eqb (t .fill) 0) r);
+    }
+
+pub headed-end : (c : Bool) (t : Taken) → stageOk c t Headed ≡ true → AtEnd c t
+unfolding stageOk
+headed-end c t e = at-end c t e
+
+pub committed-end : (c : Bool) (t : Taken) → stageOk c t Committed ≡ true → AtEnd c t
+unfolding stageOk
+committed-end c t e = at-end c t e
+
+pub committed-of : (c : Bool) (t : Taken) → stageOk c t Headed ≡ true → stageOk c t Committed ≡ true
+unfolding stageOk
+committed-of c t e = e
+
+pub idle-due : (c : Bool) (t : Taken) → stageOk c t Idle ≡ true → isDue t ≡ false
+unfolding stageOk
+idle-due c t e = not-true (isDue t) e
+
+-- nothing is due after closing: the tail is empty
+pub closed-empty : (t : Taken) → t .closed ≡ true → isDue t ≡ false → t .fill ≡ 0
+unfolding isDue
+closed-empty t c e =
+    let f : ltb 0 (t .fill) ≡ false = ap (λ (x : Bool). x && ltb 0 (t .fill)) (sym c) ∙ or-both (eqb (t .fill) 256) (t .closed && ltb 0 (t .fill)) e .1 in
+    omega (arith, ltb-false 0 (t .fill) f)
+
+-- nothing is due: the tail has room
+pub idle-room : (t : Taken) → isDue t ≡ false → takenOk t ≡ true → t .fill < 256
+unfolding isDue
+idle-room t e k =
+    let ne : t .fill ≡ 256 → ⊥ = eqb-false (t .fill) 256 (or-both (eqb (t .fill) 256) (t .closed && ltb 0 (t .fill)) e .0) in
+    omega (arith, fill-fits t k)
+
+-- ---- closing
+
+close-operation : (c : Bool) (t : Taken) (o : Operation) → operationOk c t o ≡ true → operationOk c (closedTaken t) o ≡ true
+unfolding operationOk
+close-operation c t (Erase k) e = e
+close-operation c t (Write a n) e = e
+close-operation c t (Compare a n) e = e
+
+close-due : (t : Taken) → isDue t ≡ true → isDue (closedTaken t) ≡ true
+unfolding isDue
+close-due t e = rw (lt-ltb 0 (t .fill) (due-fill t e)) (or-true (eqb (t .fill) 256))
+
+pub close-stage : (c : Bool) (t : Taken) (st : Stage) → t .closed ≡ false → stageOk c t st ≡ true → isDue t ≡ true → stageOk c (closedTaken t) st ≡ true
+close-stage c t Idle n e d = true-false (isDue t) d (idle-due c t e)
+close-stage c t (Due o) n e d = due-of c (closedTaken t) o (close-due t d) (close-operation c t o (due-ok c t o e .1))
+close-stage c t Headed n e d = true-false (t .closed) (headed-end c t e .closed) n
+close-stage c t Committed n e d = true-false (t .closed) (committed-end c t e .closed) n
+
+pub close-taken : (t : Taken) → takenOk t ≡ true → t .closed ≡ false → takenOk (closedTaken t) ≡ true
+close-taken t e n = taken-of (closedTaken t) (fill-fits t e) (position-fits t e) (aligned-of (closedTaken t) (open-aligned t e n))
+
+-- ---- tables
+
+pub tables-none : (n : ℕ) (s : Tables) → s .count ≤ 3 → s .table ≡ 8 → tablesOk n s ≡ true
+unfolding tablesOk
+tables-none n s h e = rw (le-leb (s .count) 3 h, e)
+
+pub tables-open : (n : ℕ) (s : Tables) → s .count ≤ 3 → s .table ≤ 7 → 1 ≤ s .count → s .start ≤ n → tablesOk n s ≡ true
+unfolding tablesOk
+tables-open n s h a b c = rw (le-leb (s .count) 3 h, le-leb (s .table) 7 a, le-leb 1 (s .count) b, le-leb (s .start) n c) (or-true (eqb (s .table) 8))
+
+-- a later position
+pub tables-later : (n m : ℕ) (s : Tables) → n ≤ m → tablesOk n s ≡ true → tablesOk m s ≡ true
+unfolding tablesOk
+tables-later n m s h e =
+    rw (and-left (leb (s .count) 3) (eqb (s .table) 8 || openOk n s) e)
+    (later-by (or-either (eqb (s .table) 8) (openOk n s) (and-right (leb (s .count) 3) (eqb (s .table) 8 || openOk n s) e)))
+  where
+    later-by : (eqb (s .table) 8 ≡ true) ⊎ (openOk n s ≡ true) → (eqb (s .table) 8 || openOk m s) ≡ true
+    later-by (inl q) = rw q
+    later-by (inr q) =
+        let r = and-right (leb (s .table) 7) (leb 1 (s .count) && leb (s .start) n) q in
+        let k = leb-true (s .start) n (and-right (leb 1 (s .count)) (leb (s .start) n) r) in
+        rw (and-left (leb (s .table) 7) (leb 1 (s .count) && leb (s .start) n) q, and-left (leb 1 (s .count)) (leb (s .start) n) r, le-leb (s .start) m (omega arith))
+        (or-true (eqb (s .table) 8))

@@ -1,0 +1,216 @@
+-- Bytes and closing carry the invariant on.
+use mathlib.Core.Path.{_≡_, refl, sym, ap, _∙_, subst}
+use mathlib.Core.Bool.{Bool, true, false, not, _&&_}
+use mathlib.Core.Logic.{inl, inr}
+use mathlib.Core.List.{List, [], _++_, append-assoc}
+use Prim.Native.Nat.{ℕ, zero, suc, _+_, _≤_}
+use native.Mathlib.Omega.{arith}
+use borrow.Author.Tests.{leb-true, not-true}
+use lib.Dec.{leb}
+use lib.ListN.{length, take, drop, length-append, length-take}
+use lib.Seq.{sets, sets-eq, length-sets, drop-append-le, take-at, length-take-le}
+use Rattle.number.specs.Number.{pick}
+use Rattle.leaf.specs.Crc.{crc32}
+use Rattle.leaf.proofs.Checksum.{crc32-append}
+use Rattle.refusal.specs.declared.Refusal.the-variants.{Full, Turn}
+use Rattle.header.specs.Region.{capacity}
+use Rattle.header.proofs.Laws.{and-left, and-right}
+use Rattle.headerwrite.specs.Types.{Bytes}
+use Rattle.bank.specs.declared.Loaded.{Loaded}
+use Rattle.writer.specs.declared.Stage.{Stage}
+use Rattle.writer.specs.declared.Stage.the-variants.{Idle, Due, Headed, Committed}
+use Rattle.writer.specs.declared.Operation.the-variants.{Erase, Write, Compare}
+use Rattle.writer.specs.declared.Answer.the-variants.{Took}
+use Rattle.writer.specs.declared.Taken.{Taken}
+use Rattle.writer.specs.declared.Tables.{Tables}
+use Rattle.writer.specs.declared.Writer.{Writer}
+use Rattle.writer.specs.declared.Step.{Step}
+use Rattle.writer.specs.State.{position, isDue, stageOf, isOpen, inRange, tablesOk, stageOk, did, stays}
+use Rattle.writer.proofs.Laws.{Ranged, ranged, fill-fits, open-table}
+use Rattle.lower.specs.Lower.{mayTake, room, takenMore, withBytes, took, bytesStep, closedTaken, withClosed, closeStep}
+use Rattle.update.specs.Run.{bytes, close}
+use Rattle.powerloss.specs.History.{Update, recordsAfter, takes, updateAfter}
+use Rattle.powerloss.proofs.Bytes.{bytes-take, bytes-sets}
+use Rattle.powerloss.proofs.Inv.{Lies, Mode, Open}
+use Rattle.powerloss.proofs.Range.{range-of, open-aligned, taken-of, aligned-of, stage-ok, close-stage, close-taken, tables-later}
+use Rattle.powerloss.proofs.Quiet.{only-idle, mode-stage, takes-nil}
+
+-- the tail once bytes are put behind what it holds
+tail-more : (tail : List ℕ) (n : ℕ) (ys : List ℕ) → n + length ys ≤ length tail → take (n + length ys) (sets tail n ys) ≡ take n tail ++ ys
+tail-more tail n ys h =
+    let l : length (take n tail ++ ys) ≡ n + length ys = length-append (take n tail) ys ∙ omega (arith, length-take-le n tail (omega arith)) in
+    ap (take (n + length ys)) (sets-eq ys tail n h)
+    ∙ take-at (take n tail ++ ys) (drop (n + length ys) tail) (n + length ys) l
+
+idle-more : (t : Taken) (tail : List ℕ) (u : Update) (b ys : List ℕ) → t .fill + length ys ≤ length tail → Lies Idle t tail u b → Lies Idle (takenMore t ys) (sets tail (t .fill) ys) (takes ys u) b
+idle-more t tail u b ys l (inl f) =
+    inl (record { written = f .written; all = ap (λ (x : List ℕ). x ++ ys) (f .all) ∙ sym (tail-more tail (t .fill) ys l) })
+idle-more t tail u b ys l (inr h) =
+    let g = h .0 in
+    inr (
+      record {
+        front = g .front;
+        rest = g .rest;
+        gap = g .gap;
+        lies = g .lies;
+        count = g .count;
+        all =
+            ap (λ (x : List ℕ). x ++ ys) (g .all)
+            ∙ append-assoc (g .front) (take (t .fill) tail) ys
+            ∙ ap (λ (x : List ℕ). g .front ++ x) (sym (tail-more tail (t .fill) ys l));
+        ends = g .ends;
+        least = g .least;
+        most = g .most;
+      },
+      h .1,
+    )
+
+mode-more : (c : Bool) (st : Stage) (region : List ℕ) (hd active : Loaded) (t : Taken) (tail : List ℕ) (u : Update) (ys : List ℕ) → st ≡ Idle → t .fill + length ys ≤ length tail
+    → Mode c st region hd active t tail u → Mode c Idle region hd active (takenMore t ys) (sets tail (t .fill) ys) (takes ys u)
+mode-more true st region hd active t tail u ys e l h = tt
+mode-more false st region hd active t tail u ys e l h =
+    let g = subst (λ (s : Stage). Mode false s region hd active t tail u) e h in
+    (g .0, idle-more t tail u _ ys l (g .1))
+
+tables-crc : (n : ℕ) (s : Tables) (c : ℕ) → tablesOk n s ≡ true → tablesOk n (record { count = s .count; table = s .table; start = s .start; crc = c; begun = s .begun }) ≡ true
+unfolding tablesOk
+tables-crc n s c e = e
+
+close-lies : (t : Taken) (tail : List ℕ) (u : Update) (b : List ℕ) (st : Stage) → Lies st t tail u b → Lies st (closedTaken t) tail u b
+close-lies t tail u b Idle h = h
+close-lies t tail u b (Due (Erase zero)) h = h
+close-lies t tail u b (Due (Erase (suc j))) h = h
+close-lies t tail u b (Due (Write i j)) h = h
+close-lies t tail u b (Due (Compare i j)) h = h
+close-lies t tail u b Headed h = h
+close-lies t tail u b Committed h = h
+
+mode-closed : (c : Bool) (st : Stage) (region : List ℕ) (hd active : Loaded) (t : Taken) (tail : List ℕ) (u : Update) → Mode c st region hd active t tail u → Mode c st region hd active (closedTaken t) tail u
+mode-closed true st region hd active t tail u h = h
+mode-closed false st region hd active t tail u h = (h .0, close-lies t tail u _ st (h .1))
+
+module _ (region : List ℕ) (hd : Loaded) (w : Writer) (u : Update) (o : Open region hd w u) where
+  own : Ranged w
+  own = ranged w (o .tied .range)
+
+  may-open : mayTake w ≡ true → w .taken .closed ≡ false
+  may-open e = not-true (w .taken .closed) (and-right (inRange w) (not (w .taken .closed)) e)
+
+  -- ---- bytes
+
+  pub with-bytes : (ys : List ℕ) → Bytes ys → w .taken .closed ≡ false → isDue (w .taken) ≡ false → w .taken .fill + length ys ≤ 256 → position (w .taken) + length ys ≤ 487424
+      → Open region hd (withBytes w ys) (takes ys u)
+  unfolding withBytes
+  with-bytes ys b e d f p =
+      let t = w .taken in
+      let q = o .tied .noted in
+      let l = o .tied .counted .length· in
+      let st = only-idle (w .beginning .comparing) t (w .stage) (own .stage) e d in
+      let al = open-aligned t (own .taken) e in
+      record {
+        tied =
+            record {
+              range =
+                  range-of (withBytes w ys) (own .active) (taken-of (takenMore t ys) f (omega arith) (aligned-of (takenMore t ys) al))
+                  (tables-crc (position (takenMore t ys)) (w .tables) (crc32 (w .tables .crc) ys) (tables-later (position t) (position (takenMore t ys)) (w .tables) (omega arith) (own .tables)))
+                  (stage-ok (w .beginning .comparing) (takenMore t ys));
+              began = o .tied .began;
+              counted =
+                  record {
+                    length· = length-append (u .data·) ys ∙ omega arith;
+                    crc = ap (λ (c : ℕ). crc32 c ys) (o .tied .counted .crc) ∙ crc32-append 0 (u .data·) ys;
+                  };
+              noted =
+                  record {
+                    records = λ zs. ap (λ (x : List ℕ). recordsAfter x [] 0 0 (u .notes)) (append-assoc (u .data·) ys zs) ∙ q .records (ys ++ zs);
+                    proper = q .proper;
+                    sources = q .sources;
+                    table = λ g.
+                        let r = q .table g in
+                        let k = open-table (position t) (w .tables) (own .tables) g in
+                        record {
+                          table = r .table;
+                          start = r .start;
+                          crc =
+                              ap (λ (c : ℕ). crc32 c ys) (r .crc)
+                              ∙ crc32-append 0 (drop (w .tables .start) (u .data·)) ys
+                              ∙ ap (crc32 0) (sym (drop-append-le (w .tables .start) (u .data·) ys (omega (arith, k .2))));
+                        };
+                  };
+              tailed =
+                  record {
+                    length· = length-sets (w .tail) (t .fill) ys ∙ o .tied .tailed .length·;
+                    bytes = bytes-sets ys (w .tail) (t .fill) (o .tied .tailed .bytes) b;
+                  };
+            };
+        mode =
+            mode-stage (w .beginning .comparing) region hd (w .beginning .active) (takenMore t ys) (sets (w .tail) (t .fill) ys) (takes ys u) al
+            (mode-more (w .beginning .comparing) (w .stage) region hd (w .beginning .active) t (w .tail) u ys st (omega (arith, o .tied .tailed .length·)) (o .mode));
+      }
+
+  none-taken : Open region hd w (takes [] u)
+  none-taken = subst (Open region hd w) (sym (takes-nil u)) o
+
+  took-by : (xs : List ℕ) → Bytes xs → w .taken .closed ≡ false → position (w .taken) + length xs ≤ 487424 → (n : ℕ) → n ≡ room (w .taken) (length xs) → (d : Bool) → isDue (w .taken) ≡ d
+      → Open region hd (pick {A = Step} d (record { answer = Took 0; writer = w }) (record { answer = Took n; writer = withBytes w (take n xs) }) .writer)
+      (updateAfter (bytes xs) (pick {A = Step} d (record { answer = Took 0; writer = w }) (record { answer = Took n; writer = withBytes w (take n xs) }) .answer) u)
+  unfolding updateAfter
+  took-by xs b e p n r true d = none-taken
+  took-by xs b e p n r false d =
+      let l = length-take n xs in
+      let f = fill-fits (w .taken) (own .taken) in
+      with-bytes (take n xs) (bytes-take n xs b) e d (omega arith) (omega arith)
+
+  bytes-by : (xs : List ℕ) → Bytes xs → (a f : Bool) → mayTake w ≡ a → leb (position (w .taken) + length xs) capacity ≡ f
+      → Open region hd (pick a (pick f (took w xs) (stays w Full)) (stays w Turn) .writer) (updateAfter (bytes xs) (pick a (pick f (took w xs) (stays w Full)) (stays w Turn) .answer) u)
+  unfolding updateAfter took
+  bytes-by xs b true true e f =
+      took-by xs b (may-open e) (leb-true (position (w .taken) + length xs) 487424 f) (room (w .taken) (length xs)) refl (isDue (w .taken)) refl
+  bytes-by xs b true false e f = o
+  bytes-by xs b false f′ e f = o
+
+  pub on-bytes : (xs : List ℕ) → Bytes xs → Open region hd (bytesStep w xs .writer) (updateAfter (bytes xs) (bytesStep w xs .answer) u)
+  unfolding bytesStep
+  on-bytes xs b = bytes-by xs b (mayTake w) (leb (position (w .taken) + length xs) capacity) refl refl
+
+  -- ---- closing
+
+  closing-stage : w .taken .closed ≡ false → (d : Bool) → isDue (w .taken) ≡ d
+      → (stageOk (w .beginning .comparing) (closedTaken (w .taken)) (pick d (w .stage) (stageOf (w .beginning .comparing) (closedTaken (w .taken)))) ≡ true)
+      × Mode (w .beginning .comparing) (pick d (w .stage) (stageOf (w .beginning .comparing) (closedTaken (w .taken)))) region hd (w .beginning .active) (closedTaken (w .taken)) (w .tail) u
+  closing-stage e true d =
+      let c = w .beginning .comparing in
+      (close-stage c (w .taken) (w .stage) e (own .stage) d, mode-closed c (w .stage) region hd (w .beginning .active) (w .taken) (w .tail) u (o .mode))
+  closing-stage e false d =
+      let c = w .beginning .comparing in
+      let t = w .taken in
+      let st = only-idle c t (w .stage) (own .stage) e d in (
+        stage-ok c (closedTaken t),
+        mode-stage c region hd (w .beginning .active) (closedTaken t) (w .tail) u (open-aligned t (own .taken) e)
+            (subst (λ (s : Stage). Mode c s region hd (w .beginning .active) (closedTaken t) (w .tail) u) st (mode-closed c (w .stage) region hd (w .beginning .active) t (w .tail) u (o .mode))),
+      )
+
+  pub with-closed : w .taken .closed ≡ false → Open region hd (withClosed w) u
+  unfolding withClosed
+  with-closed e =
+      let c = closing-stage e (isDue (w .taken)) refl in
+      record {
+        tied =
+            record {
+              range = range-of (withClosed w) (own .active) (close-taken (w .taken) (own .taken) e) (own .tables) (c .0);
+              began = o .tied .began;
+              counted = record { length· = o .tied .counted .length·; crc = o .tied .counted .crc };
+              noted = o .tied .noted;
+              tailed = o .tied .tailed;
+            };
+        mode = c .1;
+      }
+
+  close-by : (a : Bool) → (mayTake w && not (isOpen (w .tables))) ≡ a → Open region hd (pick a (did (withClosed w)) (stays w Turn) .writer) (updateAfter close (pick a (did (withClosed w)) (stays w Turn) .answer) u)
+  unfolding updateAfter
+  close-by true e = with-closed (may-open (and-left (mayTake w) (not (isOpen (w .tables))) e))
+  close-by false e = o
+
+  pub on-close : Open region hd (closeStep w .writer) (updateAfter close (closeStep w .answer) u)
+  unfolding closeStep
+  on-close = close-by (mayTake w && not (isOpen (w .tables))) refl

@@ -1,0 +1,98 @@
+-- DEMAND 3. After every list of update calls of both layers, refused ones included, on any region of 983,040 bytes, with cuts anywhere
+-- between two flash operations:
+--   load answers G, the bank of the last update whose commit word was written, else the one found at the start, else none;
+--   G's records are those that the history noted;
+--   G's 491,520 bytes are as found or as the commit word left them;
+--   and its data are the bytes that the update took, in order.
+use mathlib.Core.Path.{_≡_}
+use mathlib.Core.Bool.{true, false}
+use mathlib.Core.List.{List, [], _∷_}
+use mathlib.Core.Option.{Option, none, some}
+use Prim.Native.Nat.{ℕ}
+use lib.ListN.{length}
+use mir.Syntax.{w64}
+use mir.Val.{SFits}
+use Rattle.bank.specs.Bank.{loaded}
+use Rattle.header.specs.Region.{regionSize, dataOf}
+use Rattle.headerwrite.specs.Types.{Bytes, Proper}
+use Rattle.writer.specs.declared.Writer.{Writer}
+use Rattle.writer.specs.declared.Answer.the-variants.{Done}
+use Rattle.writer.specs.State.{inRange, isDue}
+use Rattle.commit.specs.declared.Stamp.{Stamp}
+use Rattle.commit.specs.declared.Stamp.the-variants.{Given, Missing}
+use Rattle.update.specs.Run.{Lower, source, table, bytes, end, close, due, unchanged, commit, word}
+use Rattle.update.specs.Upper.{Upper, sourceWithDates, tableWithNames, row, tableEnd, closing, upperStep}
+use Rattle.powerloss.specs.Machine.{Event, begin, beginCut, call, cut, beginKey, beginKeyCut, upper, upperCut, Run, bankIn, recordsIn, found, nextAll}
+
+-- What the types of the region and the arguments say: bytes are below 256, a record's fields have their widths, times have 64 bits. Nothing else is
+-- asked.
+abbrev pub StampTyped : Stamp → Type 0
+StampTyped (Given t) = SFits w64 t
+StampTyped Missing = Unit {0}
+
+abbrev pub LowerTyped : Lower → Type 0
+LowerTyped (source s) = Proper s
+LowerTyped (bytes xs) = Bytes xs
+LowerTyped (commit stamp current) = StampTyped stamp
+LowerTyped (table t) = Unit {0}
+LowerTyped end = Unit {0}
+LowerTyped close = Unit {0}
+LowerTyped due = Unit {0}
+LowerTyped unchanged = Unit {0}
+LowerTyped word = Unit {0}
+
+abbrev pub UpperTyped : Upper → Type 0
+UpperTyped (sourceWithDates s) = Proper s
+UpperTyped (row texts lengths) = Bytes texts
+UpperTyped (tableWithNames t) = Unit {0}
+UpperTyped tableEnd = Unit {0}
+UpperTyped closing = Unit {0}
+
+abbrev pub Typed : Event → Type 0
+Typed (begin comparing now) = SFits w64 now
+Typed (beginCut comparing now) = SFits w64 now
+Typed (call c) = LowerTyped c
+Typed (cut c k) = LowerTyped c
+Typed (beginKey comparing now identity texts lengths) = SFits w64 now × Bytes identity × Bytes texts
+Typed (beginKeyCut comparing now identity texts lengths k) = SFits w64 now × Bytes identity × Bytes texts
+Typed (upper c) = UpperTyped c
+Typed (upperCut c k) = UpperTyped c
+
+abbrev pub AllTyped : List Event → Type 0
+AllTyped [] = Unit {0}
+AllTyped (e ∷ es) = Typed e × AllTyped es
+
+-- a bank's data are the bytes given
+abbrev pub Holds : List ℕ → Option (List ℕ) → Type 0
+Holds bank none = Unit {0}
+Holds bank (some xs) = dataOf bank (length xs) ≡ xs
+
+-- what holds of the board and the history
+pub record Survives (r : Run) : Type 0 where
+  pub loads : loaded (r .region) ≡ r .history .held
+  pub records : recordsIn (r .region) (r .history .held) ≡ r .history .records
+  pub image : bankIn (r .region) (r .history .held) ≡ r .image .bank
+  pub given : Holds (r .image .bank) (r .image .given)
+
+-- the claim (proofs/Uppers.antt: demand3)
+abbrev pub Demand3 : Type 0
+Demand3 = (region : List ℕ) (events : List Event) → length region ≡ regionSize → Bytes region → AllTyped events → Survives (nextAll (found region) events)
+
+-- "a state reached from a beginning is never past a range": 11 by range refuses no state that a list of calls reaches
+-- (proofs/States.antt: reached)
+abbrev pub Reached : Type 0
+Reached =
+    (region : List ℕ) (events : List Event) → length region ≡ regionSize → Bytes region → AllTyped events → (w : Writer) → nextAll (found region) events .state ≡ some w → inRange w ≡ true
+
+-- "each of its calls is a run of lower calls that ends with nothing due": an upper call that is answered, on a state that a list reaches
+-- (proofs/States.antt: settled)
+abbrev pub Settled : Type 0
+Settled =
+    (region : List ℕ) (events : List Event) → length region ≡ regionSize → Bytes region → AllTyped events → (w : Writer) → nextAll (found region) events .state ≡ some w
+    → (c : Upper) → UpperTyped c → upperStep (nextAll (found region) events .region) w c .answer ≡ Done → isDue (upperStep (nextAll (found region) events .region) w c .writer .taken) ≡ false
+
+-- all three: what `demand3_holds` promises
+pub record Claims : Type 0 where
+  pub survives : Demand3
+  pub reached : Reached
+  pub settled : Settled

@@ -1,0 +1,6 @@
+// Demand 3. The function does nothing: its contract is what is proved of the definitions (specs/Claim.antt).
+ghost use Rattle.powerloss.specs.Claim.{Claims};
+
+pub fn demand3_holds()
+    ensures { λ _. ⌜ Claims ⌝ }
+{}

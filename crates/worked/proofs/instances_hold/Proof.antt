@@ -1,0 +1,20 @@
+use Rattle.worked.proofs.Instances.{wholeUpdate, cutBeforeTheWord, cutAfterTheWord, wholeUpdateLoads, cutBeforeTheWordLoads, cutAfterTheWordLoads, fiveOperations, erasedHasNone, erasedUpdate}
+use Rattle.worked.proofs.instances_hold.Statement.{statement}
+use Rattle.worked.proofs.instances_hold.Tie as tie
+
+returns : tie.Need-returns
+returns c =
+    record {
+      whole = wholeUpdate;
+      cutBefore = cutBeforeTheWord;
+      cutAfter = cutAfterTheWord;
+      wholeLoads = wholeUpdateLoads;
+      cutBeforeLoads = cutBeforeTheWordLoads;
+      cutAfterLoads = cutAfterTheWordLoads;
+      operations = fiveOperations;
+      erased = erasedHasNone;
+      erasedUpdate = erasedUpdate;
+    }
+
+pub instances-hold-spec : {M : Type 1} → statement M
+instances-hold-spec = tie.close (tie.spec returns)

@@ -1,0 +1,154 @@
+-- Worked instances of DEMAND 3, on every region where load finds no bank: a small update, all its calls answered, and the same list with
+-- its last call, the commit word's, cut before its write and after it.
+use mathlib.Core.Path.{_≡_}
+use mathlib.Core.Bool.{true, false}
+use mathlib.Core.List.{List, [], _∷_, _++_, map}
+use Prim.Native.Nat.{ℕ}
+use lib.IntN.{pos}
+use lib.ListN.{length}
+use Rattle.leaf.specs.Crc.{crc32}
+use Rattle.record.specs.declared.Source.{Source}
+use Rattle.record.specs.Record.{noBlock}
+use Rattle.record.specs.Runs.{fill}
+use Rattle.header.specs.declared.Bank.{Bank}
+use Rattle.header.specs.Region.{regionSize}
+use Rattle.headerwrite.specs.Header.{headerBytes, blankWord, commitBytes}
+use Rattle.headerwrite.specs.Types.{Bytes}
+use Rattle.bank.specs.declared.Loaded.{Loaded}
+use Rattle.bank.specs.declared.Loaded.the-variants.{Found, Nothing}
+use Rattle.bank.specs.Bank.{loaded}
+use Rattle.flash.specs.Flash.{erase, write}
+use Rattle.lower.specs.Lower.{begun, emptied, withBlock}
+use Rattle.commit.specs.declared.Stamp.the-variants.{Missing}
+use Rattle.update.specs.Run.{Lower, source, table, bytes, end, close, due, commit, word, ranOps}
+use Rattle.powerloss.specs.Machine.{Event, begin, call, cut, found, nextAll}
+
+-- the key: one byte
+abbrev pub key : List ℕ
+key = 7 ∷ []
+
+-- the dates of the source, 20240101 and 20241231, four bytes each, the lowest first
+abbrev pub dates : List ℕ
+dates = 229 ∷ 214 ∷ 52 ∷ 1 ∷ 79 ∷ 219 ∷ 52 ∷ 1 ∷ []
+
+-- the source's Routes
+abbrev pub routes : List ℕ
+routes = 97 ∷ 44 ∷ 10 ∷ []
+
+-- the twelve data bytes
+abbrev pub data· : List ℕ
+data· = key ++ (dates ++ routes)
+
+-- the source: one table is present, updated at 0, the texts zeros
+abbrev pub theSource : Source
+theSource =
+    record {
+      start = 20240101;
+      end = 20241231;
+      present = 1;
+      updated = pos 0;
+      original = fill 0 16;
+      tables = fill noBlock 8;
+      stamp = fill 0 12;
+      idlen = 0;
+      id = fill 0 80;
+      validator = fill 0 66;
+    }
+
+-- the calls up to the commit word's
+abbrev pub callsBefore : List Lower
+callsBefore =
+    bytes key
+    ∷ source theSource
+    ∷ bytes dates
+    ∷ table 0
+    ∷ bytes routes
+    ∷ end
+    ∷ close
+    ∷ due
+    ∷ due
+    ∷ due
+    ∷ commit Missing true
+    ∷ []
+
+-- the list: a beginning in writing mode at time 0, those calls, and a last event
+unfoldable pub updateWith : Event → List Event
+updateWith last = begin false (pos 0) ∷ (map call callsBefore ++ (last ∷ []))
+
+-- the bank of that update: bank 0 of generation 0, twelve data bytes and their CRC, one source, a key of one byte, checked at 0
+abbrev pub updated : Bank
+updated =
+    record {
+      number = 0;
+      version = 3;
+      generation = 0;
+      length = 12;
+      crc = crc32 0 data·;
+      count = 1;
+      key = 1;
+      checked = pos 0;
+    }
+
+-- after the list with that last event, G is this
+abbrev pub Gives : Event → Loaded → Type 0
+Gives last held = (region : List ℕ) → length region ≡ regionSize → loaded region ≡ Nothing → nextAll (found region) (updateWith last) .history .held ≡ held
+
+-- the whole update commits
+abbrev pub WholeUpdate : Type 0
+WholeUpdate = Gives (call word) (Found updated)
+
+-- the power fails before the commit word's write: there is no bank, as at first
+abbrev pub CutBeforeTheWord : Type 0
+CutBeforeTheWord = Gives (cut word 0) Nothing
+
+-- the power fails after the commit word's write: the update is committed
+abbrev pub CutAfterTheWord : Type 0
+CutAfterTheWord = Gives (cut word 1) (Found updated)
+
+-- and so load answers, by DEMAND 3
+abbrev pub Loads : Event → Loaded → Type 0
+Loads last held = (region : List ℕ) → length region ≡ regionSize → Bytes region → loaded region ≡ Nothing → loaded (nextAll (found region) (updateWith last) .region) ≡ held
+
+abbrev pub WholeUpdateLoads : Type 0
+WholeUpdateLoads = Loads (call word) (Found updated)
+
+abbrev pub CutBeforeTheWordLoads : Type 0
+CutBeforeTheWordLoads = Loads (cut word 0) Nothing
+
+abbrev pub CutAfterTheWordLoads : Type 0
+CutAfterTheWordLoads = Loads (cut word 1) (Found updated)
+
+-- the record that commit writes: the source with the block of its Routes, three bytes from byte 9 on
+abbrev pub written : Source
+written = withBlock (emptied theSource) 0 (record { offset = 9; length = 3; crc = crc32 0 routes })
+
+-- The update's five flash operations: the erases of the header sector and of the first data sector, the data's write, the header's with
+-- 255 in the commit word, the commit word's.
+abbrev pub FiveOperations : Type 0
+FiveOperations =
+    (region : List ℕ) → length region ≡ regionSize → loaded region ≡ Nothing
+    → ranOps region (begun region false (pos 0) .writer) (callsBefore ++ (word ∷ []))
+    ≡ erase 0 ∷ erase 4096 ∷ write 4096 data· ∷ write 0 (headerBytes updated (written ∷ []) blankWord) ∷ write 44 commitBytes ∷ []
+
+-- There is such a region: load finds no bank on an erased one.
+abbrev pub ErasedHasNone : Type 0
+ErasedHasNone = loaded (fill 255 regionSize) ≡ Nothing
+
+-- So on an erased region load gives the bank after the whole update, none after the cut before the commit word, the bank after the other cut.
+abbrev pub onErased : Event → Loaded
+onErased last = loaded (nextAll (found (fill 255 regionSize)) (updateWith last) .region)
+
+abbrev pub ErasedUpdate : Type 0
+ErasedUpdate = (onErased (call word) ≡ Found updated) × (onErased (cut word 0) ≡ Nothing) × (onErased (cut word 1) ≡ Found updated)
+
+-- all of them: what `instances_hold` promises
+pub record Instances : Type 0 where
+  pub whole : WholeUpdate
+  pub cutBefore : CutBeforeTheWord
+  pub cutAfter : CutAfterTheWord
+  pub wholeLoads : WholeUpdateLoads
+  pub cutBeforeLoads : CutBeforeTheWordLoads
+  pub cutAfterLoads : CutAfterTheWordLoads
+  pub operations : FiveOperations
+  pub erased : ErasedHasNone
+  pub erasedUpdate : ErasedUpdate
