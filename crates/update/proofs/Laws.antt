@@ -1,11 +1,11 @@
 -- Runs of lower calls, and the upper calls case by case.
 use mathlib.Core.Path.{_≡_, refl, sym, ap, _∙_}
-use mathlib.Core.Bool.{Bool, true, false, not, _&&_, _||_}
+use mathlib.Core.Bool.{Bool, true, false, not, _&&_}
 use mathlib.Core.List.{List, [], _∷_, _++_}
 use mathlib.Core.Option.{Option, none, some}
 use Prim.Native.Nat.{ℕ, zero, suc, _+_, _*_, _-_, _/_, _%_, _≤_, _<_}
 use native.Mathlib.Omega.{arith}
-use lib.Dec.{leb, eqb, ltb}
+use lib.Dec.{leb, eqb}
 use lib.IntN.{ℤ}
 use lib.ListN.{length, take, drop, replicate, length-drop, drop-of-length-le}
 use lib.Seq.{take-all, take-at, drop-drop}
@@ -39,10 +39,10 @@ use Rattle.writer.specs.declared.Writer.{Writer}
 use Rattle.writer.specs.declared.Step.{Step}
 use Rattle.writer.specs.State.{did, stays, position, isOpen, inRange, target}
 use Rattle.writer.proofs.Laws.{ranged, position-fits, open-table}
-use Rattle.lower.specs.Lower.{started, begun, mayTake, mayBegin, endStep, closeStep, sourceStep, tableStep, bytesStep}
+use Rattle.lower.specs.Lower.{started, begun, mayTake, bytesStep}
 use Rattle.due.specs.Due.{dueStep, dueOps, dueRegion, stepOf, opsOf}
 use Rattle.update.specs.Run.{Lower, source, table, bytes, end, close, due, lowerStep, lowerOps, lowerRegion, ranWriter, ranRegion}
-use Rattle.update.specs.Upper.{Upper, sourceWithDates, tableWithNames, row, tableEnd, closing, dues, feed, taken, lowerOf, runOf, argumentOk, orderOk, rowOk, sourceFits, allFits, refusalOf, runIf, upperRun, answered, upperStep, upperRegion, beginRefusal, keyBytes, beginRun, beganWith, beginStep, beginRegion}
+use Rattle.update.specs.Upper.{Upper, dues, feed, taken, runOf, argumentOk, orderOk, rowOk, allFits, refusalOf, runIf, upperRun, answered, upperStep, upperRegion, beginRefusal, keyBytes, beginRun, beganWith, beginStep, beginRegion}
 
 -- ---- what is due
 

@@ -1,7 +1,7 @@
 // The upper layer: each call tests that all fits before the first byte, and is a run of lower calls that ends with nothing due.
 ghost use mathlib.Core.Path.{_≡_};
-ghost use mathlib.Core.Bool.{true};
-ghost use Prim.Native.Nat.{_+_, _≤_};
+ghost use mathlib.Core.Bool.{true, false};
+ghost use Prim.Native.Nat.{_+_, _-_, _≤_, min};
 ghost use mathlib.Core.List.{_∷_, _++_};
 ghost use lib.Dec.{leb};
 ghost use lib.ListN.{length, take, drop};
@@ -31,6 +31,7 @@ use writer::Taken;
 use writer::Writer;
 use writer::did;
 use writer::in_range;
+use writer::is_due;
 use writer::stays;
 
 // What is due, of which there are at most three in a row.
@@ -62,8 +63,8 @@ struct Fed {
     writer: Writer,
 }
 
-// Feeds the first bytes.
-fn feed_some(w: Writer, region: &mut [u8], bytes: &[u8]) -> Fed
+// Feeds the first byte.
+fn feed_one(w: Writer, region: &mut [u8], bytes: &[u8]) -> Fed
     requires { ⌜ 1 ≤ length (now bytes) ⌝ }
     ensures { λ r. ⌜ (1 ≤ r .n) × (r .n ≤ length (now (bytes .entry))) × (ranWriter (now (region .exit)) (r .writer) (Upper.feed (drop (r .n) (now (bytes .entry)))) ≡ ranWriter (now (region .entry)) w (Upper.feed (now (bytes .entry)))) × (ranRegion (now (region .exit)) (r .writer) (Upper.feed (drop (r .n) (now (bytes .entry)))) ≡ ranRegion (now (region .entry)) w (Upper.feed (now (bytes .entry)))) ⌝ }
 {
@@ -71,6 +72,40 @@ fn feed_some(w: Writer, region: &mut [u8], bytes: &[u8]) -> Fed
     let s = lower::bytes(w, one);
     let v = settle(s.writer, region);
     Fed { n: 1, writer: v }
+}
+
+// How many of n bytes the tail has room for.
+fn room(t: Taken, n: usize) -> usize
+    requires { ⌜ t .fill ≤ 256 ⌝ }
+    ensures { λ r. ⌜ r ≡ min n (256 - t .fill) ⌝ }
+{
+    let free = (256 - t.fill) as usize;
+    if n < free { n } else { free }
+}
+
+// Feeds as many bytes as the tail has room for.
+fn feed_chunk(w: Writer, region: &mut [u8], bytes: &[u8]) -> Fed
+    requires { ⌜ (Lower.mayTake w ≡ true) × (State.isDue (w .taken) ≡ false) × (State.position (w .taken) + length (now bytes) ≤ 487424) × (1 ≤ length (now bytes)) ⌝ }
+    ensures { λ r. ⌜ (1 ≤ r .n) × (r .n ≤ length (now (bytes .entry))) × (ranWriter (now (region .exit)) (r .writer) (Upper.feed (drop (r .n) (now (bytes .entry)))) ≡ ranWriter (now (region .entry)) w (Upper.feed (now (bytes .entry)))) × (ranRegion (now (region .exit)) (r .writer) (Upper.feed (drop (r .n) (now (bytes .entry)))) ≡ ranRegion (now (region .entry)) w (Upper.feed (now (bytes .entry)))) ⌝ }
+{
+    let n = room(w.taken, bytes.len());
+    let s = lower::bytes(w, bytes);
+    let v = settle(s.writer, region);
+    Fed { n, writer: v }
+}
+
+// Feeds the first bytes: as many as the tail has room for, or one.
+fn feed_some(w: Writer, region: &mut [u8], bytes: &[u8]) -> Fed
+    requires { ⌜ 1 ≤ length (now bytes) ⌝ }
+    ensures { λ r. ⌜ (1 ≤ r .n) × (r .n ≤ length (now (bytes .entry))) × (ranWriter (now (region .exit)) (r .writer) (Upper.feed (drop (r .n) (now (bytes .entry)))) ≡ ranWriter (now (region .entry)) w (Upper.feed (now (bytes .entry)))) × (ranRegion (now (region .exit)) (r .writer) (Upper.feed (drop (r .n) (now (bytes .entry)))) ≡ ranRegion (now (region .entry)) w (Upper.feed (now (bytes .entry)))) ⌝ }
+{
+    let t = w.taken;
+    if may_take(w) & !is_due(t) {
+        if bytes.len() <= 487424 - (t.written + t.fill) as usize {
+            return feed_chunk(w, region, bytes);
+        }
+    }
+    feed_one(w, region, bytes)
 }
 
 // Feeds bytes, and does what is due after each.
@@ -114,8 +149,8 @@ fn run_end(w: Writer, region: &mut [u8]) -> Writer
     ensures { λ r. ⌜ (r ≡ ranWriter (now (region .entry)) w (Upper.runOf Upper.tableEnd)) × (now (region .exit) ≡ ranRegion (now (region .entry)) w (Upper.runOf Upper.tableEnd)) ⌝ }
 {
     let v = settle(w, region);
-    let s = lower::end(v);
-    settle(s.writer, region)
+    let e = lower::end(v);
+    settle(e.writer, region)
 }
 
 // Ends the open table.
@@ -137,8 +172,8 @@ fn run_close(w: Writer, region: &mut [u8]) -> Writer
     ensures { λ r. ⌜ (r ≡ ranWriter (now (region .entry)) w (Upper.runOf Upper.closing)) × (now (region .exit) ≡ ranRegion (now (region .entry)) w (Upper.runOf Upper.closing)) ⌝ }
 {
     let v = settle(w, region);
-    let s = lower::close(v);
-    settle(s.writer, region)
+    let k = lower::close(v);
+    settle(k.writer, region)
 }
 
 // Closes the update.
