@@ -1,12 +1,12 @@
 -- What a turn of a loop that copies does to what is left to copy.
-use Prim.Native.Nat.{ℕ, _+_, _-_, _≤_, _<_}
+use Prim.Native.Nat.{ℕ, suc, _+_, _-_, _≤_, _<_}
 use native.Mathlib.Omega.{arith}
 use native.Mathlib.Decide.{decLt}
 use native.Mathlib.Numerals.{add-one}
 use mathlib.Core.Path.{_≡_, refl, sym, ap, _∙_}
-use mathlib.Core.Bool.{true, false}
-use mathlib.Core.List.{List, [], _∷_}
-use lib.ListN.{length, drop, getD, set, drop-of-length-le, length-drop, length-append}
+use mathlib.Core.Bool.{Bool, true, false}
+use mathlib.Core.List.{List, [], _∷_, _++_}
+use lib.ListN.{length, take, drop, getD, set, drop-of-length-le, length-drop, length-append}
 use lib.Seq.{sets, drop-cons, drop-drop}
 use Rattle.csv.specs.Csv.{isText, lf, Record, last, more}
 use Rattle.csv.specs.Read.{plainValue, plainRest, Got, got, bad, push, inner, fieldAt, Row, row, malformed, values}
@@ -14,7 +14,9 @@ use Rattle.csv.proofs.Grammar.{field-complete, comma-stops, lf-stops, sound}
 use Rattle.csv.proofs.Laws.{sets-append}
 use Rattle.csv.proofs.Places.{field-place}
 use Rattle.rowread.specs.Stored.{valuesOf, joined, endsOf}
-use Rattle.rowread.specs.Steps.{valueOf, restOf, IsRow}
+use Rattle.number.specs.Number.{pick}
+use Rattle.rowread.specs.Steps.{valueOf, restOf, IsRow, isStop, lineOf}
+use Rattle.rowread.proofs.Lines.{no-quote, line-take}
 use Rattle.rowread.proofs.Laws.{inner-out, inner-byte, inner-twice, inner-close, past, plain-all, field-plain}
 
 -- ---- a value without quotes
@@ -38,6 +40,14 @@ plain-place t from h e =
     sym (length-append (plainValue (drop from t)) (plainRest (drop from t))) ∙ ap length (plain-all (drop from t)) ∙ length-drop from t in
     omega (arith, d, ap (λ (g : Got). length (restOf g)) (field-plain t from e))
 
+-- ---- a part of t
+
+pub part-next : (t : List ℕ) (i end : ℕ) → i < end → end ≤ length t → take (end - i) (drop i t) ≡ getD t i 0 ∷ take (end - (i + 1)) (drop (i + 1) t)
+part-next t i end h g = let m : end - i ≡ suc (end - (i + 1)) = omega arith in rw (m, add-one i, drop-cons t i 0 (omega arith))
+
+pub part-none : (t : List ℕ) (i end : ℕ) → end ≤ i → take (end - i) (drop i t) ≡ []
+part-none t i end h = let m : end - i ≡ 0 = omega arith in rw m
+
 -- ---- a quoted value
 
 -- g is a value with r behind it
@@ -53,6 +63,42 @@ not-bad r p = let z : _≡_ {A = ℕ} 0 1 = cc in omega arith
 push-has : (b : ℕ) (g : Got) (r : List ℕ) → Has (push b g) r → Has g r × (valueOf (push b g) ≡ b ∷ valueOf g)
 push-has b bad r p = absurd (not-bad r p)
 push-has b (got v s) r p = let e : s ≡ r = cc in (ap (got v) e, refl)
+
+run-has : (bs r : List ℕ) → Has (inner bs) r → Has (inner (drop (length (lineOf bs)) bs)) r × (valueOf (inner bs) ≡ lineOf bs ++ valueOf (inner (drop (length (lineOf bs)) bs)))
+unfolding inner lineOf
+run-has [] r h = (h, refl)
+run-has (b ∷ bs) r h = go (isStop b) refl (run-has bs r)
+  where
+    go : (q : Bool) → isStop b ≡ q → (Has (inner bs) r → Has (inner (drop (length (lineOf bs)) bs)) r × (valueOf (inner bs) ≡ lineOf bs ++ valueOf (inner (drop (length (lineOf bs)) bs))))
+        → Has (inner (drop (length (pick q [] (b ∷ lineOf bs))) (b ∷ bs))) r × (valueOf (inner (b ∷ bs)) ≡ pick q [] (b ∷ lineOf bs) ++ valueOf (inner (drop (length (pick q [] (b ∷ lineOf bs))) (b ∷ bs))))
+    go true s f = (h, refl)
+    go false s f =
+        let p : inner (b ∷ bs) ≡ push b (inner bs) = simp (no-quote b s) in
+        let w = push-has b (inner bs) r (has-same (inner (b ∷ bs)) (push b (inner bs)) r p h) in
+        let x = f (w .0) in
+        (x .0, ap valueOf p ∙ w .1 ∙ ap (λ (l : List ℕ). b ∷ l) (x .1))
+
+-- a run without stops, from p to e
+module _ (t : List ℕ) (p e : ℕ) (r : List ℕ) (h : Has (inner (drop p t)) r) (q : e ≡ p + length (lineOf (drop p t))) where
+  run-end : drop (length (lineOf (drop p t))) (drop p t) ≡ drop e t
+  run-end = drop-drop (length (lineOf (drop p t))) p t ∙ ap (λ (x : ℕ). drop x t) (sym q)
+
+  run-part : take (e - p) (drop p t) ≡ lineOf (drop p t)
+  run-part = let m : e - p ≡ length (lineOf (drop p t)) = omega (arith, q) in rw m (line-take (drop p t))
+
+  pub run-left : Has (inner (drop e t)) r
+  run-left = has-same (inner (drop (length (lineOf (drop p t))) (drop p t))) (inner (drop e t)) r (ap inner run-end) (run-has (drop p t) r h .0)
+
+  run-value : valueOf (inner (drop p t)) ≡ take (e - p) (drop p t) ++ valueOf (inner (drop e t))
+  run-value = run-has (drop p t) r h .1 ∙ ap (λ (l : List ℕ). lineOf (drop p t) ++ valueOf (inner l)) run-end ∙ ap (λ (l : List ℕ). l ++ valueOf (inner (drop e t))) (sym run-part)
+
+  pub run-size : length (valueOf (inner (drop p t))) ≡ (e - p) + length (valueOf (inner (drop e t)))
+  run-size = ap length run-value ∙ length-append (take (e - p) (drop p t)) (valueOf (inner (drop e t))) ∙ omega (arith, ap length run-part, q)
+
+  pub run-sets : (out : List ℕ) (n : ℕ) → sets out n (valueOf (inner (drop p t))) ≡ sets (sets out n (take (e - p) (drop p t))) (n + (e - p)) (valueOf (inner (drop e t)))
+  run-sets out n =
+      let m : length (take (e - p) (drop p t)) ≡ e - p = omega (arith, ap length run-part, q) in
+      ap (sets out n) run-value ∙ sets-append out n (take (e - p) (drop p t)) (valueOf (inner (drop e t))) ∙ ap (λ (x : ℕ). sets (sets out n (take (e - p) (drop p t))) (n + x) (valueOf (inner (drop e t)))) m
 
 module _ (t : List ℕ) (p : ℕ) (r : List ℕ) (h : Has (inner (drop p t)) r) where
   pub copy-inside : p < length t

@@ -1,5 +1,6 @@
 -- Rows without quotes: what a turn of their loops does, and that they are rows.
-use Prim.Native.Nat.{ℕ, zero, suc, _+_, _-_, _≤_, _<_}
+use Prim.Native.Nat.{ℕ, zero, suc, _+_, _-_, _≤_, _<_, min}
+use native.Mathlib.Decide.{decLt}
 use native.Mathlib.Omega.{arith}
 use native.Mathlib.Numerals.{add-one}
 use native.Mathlib.Nat.{add-zero}
@@ -7,35 +8,17 @@ use mathlib.Core.Bool.{Bool, true, false, not, _||_}
 use mathlib.Core.Path.{_≡_, refl, sym, ap, _∙_}
 use mathlib.Core.List.{List, [], _∷_, _++_}
 use lib.Dec.{eqb}
-use lib.ListN.{length, take, drop, getD, drop-of-length-le, length-drop}
-use lib.Seq.{drop-cons, drop-drop}
+use lib.ListN.{length, take, drop, getD, drop-of-length-le, length-drop, length-take}
+use lib.Seq.{drop-cons, drop-drop, take-all}
 use borrow.Author.Tests.{eq-eqb, ne-eqb, eqb-true}
 use Rattle.number.specs.Number.{pick}
 use Rattle.csv.specs.Csv.{isText, NonEscaped, none, text, Field, nonEscaped, lf, Record, last, more}
-use Rattle.csv.specs.Read.{Row, row, values}
+use Rattle.csv.specs.Read.{Got, push, inner, Row, row, values}
 use Rattle.csv.proofs.Grammar.{complete}
 use Rattle.rowread.specs.declared.Scan.the-variants.{Whole}
 use Rattle.rowread.specs.Stored.{valuesOf, joined, endsOf}
-use Rattle.rowread.specs.Steps.{scanOf, isStop, anyStop, lineOf, commasIn, textIn, marksIn, IsLine}
-use Rattle.rowread.proofs.Laws.{past}
-
--- ---- whether there is a stop
-
-or-assoc : (a b c : Bool) → (a || b) || c ≡ a || (b || c)
-or-assoc true b c = refl
-or-assoc false b c = refl
-
-or-none : (a : Bool) → a ≡ a || false
-or-none true = refl
-or-none false = refl
-
-pub any-turn : (v : List ℕ) (i : ℕ) (found : Bool) → i < length v → (found || isStop (getD v i 0)) || anyStop (drop (i + 1) v) ≡ found || anyStop (drop i v)
-unfolding anyStop
-any-turn v i found h = rw (add-one i, drop-cons v i 0 h) (or-assoc found (isStop (getD v i 0)) (anyStop (drop (suc i) v)))
-
-pub any-out : (v : List ℕ) (i : ℕ) (found : Bool) → length v ≤ i → found ≡ found || anyStop (drop i v)
-unfolding anyStop
-any-out v i found h = rw (drop-of-length-le v h) (or-none found)
+use Rattle.rowread.specs.Steps.{pieceOf, scanOf, isStop, FirstStop, lineOf, commasIn, textIn, marksIn, IsLine}
+use Rattle.rowread.proofs.Laws.{past, add, add-push}
 
 -- ---- the bytes before the first one
 
@@ -55,15 +38,72 @@ neither : (a b : Bool) → (a || b) ≡ false → (a ≡ false) × (b ≡ false)
 neither true b e = absurd (let z : _≡_ {A = ℕ} 0 1 = cc in omega arith)
 neither false b e = (refl, e)
 
--- none among the first n
-pub line-chunk : (n : ℕ) (t : List ℕ) → n ≤ length t → anyStop (take n t) ≡ false → length (lineOf t) ≡ n + length (lineOf (drop n t))
-unfolding anyStop lineOf
-line-chunk zero t h e = omega arith
-line-chunk (suc n) [] h e = absurd (omega arith)
-line-chunk (suc n) (b ∷ t) h e =
-    let p = neither (isStop b) (anyStop (take n t)) e in
-    let q = line-chunk n t (omega arith) (p .1) in
-    simp (p .0) (omega (arith, q))
+-- the first one stands among the first n
+pub line-in : (n : ℕ) (t : List ℕ) → length (lineOf (take n t)) < length (take n t) → length (lineOf t) ≡ length (lineOf (take n t))
+unfolding lineOf
+line-in zero t h = absurd (omega arith)
+line-in (suc n) [] h = absurd (omega arith)
+line-in (suc n) (b ∷ t) h = go (isStop b) h (line-in n t)
+  where
+    go : (q : Bool) → length (pick q [] (b ∷ lineOf (take n t))) < suc (length (take n t)) → (length (lineOf (take n t)) < length (take n t) → length (lineOf t) ≡ length (lineOf (take n t)))
+        → length (pick q [] (b ∷ lineOf t)) ≡ length (pick q [] (b ∷ lineOf (take n t)))
+    go true h f = refl
+    go false h f = ap suc (f (omega arith))
+
+-- none stands there
+line-none : (n : ℕ) (t : List ℕ) → n ≤ length t → length (lineOf (take n t)) ≡ length (take n t) → length (lineOf t) ≡ n + length (lineOf (drop n t))
+unfolding lineOf
+line-none zero t h e = omega arith
+line-none (suc n) [] h e = absurd (omega arith)
+line-none (suc n) (b ∷ t) h e = go (isStop b) e (line-none n t (omega arith))
+  where
+    go : (q : Bool) → length (pick q [] (b ∷ lineOf (take n t))) ≡ suc (length (take n t)) → (length (lineOf (take n t)) ≡ length (take n t) → length (lineOf t) ≡ n + length (lineOf (drop n t)))
+        → length (pick q [] (b ∷ lineOf t)) ≡ suc n + length (lineOf (drop n t))
+    go true e f = absurd (omega arith)
+    go false e f = let p = f (omega arith) in omega (arith, p)
+
+pub stop-none : (t : List ℕ) (i end : ℕ) → i ≤ end → end ≤ length t → length (lineOf (take (end - i) (drop i t))) ≡ length (take (end - i) (drop i t)) → i + length (lineOf (drop i t)) ≡ end + length (lineOf (drop end t))
+stop-none t i end h g e =
+    let m : i + (end - i) ≡ end = omega arith in
+    let q = line-none (end - i) (drop i t) (omega (arith, length-drop i t)) e in
+    let d : length (lineOf (drop (end - i) (drop i t))) ≡ length (lineOf (drop end t)) = rw (drop-drop (end - i) i t, m) in
+    omega (arith, q, d)
+
+-- n is the least place of a stop before i, 32 for none
+abbrev pub Least : List ℕ → ℕ → ℕ → Type 0
+Least v i n = (n ≤ 32) × (n ≡ 32 → i + length (lineOf (drop i v)) ≡ length (lineOf v)) × (n < 32 → (n ≡ length (lineOf v)) × (n < i))
+
+pub least-start : (v : List ℕ) → Least v 0 32
+least-start v = (omega arith, λ e. omega arith, λ h. absurd (omega arith))
+
+pub least-turn : (v : List ℕ) (i n m : ℕ) → i < length v → length v ≤ 32 → m ≡ min (pick (isStop (getD v i 0)) i 32) n → Least v i n → Least v (i + 1) m
+least-turn v i n m h k e l = go (isStop (getD v i 0)) refl (decLt n 32) e
+  where
+    go : (q : Bool) → isStop (getD v i 0) ≡ q → Dec (n < 32) → m ≡ min (pick q i 32) n → Least v (i + 1) m
+    go true s (yes d) e = let p = l .2 d in (omega arith, λ z. absurd (omega (arith, p .1)), λ z. (omega (arith, p .0, p .1), omega (arith, p .1)))
+    go true s (no d) e = let p = l .1 (omega (arith, l .0)) in let w = line-stop v i h s in (omega arith, λ z. absurd (omega (arith, l .0)), λ z. (omega (arith, p, w, l .0), omega (arith, l .0)))
+    go false s (yes d) e = let p = l .2 d in (omega arith, λ z. absurd (omega (arith, p .1)), λ z. (omega (arith, p .0, p .1), omega (arith, p .1)))
+    go false s (no d) e = let p = l .1 (omega (arith, l .0)) in let w = line-turn v i h s in (omega (arith, l .0), λ z. omega (arith, p, w), λ z. absurd (omega (arith, l .0)))
+
+pub least-end : (v : List ℕ) (i n : ℕ) → i ≤ length v → length v ≤ i → Least v i n → FirstStop v n
+least-end v i n h k l =
+    let w = line-out v i k in
+    (l .0, λ e. omega (arith, l .1 e, w), λ d. let p = l .2 d in (p .0, omega (arith, p .1)))
+
+pub line-size : (t : List ℕ) → length (lineOf t) ≤ length t
+unfolding lineOf
+line-size [] = omega arith
+line-size (b ∷ t) = go (isStop b) (line-size t)
+  where
+    go : (q : Bool) → length (lineOf t) ≤ length t → length (pick q [] (b ∷ lineOf t)) ≤ suc (length t)
+    go true e = omega arith
+    go false e = omega (arith, e)
+
+pub stop-inside : (t : List ℕ) (i e : ℕ) → i ≤ length t → e ≡ i + length (lineOf (drop i t)) → (i ≤ e) × (e ≤ length t)
+stop-inside t i e h q = let s = line-size (drop i t) in (omega (arith, q), omega (arith, q, s, length-drop i t))
+
+pub stop-less : (t : List ℕ) (i e : ℕ) → i ≤ length t → e ≡ i + length (lineOf (drop i t)) → (e ≡ length t → ⊥) → e < length t
+stop-less t i e h q n = let s = stop-inside t i e h q in omega (arith, s .1, n)
 
 -- ---- commas, and what is between them
 
@@ -112,6 +152,28 @@ text-size (b ∷ v) = go (eqb b 44) (text-size v)
     go : (q : Bool) → length (textIn v) + commasIn v ≡ length v → length (pick q (textIn v) (b ∷ textIn v)) + (pick q 1 0 + commasIn v) ≡ suc (length v)
     go true e = omega (arith, e)
     go false e = omega (arith, e)
+
+-- commas among the first bytes and the others
+commas-part : (n : ℕ) (v : List ℕ) → commasIn v ≡ commasIn (take n v) + commasIn (drop n v)
+unfolding commasIn
+commas-part zero v = omega arith
+commas-part (suc n) [] = omega arith
+commas-part (suc n) (b ∷ v) = omega (arith, commas-part n v)
+
+pub commas-turn : (v : List ℕ) (i n q : ℕ) → q ≡ commasIn (take (i + 64 - i) (drop i v)) → n + commasIn (drop i v) ≡ commasIn v → n + q + commasIn (drop (i + 64) v) ≡ commasIn v
+commas-turn v i n q e f =
+    let m : i + 64 - i ≡ 64 = omega arith in
+    let a : q ≡ commasIn (take 64 (drop i v)) = rw m at e in
+    let d : commasIn (drop 64 (drop i v)) ≡ commasIn (drop (i + 64) v) = rw (drop-drop 64 i v) in
+    omega (arith, a, d, f, commas-part 64 (drop i v))
+
+pub commas-end : (v : List ℕ) (i n q : ℕ) → q ≡ commasIn (take (length v - i) (drop i v)) → n + commasIn (drop i v) ≡ commasIn v → n + q ≡ commasIn v
+commas-end v i n q e f =
+    let a : q ≡ commasIn (drop i v) = rw (take-all (length v - i) (drop i v) (omega (arith, length-drop i v))) at e in
+    omega (arith, a, f)
+
+pub part-length : (v : List ℕ) (i k : ℕ) → length (take (i + k - i) (drop i v)) ≤ k
+part-length v i k = let n : i + k - i ≡ k = omega arith in rw n (omega (arith, length-take k (drop i v)))
 
 -- ---- the values
 
@@ -172,6 +234,10 @@ text-of b s c = go (eqb b 34) (eqb b 10) s
     go false true e = absurd (let z : _≡_ {A = ℕ} 0 1 = cc in omega arith)
     go false false e = simp c
 
+unfoldable anyStop : List ℕ → Bool
+anyStop [] = false
+anyStop (b ∷ v) = isStop b || anyStop v
+
 begun : (v r : List ℕ) → anyStop v ≡ false → Begun v r
 unfolding anyStop firstIn othersIn
 begun [] r e = record { rest = 10 ∷ r; head = none; whole = λ f. last f lf }
@@ -224,18 +290,35 @@ line-row t width line (p, q, w) =
     let m : length (valuesIn v) ≡ width = omega (arith, many-in v, w) in
     rw m at (complete r)
 
--- sixteen bytes without a stop
-pub chunk-turn : (t : List ℕ) (i : ℕ) → 16 ≤ length t - i → anyStop (take (i + 16 - i) (drop i t)) ≡ false → i + length (lineOf (drop i t)) ≡ i + 16 + length (lineOf (drop (i + 16) t))
-chunk-turn t i h e =
-    let n : i + 16 - i ≡ 16 = omega arith in
-    let s : anyStop (take 16 (drop i t)) ≡ false = rw n at e in
-    let q = line-chunk 16 (drop i t) (rw (length-drop i t) h) s in
-    let d : length (lineOf (drop 16 (drop i t))) ≡ length (lineOf (drop (i + 16) t)) = rw (drop-drop 16 i t) in
-    omega (arith, q, d)
-
 -- the bytes before the first stop, as a part of t
 pub line-part : (t : List ℕ) (n : ℕ) → n ≡ length (lineOf t) → take (n - 0) (drop 0 t) ≡ lineOf t
 line-part t n e = let m : n - 0 ≡ length (lineOf t) = omega (arith, e) in rw m (line-take t)
+
+-- ---- a quoted value, from stop to stop
+
+pub no-quote : (b : ℕ) → isStop b ≡ false → eqb b 34 ≡ false
+unfolding isStop
+no-quote b e = neither (eqb b 34) (eqb b 10) e .0
+
+run-piece : (bs : List ℕ) (k n : ℕ) → add k (pieceOf n (inner bs)) ≡ add (k + length (lineOf bs)) (pieceOf n (inner (drop (length (lineOf bs)) bs)))
+unfolding inner lineOf
+run-piece [] k n = refl
+run-piece (b ∷ bs) k n = go (isStop b) refl (run-piece bs (k + 1) n)
+  where
+    go : (q : Bool) → isStop b ≡ q → add (k + 1) (pieceOf n (inner bs)) ≡ add (k + 1 + length (lineOf bs)) (pieceOf n (inner (drop (length (lineOf bs)) bs)))
+        → add k (pieceOf n (inner (b ∷ bs))) ≡ add (k + length (pick q [] (b ∷ lineOf bs))) (pieceOf n (inner (drop (length (pick q [] (b ∷ lineOf bs))) (b ∷ bs))))
+    go true s f = ap (λ (x : ℕ). add x (pieceOf n (inner (b ∷ bs)))) (sym (add-zero k))
+    go false s f =
+        let m : k + 1 + length (lineOf bs) ≡ k + suc (length (lineOf bs)) = omega arith in
+        let p : inner (b ∷ bs) ≡ push b (inner bs) = simp (no-quote b s) in
+        ap (λ (g : Got). add k (pieceOf n g)) p ∙ add-push k n b (inner bs) ∙ f ∙ ap (λ (x : ℕ). add x (pieceOf n (inner (drop (length (lineOf bs)) bs)))) m
+
+pub turn-run : (t : List ℕ) (i e k : ℕ) → e ≡ i + length (lineOf (drop i t)) → add k (pieceOf (length t) (inner (drop i t))) ≡ add (k + (e - i)) (pieceOf (length t) (inner (drop e t)))
+turn-run t i e k q =
+    let n = length (lineOf (drop i t)) in
+    let m : n ≡ e - i = omega (arith, q) in
+    let d : drop n (drop i t) ≡ drop e t = drop-drop n i t ∙ ap (λ (x : ℕ). drop x t) (sym q) in
+    run-piece (drop i t) k (length t) ∙ ap (λ (x : ℕ). add (k + x) (pieceOf (length t) (inner (drop n (drop i t))))) m ∙ ap (λ (l : List ℕ). add (k + (e - i)) (pieceOf (length t) (inner l))) d
 
 -- what a row without quotes has
 pub record IsPlain (t : List ℕ) (width line : ℕ) : Type 0 where

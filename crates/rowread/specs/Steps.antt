@@ -1,7 +1,7 @@
 -- What the private functions promise each other. Nothing here says what a row is.
-use Prim.Native.Nat.{ℕ, _+_, _-_}
+use Prim.Native.Nat.{ℕ, _+_, _-_, _≤_, _<_}
 use mathlib.Core.Path.{_≡_}
-use mathlib.Core.Bool.{Bool, false, _||_}
+use mathlib.Core.Bool.{Bool, _||_}
 use mathlib.Core.List.{List, [], _∷_}
 use lib.Dec.{eqb}
 use lib.ListN.{length, getD}
@@ -48,14 +48,14 @@ IsRow malformed = ⊥
 unfoldable pub isStop : ℕ → Bool
 isStop b = eqb b 34 || eqb b 10
 
-unfoldable pub anyStop : List ℕ → Bool
-anyStop [] = false
-anyStop (b ∷ v) = isStop b || anyStop v
-
 -- the bytes before the first one
 unfoldable pub lineOf : List ℕ → List ℕ
 lineOf [] = []
 lineOf (b ∷ t) = pick (isStop b) [] (b ∷ lineOf t)
+
+-- n is the place of the first one, 32 for none
+abbrev pub FirstStop : List ℕ → ℕ → Type 0
+FirstStop v n = (n ≤ 32) × (n ≡ 32 → length (lineOf v) ≡ length v) × (n < 32 → (n ≡ length (lineOf v)) × (n < length v))
 
 -- how many of them are commas, which are the others, and where among these the values end
 unfoldable pub commasIn : List ℕ → ℕ

@@ -1,12 +1,13 @@
 // A stored row is read, by RFC 4180. The row is gone through before anything is handed out, so that a refusal leaves the outputs alone.
 ghost use mathlib.Core.Path.{_≡_};
 ghost use Prim.Native.Nat.{_+_, _-_, _≤_, _<_, min};
-ghost use lib.ListN.{length, drop, getD};
+ghost use lib.ListN.{length, take, drop, getD};
 ghost use lib.Seq.{sets};
+ghost use Rattle.number.specs.Number.{pick};
 ghost use Rattle.csv.specs.Csv.{isText};
 ghost use Rattle.csv.specs.Read.{plainValue, inner, fieldAt, rowEnd, values};
 ghost use Rattle.rowread.specs.Stored.{valuesOf, valuesAt, joined, endsOf, readAnswer, after};
-ghost use Rattle.rowread.specs.Steps.{pieceOf, valueOf, restOf, IsGot, scanOf, IsRow, isStop, anyStop, lineOf, commasIn, textIn, marksIn, IsLine};
+ghost use Rattle.rowread.specs.Steps.{pieceOf, valueOf, restOf, IsGot, scanOf, IsRow, isStop, FirstStop, lineOf, commasIn, textIn, marksIn, IsLine};
 use refusal::Refusal;
 
 pub enum ReadAnswer {
@@ -70,8 +71,93 @@ fn plain_end(t: &[u8], from: usize) -> usize
     i
 }
 
-// The value behind the opening quote before a place.
-fn inner_end(t: &[u8], from: usize) -> Piece
+// A byte before which a row without quotes stops: LF, where it ends, or a quote.
+fn is_stop(b: u8) -> bool
+    ensures { λ r. ⌜ r ≡ isStop b ⌝ }
+{
+    (b == 34) | (b == 10)
+}
+
+// Where the bytes end that are gone through at once from a place on.
+fn near(len: usize, i: usize) -> usize
+    requires { ⌜ i ≤ len ⌝ }
+    ensures { λ r. ⌜ r ≡ i + min 32 (len - i) ⌝ }
+{
+    if len - i < 32 { len } else { i + 32 }
+}
+
+fn stop_place(b: u8, i: u8) -> u8
+    ensures { λ r. ⌜ r ≡ pick (isStop b) i 32 ⌝ }
+{
+    if is_stop(b) { i } else { 32 }
+}
+
+fn least(a: u8, b: u8) -> u8
+    ensures { λ r. ⌜ r ≡ min a b ⌝ }
+{
+    if a < b { a } else { b }
+}
+
+// Where the first stop stands among a few bytes, or 32: the least place, which is found for many bytes at once.
+fn first_stop(v: &[u8]) -> u8
+    requires { ⌜ length (now v) ≤ 32 ⌝ }
+    ensures { λ r. ⌜ FirstStop (now (v .entry)) r ⌝ }
+{
+    let mut n: u8 = 32;
+    let mut i: usize = 0;
+    while i < v.len() {
+        n = least(stop_place(v[i], i as u8), n);
+        i += 1;
+    }
+    n
+}
+
+// Where the first stop stands from a place on, or the end.
+fn stop_from(t: &[u8], from: usize) -> usize
+    requires { ⌜ from ≤ length (now t) ⌝ }
+    ensures { λ r. ⌜ r ≡ from + length (lineOf (drop from (now (t .entry)))) ⌝ }
+{
+    let mut i = from;
+    while i < t.len() {
+        let end = near(t.len(), i);
+        let n = first_stop(&t[i..end]);
+        if n < 32 {
+            return i + n as usize;
+        }
+        i = end;
+    }
+    i
+}
+
+// How many quotes there are among a few bytes, at most as many as these.
+fn few_quotes(v: &[u8]) -> u8
+    requires { ⌜ length (now v) ≤ 64 ⌝ }
+    ensures { λ r. ⌜ r ≤ length (now (v .entry)) ⌝ }
+{
+    let mut n: u8 = 0;
+    let mut i: usize = 0;
+    while i < v.len() {
+        if v[i] == 34 {
+            n += 1;
+        }
+        i += 1;
+    }
+    n
+}
+
+// Whether to go from stop to stop: no quote is near. Either way gives the same value.
+fn sparse(t: &[u8], from: usize) -> bool
+    requires { ⌜ from ≤ length (now t) ⌝ }
+{
+    if t.len() - from < 16 {
+        return false;
+    }
+    let end = from + 16;
+    few_quotes(&t[from..end]) == 0
+}
+
+// The value behind the opening quote before a place, byte by byte.
+fn inner_bytes(t: &[u8], from: usize) -> Piece
     requires { ⌜ from ≤ length (now t) ⌝ }
     ensures { λ r. ⌜ r ≡ pieceOf (length (now (t .entry))) (inner (drop from (now (t .entry)))) ⌝ }
 {
@@ -88,6 +174,42 @@ fn inner_end(t: &[u8], from: usize) -> Piece
         size += 1;
     }
     Piece::Bad
+}
+
+// The same, from stop to stop.
+fn inner_runs(t: &[u8], from: usize) -> Piece
+    requires { ⌜ from ≤ length (now t) ⌝ }
+    ensures { λ r. ⌜ r ≡ pieceOf (length (now (t .entry))) (inner (drop from (now (t .entry)))) ⌝ }
+{
+    let mut i = from;
+    let mut size: usize = 0;
+    while i < t.len() {
+        let mut e = stop_from(t, i);
+        if e == t.len() {
+            return Piece::Bad;
+        }
+        size += e - i;
+        if t[e] == 34 {
+            e += 1;
+            if at(t, e) != 34 {
+                return Piece::Value { next: e, size };
+            }
+        }
+        i = e + 1;
+        size += 1;
+    }
+    Piece::Bad
+}
+
+// The value behind the opening quote before a place.
+fn inner_end(t: &[u8], from: usize) -> Piece
+    requires { ⌜ from ≤ length (now t) ⌝ }
+    ensures { λ r. ⌜ r ≡ pieceOf (length (now (t .entry))) (inner (drop from (now (t .entry)))) ⌝ }
+{
+    if sparse(t, from) {
+        return inner_runs(t, from);
+    }
+    inner_bytes(t, from)
 }
 
 // The value at a place.
@@ -166,8 +288,23 @@ fn copy_plain(t: &[u8], from: usize, out: &mut [u8], to: usize) -> Copied
     Copied { next: i, to: n }
 }
 
-// The value behind the opening quote before a place, into out.
-fn copy_inner(t: &[u8], from: usize, out: &mut [u8], to: usize) -> Copied
+// Bytes of t from a place to another, into out, and where they end there.
+fn copy_part(t: &[u8], from: usize, end: usize, out: &mut [u8], to: usize) -> usize
+    requires { ⌜ (from ≤ end) × (end ≤ length (now t)) × (to + (end - from) ≤ length (now out)) ⌝ }
+    ensures { λ r. ⌜ (r ≡ to + (end - from)) × (now (out .exit) ≡ sets (now (out .entry)) to (take (end - from) (drop from (now (t .entry))))) ⌝ }
+{
+    let mut i = from;
+    let mut n = to;
+    while i < end {
+        out[n] = t[i];
+        n += 1;
+        i += 1;
+    }
+    n
+}
+
+// The value behind the opening quote before a place, into out, byte by byte.
+fn copy_bytes(t: &[u8], from: usize, out: &mut [u8], to: usize) -> Copied
     requires { ⌜ (from ≤ length (now t)) × IsGot (inner (drop from (now t))) × (to + length (valueOf (inner (drop from (now t)))) ≤ length (now out)) ⌝ }
     ensures { λ r. ⌜ (now (out .exit) ≡ sets (now (out .entry)) to (valueOf (inner (drop from (now (t .entry)))))) × (r .next ≡ length (now (t .entry)) - length (restOf (inner (drop from (now (t .entry)))))) × (r .to ≡ to + length (valueOf (inner (drop from (now (t .entry)))))) ⌝ }
 {
@@ -186,6 +323,41 @@ fn copy_inner(t: &[u8], from: usize, out: &mut [u8], to: usize) -> Copied
         n += 1;
     }
     Copied { next: p, to: n }
+}
+
+// The same, from stop to stop.
+fn copy_runs(t: &[u8], from: usize, out: &mut [u8], to: usize) -> Copied
+    requires { ⌜ (from ≤ length (now t)) × IsGot (inner (drop from (now t))) × (to + length (valueOf (inner (drop from (now t)))) ≤ length (now out)) ⌝ }
+    ensures { λ r. ⌜ (now (out .exit) ≡ sets (now (out .entry)) to (valueOf (inner (drop from (now (t .entry)))))) × (r .next ≡ length (now (t .entry)) - length (restOf (inner (drop from (now (t .entry)))))) × (r .to ≡ to + length (valueOf (inner (drop from (now (t .entry)))))) ⌝ }
+{
+    let mut p = from;
+    let mut n = to;
+    while p < t.len() {
+        let e = stop_from(t, p);
+        n = copy_part(t, p, e, out, n);
+        let last = t[e];
+        p = e + 1;
+        if last == 34 {
+            if at(t, p) != 34 {
+                return Copied { next: p, to: n };
+            }
+            p += 1;
+        }
+        out[n] = last;
+        n += 1;
+    }
+    Copied { next: p, to: n }
+}
+
+// The value behind the opening quote before a place, into out.
+fn copy_inner(t: &[u8], from: usize, out: &mut [u8], to: usize) -> Copied
+    requires { ⌜ (from ≤ length (now t)) × IsGot (inner (drop from (now t))) × (to + length (valueOf (inner (drop from (now t)))) ≤ length (now out)) ⌝ }
+    ensures { λ r. ⌜ (now (out .exit) ≡ sets (now (out .entry)) to (valueOf (inner (drop from (now (t .entry)))))) × (r .next ≡ length (now (t .entry)) - length (restOf (inner (drop from (now (t .entry)))))) × (r .to ≡ to + length (valueOf (inner (drop from (now (t .entry)))))) ⌝ }
+{
+    if sparse(t, from) {
+        return copy_runs(t, from, out, to);
+    }
+    copy_bytes(t, from, out, to)
 }
 
 // The value at a place, into out.
@@ -216,62 +388,19 @@ fn copy_row(t: &[u8], width: usize, out: &mut [u8], ends: &mut [usize])
     }
 }
 
-// A byte before which a row without quotes stops: LF, where it ends, or a quote.
-fn is_stop(b: u8) -> bool
-    ensures { λ r. ⌜ r ≡ isStop b ⌝ }
-{
-    (b == 34) | (b == 10)
-}
-
-// Whether there is one; all bytes are gone through, so that many are tested at once.
-fn any_stop(v: &[u8]) -> bool
-    ensures { λ r. ⌜ r ≡ anyStop (now (v .entry)) ⌝ }
-{
-    let mut found = false;
-    let mut i: usize = 0;
-    while i < v.len() {
-        found = found | is_stop(v[i]);
-        i += 1;
-    }
-    found
-}
-
-// Where the first one stands from a place on, or the end.
-fn stop_from(t: &[u8], from: usize) -> usize
-    requires { ⌜ from ≤ length (now t) ⌝ }
-    ensures { λ r. ⌜ r ≡ from + length (lineOf (drop from (now (t .entry)))) ⌝ }
-{
-    let mut i = from;
-    while i < t.len() {
-        if is_stop(t[i]) {
-            return i;
-        }
-        i += 1;
-    }
-    i
-}
-
-// The same from the start, sixteen bytes at a time.
+// Where the first stop stands, or the end.
 fn stop(t: &[u8]) -> usize
     ensures { λ r. ⌜ r ≡ length (lineOf (now (t .entry))) ⌝ }
 {
-    let mut i: usize = 0;
-    while 16 <= t.len() - i {
-        let end = i + 16;
-        if any_stop(&t[i..end]) {
-            return stop_from(t, i);
-        }
-        i = end;
-    }
-    stop_from(t, i)
+    stop_from(t, 0)
 }
 
-// How many commas there are.
-fn commas(v: &[u8]) -> usize
-    requires { ⌜ length (now v) ≤ 8192 ⌝ }
+// How many commas there are among a few bytes.
+fn few_commas(v: &[u8]) -> u8
+    requires { ⌜ length (now v) ≤ 64 ⌝ }
     ensures { λ r. ⌜ r ≡ commasIn (now (v .entry)) ⌝ }
 {
-    let mut n: u32 = 0;
+    let mut n: u8 = 0;
     let mut i: usize = 0;
     while i < v.len() {
         if v[i] == 44 {
@@ -279,7 +408,22 @@ fn commas(v: &[u8]) -> usize
         }
         i += 1;
     }
-    n as usize
+    n
+}
+
+// How many commas there are.
+fn commas(v: &[u8]) -> usize
+    requires { ⌜ length (now v) ≤ 8192 ⌝ }
+    ensures { λ r. ⌜ r ≡ commasIn (now (v .entry)) ⌝ }
+{
+    let mut n: usize = 0;
+    let mut i: usize = 0;
+    while 64 <= v.len() - i {
+        let end = i + 64;
+        n += few_commas(&v[i..end]) as usize;
+        i = end;
+    }
+    n + few_commas(&v[i..v.len()]) as usize
 }
 
 // The row of so many values at the front, quickly where it has no quotes.

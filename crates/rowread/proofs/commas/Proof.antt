@@ -1,51 +1,92 @@
-use mathlib.Core.Path.{_≡_}
-use mathlib.Core.Logic.{⊎-elim}
+use mathlib.Core.Path.{_≡_, ap}
 use Prim.Native.Nat.{_≤_, _-_, _+_}
 use native.Mathlib.Omega.{arith}
-use lib.ListN.{length, drop}
+use lib.ListN.{length, take, drop, length-drop, length-take}
 use Rattle.rowread.specs.Steps.{commasIn}
-use Rattle.rowread.proofs.Lines.{comma-yes, comma-no, comma-out}
+use Rattle.rowread.proofs.Lines.{text-size, part-length, commas-turn, commas-end}
 use borrow.Author.Needs.{needs}
 use Rattle.rowread.proofs.commas.Statement.{statement}
 use Rattle.rowread.proofs.commas.Tie as tie
 
 abbrev Inv-loop : tie.InvT-loop
-Inv-loop v n₀ i₀ n i = (i ≤ length v) × (n ≤ i) × (n + commasIn (drop i v) ≡ commasIn v)
+Inv-loop v n₀ i₀ n i = (i ≤ length v) × (n + commasIn (drop i v) ≡ commasIn v)
 
 abbrev μ-loop : tie.MeasureT-loop
 μ-loop v n₀ i₀ n i = length v - i
 
 loop-holds : tie.Need-loop-holds Inv-loop μ-loop
-loop-holds c = (omega arith, omega arith, omega arith)
+loop-holds c = (omega arith, omega arith)
 
-shared-slice-read-if1 : tie.Need-shared-slice-read-if1 Inv-loop μ-loop
-shared-slice-read-if1 c = search needs
+sub-loop : tie.Need-sub-loop Inv-loop μ-loop
+sub-loop c = search needs
+
+add-end : tie.Need-add-end Inv-loop μ-loop
+add-end c = search needs
+
+sub-few-commas : tie.Need-sub-few-commas Inv-loop μ-loop
+sub-few-commas c = search needs
+
+part-few-commas-start : tie.Need-part-few-commas-start Inv-loop μ-loop
+part-few-commas-start c = search needs
+
+part-few-commas-end : tie.Need-part-few-commas-end Inv-loop μ-loop
+part-few-commas-end c = search needs
+
+few-commas-requires : tie.Need-few-commas-requires Inv-loop μ-loop
+few-commas-requires c κs =
+    let l = c .before .before .loop in
+    let v = c .before .before .before .before .args .v .now in
+    part-length v (l .i) 64
+
+cast-n : tie.Need-cast-n Inv-loop μ-loop
+cast-n c = search needs
 
 add-n : tie.Need-add-n Inv-loop μ-loop
-add-n c = search needs
-
-add-i : tie.Need-add-i Inv-loop μ-loop
-add-i c = search needs
+add-n c =
+    let l = c .before .before .before .loop in
+    let s = c .before .before .before .before .before in
+    let v = s .args .v .now in
+    omega (arith, s .pre, text-size v, commas-turn v (l .i) (l .n) _ (c .few-commas .ensures) (l .inv .1))
 
 loop-less : tie.Need-loop-less Inv-loop μ-loop
-loop-less c = search needs
+loop-less c = omega arith
 
 loop-again : tie.Need-loop-again Inv-loop μ-loop
 loop-again c =
     let l = c .before .before .before .loop in
+    let v = c .before .before .before .before .before .args .v .now in
+    (omega arith, commas-turn v (l .i) (l .n) _ (c .few-commas .ensures) (l .inv .1))
+
+sub-few-commas-2 : tie.Need-sub-few-commas-2 Inv-loop μ-loop
+sub-few-commas-2 c = search needs
+
+part-few-commas-start-2 : tie.Need-part-few-commas-start-2 Inv-loop μ-loop
+part-few-commas-start-2 c = search needs
+
+part-few-commas-end-2 : tie.Need-part-few-commas-end-2 Inv-loop μ-loop
+part-few-commas-end-2 c = search needs
+
+few-commas-requires-2 : tie.Need-few-commas-requires-2 Inv-loop μ-loop
+few-commas-requires-2 c κs =
+    let l = c .before .before .loop in
     let v = c .before .before .before .before .args .v .now in
-    ⊎-elim
-    (λ w. (omega arith, omega arith, omega (arith, l .inv .2, comma-yes v (l .i) (omega arith) (w .0 .taken))))
-    (λ w. (omega arith, omega arith, omega (arith, l .inv .2, comma-no v (l .i) (omega arith) (w .0 .left))))
-    (c .if1 .came)
+    omega (arith, length-take (length v - l .i) (drop (l .i) v), length-drop (l .i) v, c .before .loop-test .left)
 
 cast-result : tie.Need-cast-result Inv-loop μ-loop
 cast-result c = search needs
 
+add-result : tie.Need-add-result Inv-loop μ-loop
+add-result c =
+    let l = c .before .before .before .loop in
+    let s = c .before .before .before .before .before in
+    let v = s .args .v .now in
+    omega (arith, s .pre, text-size v, commas-end v (l .i) (l .n) _ (c .few-commas2 .ensures) (l .inv .1))
+
 returns : tie.Need-returns Inv-loop μ-loop
 returns c =
-    let l = c .before .loop in
-    omega (arith, l .inv .2, comma-out (c .before .before .args .v .now) (l .i) (search needs))
+    let l = c .before .before .before .loop in
+    let v = c .before .before .before .before .before .args .v .now in
+    commas-end v (l .i) (l .n) _ (c .few-commas2 .ensures) (l .inv .1)
 
 pub commas-spec : {M : Type 1} → statement M
 commas-spec =
@@ -54,10 +95,20 @@ commas-spec =
     Inv-loop
     μ-loop
     loop-holds
-    shared-slice-read-if1
+    sub-loop
+    add-end
+    sub-few-commas
+    part-few-commas-start
+    part-few-commas-end
+    few-commas-requires
+    cast-n
     add-n
-    add-i
     loop-less
     loop-again
+    sub-few-commas-2
+    part-few-commas-start-2
+    part-few-commas-end-2
+    few-commas-requires-2
     cast-result
+    add-result
     returns)

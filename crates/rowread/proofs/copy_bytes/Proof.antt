@@ -8,8 +8,8 @@ use mathlib.Core.Logic.{⊎-elim}
 use Rattle.csv.specs.Read.{inner}
 use Rattle.rowread.specs.Steps.{valueOf, restOf}
 use Rattle.rowread.proofs.Copies.{Has, copy-inside, copy-byte, copy-twice, copy-close, sets-turn, sets-done}
-use Rattle.rowread.proofs.copy_inner.Statement.{statement}
-use Rattle.rowread.proofs.copy_inner.Tie as tie
+use Rattle.rowread.proofs.copy_bytes.Statement.{statement}
+use Rattle.rowread.proofs.copy_bytes.Tie as tie
 
 abbrev Inv-loop : tie.InvT-loop
 Inv-loop t from out₀ to p₀ n₀ out p n = (p ≤ length t) × (length out ≡ length out₀) × Has (inner (drop p t)) (restOf (inner (drop from t))) × (n + length (valueOf (inner (drop p t))) ≡ to + length (valueOf (inner (drop from t)))) × (sets out₀ to (valueOf (inner (drop from t))) ≡ sets out n (valueOf (inner (drop p t))))
@@ -118,8 +118,8 @@ returns-2 c =
     let r = restOf (inner (drop (a .from) t)) in
     absurd (omega (arith, copy-inside t (l .p) r (l .inv .2)))
 
-pub copy-inner-spec : {M : Type 1} → statement M
-copy-inner-spec =
+pub copy-bytes-spec : {M : Type 1} → statement M
+copy-bytes-spec =
     tie.close
     (tie.spec
     Inv-loop

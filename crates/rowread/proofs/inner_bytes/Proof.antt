@@ -7,8 +7,8 @@ use Rattle.csv.specs.Read.{inner}
 use Rattle.rowread.specs.Steps.{pieceOf}
 use Rattle.rowread.proofs.Laws.{add, add-zero-piece, turn-byte, turn-twice, turn-close, turn-out, past}
 use borrow.Author.Needs.{needs}
-use Rattle.rowread.proofs.inner_end.Statement.{statement}
-use Rattle.rowread.proofs.inner_end.Tie as tie
+use Rattle.rowread.proofs.inner_bytes.Statement.{statement}
+use Rattle.rowread.proofs.inner_bytes.Tie as tie
 
 abbrev Inv-loop : tie.InvT-loop
 Inv-loop t from i₀ size₀ i size = (i ≤ length t) × (size ≤ i) × (pieceOf (length t) (inner (drop from t)) ≡ add size (pieceOf (length t) (inner (drop i t))))
@@ -60,8 +60,8 @@ returns-2 c =
     let l = c .before .loop in
     turn-out (c .before .before .before .args .t .now) (l .i) (l .size) (search needs) ∙ sym (l .inv .2)
 
-pub inner-end-spec : {M : Type 1} → statement M
-inner-end-spec =
+pub inner-bytes-spec : {M : Type 1} → statement M
+inner-bytes-spec =
     tie.close
     (tie.spec
     Inv-loop
