@@ -1,18 +1,12 @@
--- The calls, case by case, and lists compared one by one.
-use mathlib.Core.Path.{_≡_, refl, sym, ap, _∙_}
+-- The calls, case by case.
+use mathlib.Core.Path.{_≡_, refl, ap}
 use mathlib.Core.Bool.{Bool, true, false, _&&_}
-use mathlib.Core.List.{List, [], _∷_, _++_}
-use Prim.Native.Nat.{ℕ, suc, _+_, _*_, _≤_, _<_}
+use mathlib.Core.List.{List, [], _∷_}
+use Prim.Native.Nat.{ℕ, _≤_}
 use native.Mathlib.Omega.{arith}
-use native.Mathlib.Numerals.{add-one}
-use native.Mathlib.Nat.{mul-comm, mul-le-mul-right}
 use lib.Dec.{eqb}
-use lib.ListN.{length, take, getD}
-use lib.Seq.{take-suc, length-take-le}
+use lib.ListN.{length, take}
 use borrow.Author.Tests.{eq-eqb, ne-eqb}
-use Rattle.number.specs.Number.{pick}
-use Rattle.record.specs.Runs.{many}
-use Rattle.record.proofs.Series.{many-more, length-many}
 use Rattle.refusal.specs.declared.Refusal.the-variants.{Region, Turn, Obsolete, Unfit}
 use Rattle.header.specs.declared.Bank.{Bank}
 use Rattle.header.specs.Region.{regionSize}
@@ -20,14 +14,11 @@ use Rattle.headerwrite.specs.Header.{headerBytes, blankWord, commitBytes, isFit
 use Rattle.flash.specs.Flash.{write, performed}
 use Rattle.writer.specs.declared.Stage.the-variants.{Headed, Committed}
 use Rattle.writer.specs.declared.Writer.{Writer}
-use Rattle.writer.specs.declared.Answer.{Answer}
-use Rattle.writer.specs.declared.Answer.the-variants.{Same, Different}
 use Rattle.writer.specs.State.{target, inRange, did, stays}
 use Rattle.due.specs.Due.{withStage}
 use Rattle.due.proofs.Laws.{target-fits}
 use Rattle.commit.specs.declared.Stamp.{Stamp}
 use Rattle.commit.specs.Commit.{bankFor, recordsFor, isHeaded, mayCommit, isCurrent, commitStep, commitOps, commitRegion, wordStep, wordOps, wordRegion}
-use Rattle.commit.specs.Unchanged.{sameEach, isUnchanged, mayAsk, unchangedStep}
 
 and-false : (a : Bool) → (a && false) ≡ false
 and-false true = refl
@@ -123,55 +114,3 @@ module _ (region : List ℕ) (w : Writer) (stamp : Stamp) (current : Bool) where
   pub kept-region : (length region ≡ regionSize → ⊥) → region ≡ commitRegion region w stamp current
   unfolding commitRegion commitOps performed
   kept-region e = rw (ne-eqb (length region) regionSize e)
-
--- ---- unchanged
-
-module _ (region : List ℕ) (w : Writer) where
-  pub asked : (a : Answer) (same : Bool) → length region ≡ regionSize → mayAsk w ≡ true → same ≡ isUnchanged region w (w .beginning .active) → a ≡ pick same Same Different
-      → record { answer = a; writer = w } ≡ unchangedStep region w
-  unfolding unchangedStep
-  asked a same e m s h = rw (eq-eqb (length region) regionSize e, m, ← s) (ap (λ (x : Answer). record { answer = x; writer = w }) h)
-
-  pub asked-turn : length region ≡ regionSize → mayAsk w ≡ false → stays w Turn ≡ unchangedStep region w
-  unfolding unchangedStep
-  asked-turn e m = rw (eq-eqb (length region) regionSize e, m)
-
-  pub asked-region : (length region ≡ regionSize → ⊥) → stays w Region ≡ unchangedStep region w
-  unfolding unchangedStep
-  asked-region e = rw (ne-eqb (length region) regionSize e)
-
--- ---- one by one
-
--- a record's place, of three at the most
-pub bound : (i n : ℕ) → n ≤ 384 → i * n ≤ i * 384
-bound i n h = rw (mul-comm i n, mul-comm i 384) (mul-le-mul-right i h)
-
-and-assoc : (a b c : Bool) → ((a && b) && c) ≡ (a && (b && c))
-and-assoc true b c = refl
-and-assoc false b c = refl
-
-and-true : (a : Bool) → (a && true) ≡ a
-and-true true = refl
-and-true false = refl
-
-no-length : (n : ℕ) → suc n ≡ 0 → ⊥
-no-length n e = omega arith
-
-module _ {A : Type 0} (f : A → A → Bool) where
-  same-last : (xs ys : List A) (x y : A) → length xs ≡ length ys → sameEach f (xs ++ (x ∷ [])) (ys ++ (y ∷ [])) ≡ (sameEach f xs ys && f x y)
-  unfolding sameEach
-  same-last [] [] x y e = and-true (f x y)
-  same-last [] (b ∷ ys) x y e = absurd (no-length (length ys) (sym e))
-  same-last (a ∷ xs) [] x y e = absurd (no-length (length xs) e)
-  same-last (a ∷ xs) (b ∷ ys) x y e = ap (λ t. f a b && t) (same-last xs ys x y (omega arith)) ∙ sym (and-assoc (f a b) (sameEach f xs ys) (f x y))
-
-  pub same-take : (xs ys : List A) (j : ℕ) (z : A) → j < length xs → j < length ys → (sameEach f (take j xs) (take j ys) && f (getD xs j z) (getD ys j z)) ≡ sameEach f (take (j + 1) xs) (take (j + 1) ys)
-  same-take xs ys j z h k =
-      rw (add-one, take-suc xs j z h, take-suc ys j z k)
-      (sym (same-last (take j xs) (take j ys) (getD xs j z) (getD ys j z) (length-take-le j xs (omega arith) ∙ sym (length-take-le j ys (omega arith)))))
-
-  pub same-many : (g : List ℕ → ℕ → A) (step : ℕ) (l : List ℕ) (at : ℕ) (xs : List A) (j : ℕ) (z : A) → j < length xs
-      → (sameEach f (take j xs) (many g step l at j) && f (getD xs j z) (g l (at + j * step))) ≡ sameEach f (take (j + 1) xs) (many g step l at (j + 1))
-  same-many g step l at xs j z h =
-      rw (add-one, take-suc xs j z h, many-more g step l at j)
-      (sym (same-last (take j xs) (many g step l at j) (getD xs j z) (g l (at + j * step)) (length-take-le j xs (omega arith) ∙ sym (length-many g step l at j))))

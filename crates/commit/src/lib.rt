@@ -1,42 +1,34 @@
-// The lower layer's last calls: commit in two, and unchanged.
+// The lower layer's commit, in two calls.
 ghost use mathlib.Core.Path.{_≡_};
-ghost use mathlib.Core.Bool.{Bool, true, _&&_};
+ghost use mathlib.Core.Bool.{_&&_};
 ghost use mathlib.Core.List.{_∷_, []};
 ghost use Prim.Native.Nat.{_≤_};
 ghost use lib.ListN.{length, take};
 ghost use lib.Signed.{leZ};
 ghost use Rattle.number.specs.Number.{pick};
-ghost use Rattle.header.specs.Header.{recordsOf};
 ghost use Rattle.headerwrite.specs.Header.{headerBytes, blankWord, commitBytes};
 ghost use Rattle.flash.specs.Flash.{write as writing, performed};
-ghost use Rattle.writer.specs.declared.Answer.the-variants as Answers;
 ghost use Rattle.writer.specs.declared.Stage.the-variants as Stages;
 ghost use Rattle.writer.specs.State as State;
 ghost use Rattle.due.specs.Due as Due;
 ghost use Rattle.commit.specs.Commit as Commit;
-ghost use Rattle.commit.specs.Unchanged as Unchanged;
 use bank::Loaded;
-use bank::bank_of;
-use due::target;
 use flash::write;
 use header::Bank;
-use header::record_at;
 use headerwrite::commit_bytes;
 use headerwrite::fit;
 use headerwrite::header_bytes;
 use leaf::generation::next;
 use number::le;
-use record::Block;
 use record::Source;
-use record::source_size;
 use refusal::Refusal;
-use writer::Answer;
 use writer::Stage;
 use writer::Step;
 use writer::Writer;
 use writer::did;
 use writer::in_range;
 use writer::stays;
+use writer::target;
 
 // The host's stamp, if any.
 pub enum Stamp {
@@ -44,7 +36,7 @@ pub enum Stamp {
     Missing,
 }
 
-fn is_idle(s: Stage) -> bool
+pub fn is_idle(s: Stage) -> bool
     ensures { λ r. ⌜ r ≡ Commit.isIdle s ⌝ }
 {
     match s {
@@ -89,7 +81,7 @@ fn next_generation(l: Loaded) -> u32
     }
 }
 
-fn routes_offset(ss: [Source; 3]) -> u32
+pub fn routes_offset(ss: [Source; 3]) -> u32
     ensures { λ r. ⌜ r ≡ Commit.routesOffset ss ⌝ }
 {
     let s = ss[0];
@@ -98,7 +90,7 @@ fn routes_offset(ss: [Source; 3]) -> u32
     b.offset
 }
 
-fn key_length(offset: u32) -> u32
+pub fn key_length(offset: u32) -> u32
     ensures { λ r. ⌜ r ≡ State.keyLength offset ⌝ }
 {
     if offset < 8 { 0 } else { offset - 8 }
@@ -219,111 +211,6 @@ pub fn commit_word(w: Writer, region: &mut [u8]) -> Step
     if region.len() == 983040 {
         if may_write_word(w) {
             return write_word(w, region);
-        }
-        return stays(w, Refusal::Turn);
-    }
-    stays(w, Refusal::Region)
-}
-
-fn same_block(a: Block, b: Block) -> bool
-    ensures { λ r. ⌜ r ≡ Unchanged.sameBlock a b ⌝ }
-{
-    (a.offset == b.offset) & ((a.length == b.length) & (a.crc == b.crc))
-}
-
-fn same_blocks(xs: [Block; 8], ys: [Block; 8]) -> bool
-    ensures { λ r. ⌜ r ≡ Unchanged.sameEach Unchanged.sameBlock xs ys ⌝ }
-{
-    let mut same = true;
-    let mut j = 0;
-    while j < 8 {
-        let x = xs[j];
-        let y = ys[j];
-        same = same & same_block(x, y);
-        j += 1;
-    }
-    same
-}
-
-// Dates and blocks.
-fn same_source(a: Source, b: Source) -> bool
-    ensures { λ r. ⌜ r ≡ Unchanged.sameSource a b ⌝ }
-{
-    let xs = a.tables;
-    let ys = b.tables;
-    (a.start == b.start) & ((a.end == b.end) & same_blocks(xs, ys))
-}
-
-// The first n sources against the first n records of a bank.
-fn same_sources(ss: [Source; 3], n: usize, l: &[u8], version: u32) -> bool
-    requires { ⌜ n ≤ 3 ⌝ }
-    ensures { λ r. ⌜ r ≡ Unchanged.sameEach Unchanged.sameSource (take n ss) (recordsOf version (now (l .entry)) n) ⌝ }
-{
-    let size = source_size(version);
-    let mut same = true;
-    let mut i = 0;
-    while i < n {
-        let a = ss[i];
-        let b = record_at(l, version, 48 + i * size);
-        same = same & same_source(a, b);
-        i += 1;
-    }
-    same
-}
-
-fn same_bank(region: &[u8], w: Writer, b: Bank) -> bool
-    requires { ⌜ w .tables .count ≤ 3 ⌝ }
-    ensures { λ r. ⌜ r ≡ Unchanged.sameBank (now (region .entry)) w b ⌝ }
-{
-    let t = w.taken;
-    let x = w.tables;
-    let ss = w.sources;
-    let l = bank_of(region, b.number);
-    let key = key_length(routes_offset(ss));
-    let sources = same_sources(ss, x.count as usize, l, b.version);
-    !t.different & ((t.written == b.length) & ((x.count == b.count) & ((key == b.key) & sources)))
-}
-
-fn is_unchanged(region: &[u8], w: Writer, l: Loaded) -> bool
-    requires { ⌜ w .tables .count ≤ 3 ⌝ }
-    ensures { λ r. ⌜ r ≡ Unchanged.isUnchanged (now (region .entry)) w l ⌝ }
-{
-    match l {
-        Loaded::Found(b) => same_bank(region, w, b),
-        Loaded::Nothing => false,
-        Loaded::Refused(_) => false,
-    }
-}
-
-fn may_ask(w: Writer) -> bool
-    ensures { λ r. ⌜ r ≡ Unchanged.mayAsk w ⌝ }
-{
-    let b = w.beginning;
-    let t = w.taken;
-    let s = w.stage;
-    in_range(w) & (b.comparing & (t.closed & is_idle(s)))
-}
-
-fn same_answer(same: bool) -> Answer
-    ensures { λ r. ⌜ r ≡ pick same Answers.Same Answers.Different ⌝ }
-{
-    if same {
-        return Answer::Same;
-    }
-    Answer::Different
-}
-
-// Whether the update is what the active bank has.
-pub fn unchanged(w: Writer, region: &[u8]) -> Step
-    ensures { λ r. ⌜ r ≡ Unchanged.unchangedStep (now (region .entry)) w ⌝ }
-{
-    if region.len() == 983040 {
-        if may_ask(w) {
-            let b = w.beginning;
-            let l = b.active;
-            let same = is_unchanged(region, w, l);
-            let answer = same_answer(same);
-            return Step { answer, writer: w };
         }
         return stays(w, Refusal::Turn);
     }

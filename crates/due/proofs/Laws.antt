@@ -21,9 +21,11 @@ use Rattle.bank.specs.declared.Loaded.the-variants.{Found, Nothing, Refused as 
 use Rattle.refusal.specs.declared.Refusal.the-variants.{Region, Turn}
 use Rattle.writer.specs.declared.Operation.{Operation}
 use Rattle.writer.specs.declared.Operation.the-variants.{Erase, Write, Compare}
-use Rattle.writer.specs.declared.Stage.the-variants.{Due}
+use Rattle.writer.specs.declared.Stage.{Stage}
+use Rattle.writer.specs.declared.Stage.the-variants.{Idle, Due, Headed, Committed}
 use Rattle.writer.specs.declared.Taken.{Taken}
 use Rattle.writer.specs.declared.Writer.{Writer}
+use Rattle.writer.specs.declared.Step.{Step}
 use Rattle.writer.specs.State.{position, isDue, aligned, takenOk, operationOk, stageOk, inRange, target, dataDue, writeDue, stays}
 use Rattle.writer.proofs.Laws.{ranged, fill-fits, position-fits}
 use Rattle.due.specs.Due.{padded, opsOf, dueOps, dueRegion, differs, withStage, withEmptied, operated, stepOf, dueStep}
@@ -187,3 +189,30 @@ module _ (region : List ℕ) (w : Writer) where
   pub region-other : (length region ≡ regionSize → ⊥) → region ≡ dueRegion region w
   unfolding dueRegion dueOps performed
   region-other e = rw (ne-eqb (length region) regionSize e)
+
+-- a step with what an operation leaves of the state
+abbrev pub with-rest : Writer → Step → Step
+with-rest w x =
+    record {
+      answer = x .answer;
+      writer = record { stage = x .writer .stage; beginning = w .beginning; taken = x .writer .taken; tables = w .tables; sources = w .sources; tail = w .tail };
+    }
+
+module _ (region : List ℕ) (w : Writer) where
+  picked-rest : (b : Bool) (x y : Step) → with-rest w x ≡ x → with-rest w y ≡ y → with-rest w (pick b x y) ≡ pick b x y
+  picked-rest true x y e h = e
+  picked-rest false x y e h = h
+
+  stage-rest : (s : Stage) → with-rest w (stepOf region w s) ≡ stepOf region w s
+  unfolding operated
+  stage-rest (Due (Erase k)) = refl
+  stage-rest (Due (Write a n)) = refl
+  stage-rest (Due (Compare a n)) = refl
+  stage-rest Idle = refl
+  stage-rest Headed = refl
+  stage-rest Committed = refl
+
+  pub due-rest : with-rest w (dueStep region w) ≡ dueStep region w
+  unfolding dueStep
+  due-rest =
+      picked-rest (eqb (length region) regionSize) (pick (inRange w) (stepOf region w (w .stage)) (stays w Turn)) (stays w Region) (picked-rest (inRange w) (stepOf region w (w .stage)) (stays w Turn) (stage-rest (w .stage)) refl) refl

@@ -32,17 +32,7 @@ use writer::data_due;
 use writer::did;
 use writer::in_range;
 use writer::stays;
-
-// The bank that isn't the active one; 0 with no active bank.
-pub fn target(l: Loaded) -> u32
-    ensures { λ r. ⌜ r ≡ State.target l ⌝ }
-{
-    match l {
-        Loaded::Found(b) => { if b.number == 0 { 1 } else { 0 } }
-        Loaded::Nothing => 0,
-        Loaded::Refused(_) => 0,
-    }
-}
+use writer::target;
 
 // The tail's first n bytes, and 255 behind them.
 fn filled(tail: [u8; 256], n: usize) -> [u8; 256]
@@ -228,8 +218,7 @@ fn in_stage(w: Writer, region: &mut [u8]) -> Step
     }
 }
 
-// Does the operation that is due, one a call.
-pub fn due(w: Writer, region: &mut [u8]) -> Step
+fn do_due(w: Writer, region: &mut [u8]) -> Step
     ensures { λ r. ⌜ (r ≡ Due.dueStep (now (region .entry)) w) × (now (region .exit) ≡ Due.dueRegion (now (region .entry)) w) ⌝ }
 {
     if region.len() == 983040 {
@@ -239,4 +228,17 @@ pub fn due(w: Writer, region: &mut [u8]) -> Step
         return stays(w, Refusal::Turn);
     }
     stays(w, Refusal::Region)
+}
+
+// Does the operation that is due, one a call. What it leaves as it was is taken from w itself, which saves copies of it.
+pub fn due(w: Writer, region: &mut [u8]) -> Step
+    ensures { λ r. ⌜ (r ≡ Due.dueStep (now (region .entry)) w) × (now (region .exit) ≡ Due.dueRegion (now (region .entry)) w) ⌝ }
+{
+    let x = do_due(w, region);
+    let answer = x.answer;
+    let v = x.writer;
+    let stage = v.stage;
+    let taken = v.taken;
+    let writer = Writer { stage, taken, ..w };
+    Step { answer, writer }
 }

@@ -32,6 +32,7 @@ use refusal::Refusal;
 use slice::part;
 
 // A bank's numbers; `key` is the key's length.
+#[repr(C)]
 pub struct Bank {
     pub number: u32,
     pub version: u32,

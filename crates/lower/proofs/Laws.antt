@@ -1,15 +1,17 @@
 -- The calls, case by case.
-use mathlib.Core.Path.{_≡_, refl, ap}
+use mathlib.Core.Path.{_≡_, refl, sym, ap, subst}
 use mathlib.Core.Bool.{true, false, not, _&&_}
 use mathlib.Core.List.{List}
-use Prim.Native.Nat.{ℕ, zero, suc, _+_, _*_, _%_, _^_, _≤_, _<_}
+use Prim.Native.Nat.{ℕ, zero, suc, _+_, _*_, _/_, _%_, _^_, _≤_, _<_}
 use native.Mathlib.Omega.{arith}
+use native.Mathlib.Nat.{one-mul, lt-of-lt-of-le, div-lt-iff-lt-mul}
+use lib.Pow.{pow-pos, pow-mono}
 use lib.ListN.{length, take}
 use borrow.Author.Tests.{lt-ltb, le-ltb, le-leb, lt-leb}
 use Rattle.refusal.specs.declared.Refusal.the-variants.{Argument, Full, Turn}
 use Rattle.record.specs.declared.Source.{Source}
 use Rattle.writer.specs.declared.Writer.{Writer}
-use Rattle.writer.specs.State.{did, stays, position, isOpen, isDue}
+use Rattle.writer.specs.State.{did, stays, position, isOpen, begunIn, isDue}
 use Rattle.lower.specs.Lower.{mayTake, mayBegin, withSource, sourceStep, withTable, tableStep, withEnd, endStep, withClosed, closeStep, room, withBytes, took, bytesStep}
 use Rattle.writer.specs.declared.Answer.the-variants.{Took}
 
@@ -89,3 +91,10 @@ shifted (suc (suc (suc (suc (suc zero))))) h = refl
 shifted (suc (suc (suc (suc (suc (suc zero)))))) h = refl
 shifted (suc (suc (suc (suc (suc (suc (suc zero))))))) h = refl
 shifted (suc (suc (suc (suc (suc (suc (suc (suc n)))))))) h = absurd (omega arith)
+
+-- a bit past the last
+pub begun-past : (n t : ℕ) → n < 4294967296 → 32 ≤ t → false ≡ begunIn n t
+unfolding begunIn
+begun-past n t h k =
+    let z : n / 2 ^ t ≡ 0 = omega (arith, div-lt-iff-lt-mul (pow-pos t) .1 (subst (λ (x : ℕ). n < x) (sym (one-mul (2 ^ t))) (lt-of-lt-of-le h (pow-mono {i = 32} {j = t} k)))) in
+    rw z refl

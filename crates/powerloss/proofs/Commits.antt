@@ -49,7 +49,7 @@ use Rattle.due.specs.Due.{withStage}
 use Rattle.commit.specs.declared.Stamp.{Stamp}
 use Rattle.commit.specs.declared.Stamp.the-variants.{Given, Missing}
 use Rattle.commit.specs.Commit.{checkedTime, routesOffset, bankFor, recordsFor, isIdle, isHeaded, mayCommit, isCurrent, commitStep, commitOps}
-use Rattle.update.specs.Run.{commit}
+use Rattle.feed.specs.Run.{commit}
 use Rattle.powerloss.specs.History.{Update, bankOf as bankFrom, recordsOf, recordsAfter, checks, updateAfter}
 use Rattle.powerloss.specs.Machine.{Image}
 use Rattle.powerloss.specs.Claim.{StampTyped}
@@ -73,7 +73,7 @@ checked-fits : (stamp : Stamp) (now : ℤ) → StampTyped stamp → SFits w64 no
 checked-fits (Given s) now f g = fits-by (leZ now s) s now f g
 checked-fits Missing now f g = g
 
-is-idle : (st : Stage) → isIdle st ≡ true → st ≡ Idle
+pub is-idle : (st : Stage) → isIdle st ≡ true → st ≡ Idle
 is-idle Idle e = refl
 is-idle (Due o) e = absurd (false≢true e)
 is-idle Headed e = absurd (false≢true e)
@@ -145,7 +145,7 @@ module _ (region : List ℕ) (hd : Loaded) (w : Writer) (u : Update) (o : Open r
         checked = checked-fits stamp (w .beginning .now) ty (o .tied .began .fits);
       }
 
-fit-length : (w : Writer) (stamp : Stamp) → isFit (bankFor w stamp) (recordsFor w) ≡ true → 1 ≤ w .taken .written
+pub fit-length : (w : Writer) (stamp : Stamp) → isFit (bankFor w stamp) (recordsFor w) ≡ true → 1 ≤ w .taken .written
 unfolding bankFor
 fit-length w stamp f = span-length (bankFor w stamp) (fit-span (bankFor w stamp) (recordsFor w) f) .0
 

@@ -27,8 +27,8 @@ use Rattle.writer.specs.State.{position, isDue, writeDue, dataDue, stageOk, sta
 use Rattle.writer.proofs.Laws.{ranged}
 use Rattle.lower.specs.Lower.{mayTake, room, withBytes, took, bytesStep}
 use Rattle.due.specs.Due.{operated, stepOf}
-use Rattle.update.specs.Run.{Lower, bytes, due, lowerStep, lowerOps, lowerRegion}
-use Rattle.update.specs.Upper.{dues, feed}
+use Rattle.feed.specs.Run.{Lower, bytes, due, lowerStep, lowerOps, lowerRegion}
+use Rattle.feed.specs.Feed.{dues, feed}
 use Rattle.powerloss.specs.History.{Update, takes, updateAfter}
 use Rattle.powerloss.specs.Machine.{Image}
 use Rattle.powerloss.proofs.Bytes.{bytes-nil, bytes-cons}
@@ -130,7 +130,7 @@ rank-most (Due (Erase (suc k))) = omega arith
 rank-most (Due (Write a n)) = omega arith
 rank-most (Due (Compare a n)) = omega arith
 
-empty-due : (t : Taken) → t .fill ≡ 0 → isDue t ≡ false
+pub empty-due : (t : Taken) → t .fill ≡ 0 → isDue t ≡ false
 unfolding isDue
 empty-due t e = rw (e, and-false (t .closed))
 

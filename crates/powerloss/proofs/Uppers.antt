@@ -33,8 +33,9 @@ use Rattle.writer.specs.State.{position, isOpen, isDue, target, inRange, did}
 use Rattle.writer.proofs.Laws.{ranged, position-fits}
 use Rattle.lower.specs.Lower.{mayTake, mayBegin, started, answerOf, withSource, sourceStep, withTable, tableStep, withEnd, endStep, withClosed, closeStep}
 use Rattle.lower.proofs.Laws.{source-done, table-done, end-done, close-done}
-use Rattle.update.specs.Run.{Lower, source, table, end, close, lowerStep, lowerOps, ranWriter, ranRegion, ranOps}
-use Rattle.update.specs.Upper.{Upper, sourceWithDates, tableWithNames, row, tableEnd, closing, dues, feed, taken, lowerOf, runOf, argumentOk, orderOk, rowOk, sourceFits, allFits, refusalOf, runIf, upperRun, answered, upperStep, upperRegion, upperOps, beginRefusal, keyBytes, beginRun, beganWith, beginStep, beginRegion, beginOps}
+use Rattle.feed.specs.Run.{Lower, source, table, end, close, lowerStep, lowerOps, ranWriter, ranRegion, ranOps}
+use Rattle.feed.specs.Feed.{dues, feed}
+use Rattle.update.specs.Upper.{Upper, sourceWithDates, tableWithNames, row, tableEnd, closing, taken, lowerOf, runOf, argumentOk, orderOk, rowOk, sourceFits, allFits, refusalOf, runIf, upperRun, answered, upperStep, upperRegion, upperOps, beginRefusal, keyBytes, beginRun, beganWith, beginStep, beginRegion, beginOps}
 use Rattle.powerloss.specs.History.{Update, sourceNote, tableNote, endNote, opened, takes, notesOf, updateAfter, upperNoted, upperAfter, afterUpper, afterBegin}
 use Rattle.powerloss.specs.Machine.{Image, Run, Event, begin, beginCut, call, cut, beginKey, beginKeyCut, upper, upperCut, onUpper, onUpperCut, stateAfter, next, nextAll, found}
 use Rattle.powerloss.specs.Claim.{UpperTyped, Typed, AllTyped, Demand3}
@@ -76,7 +77,7 @@ plain-lower (row texts lengths) p = tt
 plain-lower tableEnd p = (tt, tt)
 plain-lower closing p = (tt, tt)
 
-plain-run : (c : Upper) → UpperTyped c → AllPlain (runOf c)
+pub plain-run : (c : Upper) → UpperTyped c → AllPlain (runOf c)
 unfolding runOf
 plain-run c p =
     plain-append dues (lowerOf c ++ (dues ++ feed (taken c))) plain-dues
@@ -258,7 +259,7 @@ inv-upper-cut c j region (some w) hd rs (some u) im p h = upper-cut-inv region h
 
 -- ---- a beginning with a key
 
-done-by : (region : List ℕ) (hd : Loaded) → length region ≡ regionSize → loaded region ≡ hd → answerOf hd ≡ Done
+pub done-by : (region : List ℕ) (hd : Loaded) → length region ≡ regionSize → loaded region ≡ hd → answerOf hd ≡ Done
 done-by region (Found b) l e = refl
 done-by region Nothing l e = refl
 done-by region (NotRead r) l e = absurd (load-read region r l e)

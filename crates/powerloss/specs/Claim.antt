@@ -20,7 +20,7 @@ use Rattle.writer.specs.declared.Answer.the-variants.{Done}
 use Rattle.writer.specs.State.{inRange, isDue}
 use Rattle.commit.specs.declared.Stamp.{Stamp}
 use Rattle.commit.specs.declared.Stamp.the-variants.{Given, Missing}
-use Rattle.update.specs.Run.{Lower, source, table, bytes, end, close, due, unchanged, commit, word}
+use Rattle.feed.specs.Run.{Lower, source, table, bytes, end, close, due, unchanged, commit, word}
 use Rattle.update.specs.Upper.{Upper, sourceWithDates, tableWithNames, row, tableEnd, closing, upperStep}
 use Rattle.powerloss.specs.Machine.{Event, begin, beginCut, call, cut, beginKey, beginKeyCut, upper, upperCut, Run, bankIn, recordsIn, found, nextAll}
 

@@ -28,6 +28,7 @@ use leaf::bytes::put_time;
 use number::wide;
 
 // Where a table's bytes stand in the data, and their CRC.
+#[repr(C)]
 pub struct Block {
     pub offset: u32,
     pub length: u32,
@@ -35,6 +36,7 @@ pub struct Block {
 }
 
 // A record. Stamp, id and validator are carried raw.
+#[repr(C)]
 pub struct Source {
     pub start: u32,
     pub end: u32,

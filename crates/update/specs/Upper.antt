@@ -26,16 +26,8 @@ use Rattle.writer.specs.declared.Writer.{Writer}
 use Rattle.writer.specs.declared.Step.{Step}
 use Rattle.writer.specs.State.{position, isOpen, stays}
 use Rattle.lower.specs.Lower.{started, mayTake, mayBegin}
-use Rattle.update.specs.Run.{Lower, source, table, bytes, end, close, due, ranWriter, ranRegion, ranOps}
-
--- At most three operations are due in a row: the header sector's erase, a data sector's, the write. A due call with none due does nothing.
-abbrev pub dues : List Lower
-dues = due ∷ due ∷ due ∷ []
-
--- a byte, then what is due, then the next
-unfoldable pub feed : List ℕ → List Lower
-feed [] = []
-feed (x ∷ xs) = bytes (x ∷ []) ∷ (dues ++ feed xs)
+use Rattle.feed.specs.Run.{Lower, source, table, end, close, ranWriter, ranRegion, ranOps}
+use Rattle.feed.specs.Feed.{dues, feed}
 
 -- the calls on a state
 pub data Upper : Type 0 where

@@ -20,7 +20,7 @@ use Rattle.bank.specs.Bank.{loaded}
 use Rattle.flash.specs.Flash.{erase, write}
 use Rattle.lower.specs.Lower.{begun, emptied, withBlock}
 use Rattle.commit.specs.declared.Stamp.the-variants.{Missing}
-use Rattle.update.specs.Run.{Lower, source, table, bytes, end, close, due, commit, word, ranOps}
+use Rattle.feed.specs.Run.{Lower, source, table, bytes, end, close, due, commit, word, ranOps}
 use Rattle.powerloss.specs.Machine.{Event, begin, call, cut, found, nextAll}
 
 -- the key: one byte

@@ -1,5 +1,6 @@
 // The state of an update by value, which operation is due, and which states are within their ranges.
 ghost use mathlib.Core.Path.{_≡_};
+ghost use mathlib.Core.Bool.{_&&_};
 ghost use Rattle.writer.specs.State as State;
 use bank::Loaded;
 use record::Source;
@@ -36,6 +37,7 @@ pub struct Taken {
 }
 
 // How many sources were begun; the open table (8: none), where it starts, its CRC; which tables the last source began.
+#[repr(C)]
 pub struct Tables {
     pub count: u32,
     pub table: u32,
@@ -115,6 +117,17 @@ pub fn stage_of(comparing: bool, t: Taken) -> Stage
     Stage::Idle
 }
 
+// The bank that isn't the active one; 0 with no active bank.
+pub fn target(l: Loaded) -> u32
+    ensures { λ r. ⌜ r ≡ State.target l ⌝ }
+{
+    match l {
+        Loaded::Found(b) => { if b.number == 0 { 1 } else { 0 } }
+        Loaded::Nothing => 0,
+        Loaded::Refused(_) => 0,
+    }
+}
+
 fn active_ok(l: Loaded) -> bool
     ensures { λ r. ⌜ r ≡ State.activeOk l ⌝ }
 {
@@ -173,15 +186,23 @@ fn stage_ok(comparing: bool, t: Taken, s: Stage) -> bool
     }
 }
 
+// Whether the parts of a state are within their ranges; they are few bytes of it.
+pub fn parts_in_range(b: Beginning, t: Taken, x: Tables, s: Stage) -> bool
+    ensures { λ r. ⌜ r ≡ (State.activeOk (b .active) && (State.takenOk t && (State.tablesOk (State.position t) x && State.stageOk (b .comparing) t s))) ⌝ }
+{
+    let a = b.active;
+    active_ok(a) & (taken_ok(t) & (tables_ok(position(t), x) & stage_ok(b.comparing, t, s)))
+}
+
 // Whether a state, made by anyone, is within its ranges.
 pub fn in_range(w: Writer) -> bool
     ensures { λ r. ⌜ r ≡ State.inRange w ⌝ }
 {
     let b = w.beginning;
-    let a = b.active;
     let t = w.taken;
+    let x = w.tables;
     let s = w.stage;
-    active_ok(a) & (taken_ok(t) & (tables_ok(position(t), w.tables) & stage_ok(b.comparing, t, s)))
+    parts_in_range(b, t, x, s)
 }
 
 // A call that is answered.

@@ -1,0 +1,4 @@
+pub mod Settled
+pub mod Exactly
+pub mod Count
+pub mod Events

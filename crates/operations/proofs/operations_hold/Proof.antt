@@ -1,0 +1,20 @@
+use mathlib.Core.Path.{refl}
+use Rattle.operations.proofs.Settled.{begin-settled}
+use Rattle.operations.proofs.Exactly.{due-exactly}
+use Rattle.operations.proofs.Events.{committed-operations, comparing-operations, lower-operations}
+use Rattle.operations.proofs.operations_hold.Statement.{statement}
+use Rattle.operations.proofs.operations_hold.Tie as tie
+
+returns : tie.Need-returns
+returns c =
+    record {
+      dueExactly = due-exactly;
+      beginSettled = begin-settled;
+      committed = committed-operations;
+      comparing = comparing-operations;
+      lower = lower-operations;
+      lengths = (refl, refl, refl);
+    }
+
+pub operations-hold-spec : {M : Type 1} → statement M
+operations-hold-spec = tie.close (tie.spec returns)

@@ -1,0 +1,129 @@
+// The lower layer's call `unchanged`: whether the update is what the active bank has.
+ghost use mathlib.Core.Path.{_≡_};
+ghost use Prim.Native.Nat.{_≤_};
+ghost use lib.ListN.{take};
+ghost use Rattle.number.specs.Number.{pick};
+ghost use Rattle.header.specs.Header.{recordsOf};
+ghost use Rattle.writer.specs.declared.Answer.the-variants as Answers;
+ghost use Rattle.unchanged.specs.Unchanged as Unchanged;
+use bank::Loaded;
+use bank::bank_of;
+use commit::is_idle;
+use commit::key_length;
+use commit::routes_offset;
+use header::Bank;
+use header::record_at;
+use record::Block;
+use record::Source;
+use record::source_size;
+use refusal::Refusal;
+use writer::Answer;
+use writer::Step;
+use writer::Writer;
+use writer::in_range;
+use writer::stays;
+
+fn same_block(a: Block, b: Block) -> bool
+    ensures { λ r. ⌜ r ≡ Unchanged.sameBlock a b ⌝ }
+{
+    (a.offset == b.offset) & ((a.length == b.length) & (a.crc == b.crc))
+}
+
+fn same_blocks(xs: [Block; 8], ys: [Block; 8]) -> bool
+    ensures { λ r. ⌜ r ≡ Unchanged.sameEach Unchanged.sameBlock xs ys ⌝ }
+{
+    let mut same = true;
+    let mut j = 0;
+    while j < 8 {
+        let x = xs[j];
+        let y = ys[j];
+        same = same & same_block(x, y);
+        j += 1;
+    }
+    same
+}
+
+// Dates and blocks.
+fn same_source(a: Source, b: Source) -> bool
+    ensures { λ r. ⌜ r ≡ Unchanged.sameSource a b ⌝ }
+{
+    let xs = a.tables;
+    let ys = b.tables;
+    (a.start == b.start) & ((a.end == b.end) & same_blocks(xs, ys))
+}
+
+// The first n sources against the first n records of a bank.
+fn same_sources(ss: [Source; 3], n: usize, l: &[u8], version: u32) -> bool
+    requires { ⌜ n ≤ 3 ⌝ }
+    ensures { λ r. ⌜ r ≡ Unchanged.sameEach Unchanged.sameSource (take n ss) (recordsOf version (now (l .entry)) n) ⌝ }
+{
+    let size = source_size(version);
+    let mut same = true;
+    let mut i = 0;
+    while i < n {
+        let a = ss[i];
+        let b = record_at(l, version, 48 + i * size);
+        same = same & same_source(a, b);
+        i += 1;
+    }
+    same
+}
+
+fn same_bank(region: &[u8], w: Writer, b: Bank) -> bool
+    requires { ⌜ w .tables .count ≤ 3 ⌝ }
+    ensures { λ r. ⌜ r ≡ Unchanged.sameBank (now (region .entry)) w b ⌝ }
+{
+    let t = w.taken;
+    let x = w.tables;
+    let ss = w.sources;
+    let l = bank_of(region, b.number);
+    let key = key_length(routes_offset(ss));
+    let sources = same_sources(ss, x.count as usize, l, b.version);
+    !t.different & ((t.written == b.length) & ((x.count == b.count) & ((key == b.key) & sources)))
+}
+
+fn is_unchanged(region: &[u8], w: Writer, l: Loaded) -> bool
+    requires { ⌜ w .tables .count ≤ 3 ⌝ }
+    ensures { λ r. ⌜ r ≡ Unchanged.isUnchanged (now (region .entry)) w l ⌝ }
+{
+    match l {
+        Loaded::Found(b) => same_bank(region, w, b),
+        Loaded::Nothing => false,
+        Loaded::Refused(_) => false,
+    }
+}
+
+fn may_ask(w: Writer) -> bool
+    ensures { λ r. ⌜ r ≡ Unchanged.mayAsk w ⌝ }
+{
+    let b = w.beginning;
+    let t = w.taken;
+    let s = w.stage;
+    in_range(w) & (b.comparing & (t.closed & is_idle(s)))
+}
+
+fn same_answer(same: bool) -> Answer
+    ensures { λ r. ⌜ r ≡ pick same Answers.Same Answers.Different ⌝ }
+{
+    if same {
+        return Answer::Same;
+    }
+    Answer::Different
+}
+
+// Whether the update is what the active bank has.
+pub fn unchanged(w: Writer, region: &[u8]) -> Step
+    ensures { λ r. ⌜ r ≡ Unchanged.unchangedStep (now (region .entry)) w ⌝ }
+{
+    if region.len() == 983040 {
+        if may_ask(w) {
+            let b = w.beginning;
+            let l = b.active;
+            let same = is_unchanged(region, w, l);
+            let answer = same_answer(same);
+            return Step { answer, writer: w };
+        }
+        return stays(w, Refusal::Turn);
+    }
+    stays(w, Refusal::Region)
+}
