@@ -245,6 +245,7 @@ fn of_row(x: ReadAnswer) -> BankRowNumbers
     }
 }
 
+// All tests of a bank but its data's CRC, refusals 1 to 6, and its numbers.
 #[no_mangle]
 pub extern "C" fn tt_header(region: &[u8], bank: u32) -> BankNumbers
     ensures { λ r. ⌜ r ≡ Answers.ofValidated (Banks.named (now (region .entry)) bank) ⌝ }
@@ -252,6 +253,7 @@ pub extern "C" fn tt_header(region: &[u8], bank: u32) -> BankNumbers
     of_validated(bank::header(region, bank))
 }
 
+// All tests of a bank, refusals 1 to 7, and its numbers.
 #[no_mangle]
 pub extern "C" fn tt_validate(region: &[u8], bank: u32) -> BankNumbers
     ensures { λ r. ⌜ r ≡ Answers.ofValidated (Banks.validated (now (region .entry)) bank) ⌝ }
@@ -259,6 +261,7 @@ pub extern "C" fn tt_validate(region: &[u8], bank: u32) -> BankNumbers
     of_validated(bank::validate(region, bank))
 }
 
+// The bank in use: the first to pass, the newer one tried first; found is 0 where none passes.
 #[no_mangle]
 pub extern "C" fn tt_load(region: &[u8]) -> BankNumbers
     ensures { λ r. ⌜ r ≡ Answers.ofLoaded (Banks.loaded (now (region .entry))) ⌝ }
@@ -266,6 +269,7 @@ pub extern "C" fn tt_load(region: &[u8]) -> BankNumbers
     of_loaded(bank::load(region))
 }
 
+// Begins checking a bank's data in turns.
 #[no_mangle]
 pub extern "C" fn tt_check_start(region: &[u8], bank: u32) -> TurnNumbers
     ensures { λ r. ⌜ r ≡ Answers.ofTurn (Turns.started (now (region .entry)) bank) ⌝ }
@@ -273,6 +277,7 @@ pub extern "C" fn tt_check_start(region: &[u8], bank: u32) -> TurnNumbers
     of_turn(bank::check_start(region, bank))
 }
 
+// One turn of at most n bytes from the state given; with nothing left it gives the verdict, 1 or refusal 7.
 #[no_mangle]
 pub extern "C" fn tt_check_turn(
     region: &[u8],
@@ -294,6 +299,7 @@ pub extern "C" fn tt_check_turn(
     ))
 }
 
+// The key of an identity and picks into out; five lengths to a pick: line, route, stop code, stop, stop name.
 #[no_mangle]
 pub extern "C" fn tt_key(
     identity: &[u8],
@@ -307,6 +313,7 @@ pub extern "C" fn tt_key(
     of_key(key::key(identity, texts, lengths, out))
 }
 
+// Whether a bank's key is that of an identity and picks.
 #[no_mangle]
 pub extern "C" fn tt_same_key(
     region: &[u8],
@@ -326,6 +333,7 @@ fn day(date: u32, wanted: bool) -> Day
     Day { date, wanted }
 }
 
+// When a bank was checked and the sources of the wanted days were updated; the lowest number is not known.
 #[no_mangle]
 pub extern "C" fn tt_fresh(
     region: &[u8],
@@ -354,7 +362,7 @@ fn fits(room: usize) -> u32
     if room < 384 { 9 } else { 0 }
 }
 
-// A source's record into out.
+// A source's record into the first 384 bytes of out, in version 3's form.
 #[no_mangle]
 pub extern "C" fn tt_source(region: &[u8], bank: u32, index: u32, out: &mut [u8]) -> u32
     ensures { λ r. ⌜ r ≡ Answers.refusalOf (length (now (out .entry))) (Sources.askedSource (now (region .entry)) bank index .outcome) ⌝ }
@@ -372,7 +380,7 @@ pub extern "C" fn tt_source(region: &[u8], bank: u32, index: u32, out: &mut [u8]
     }
 }
 
-// The values of a row into out, joined, and where each ends into ends.
+// The row at a place of a table of a source: its values joined into out, where each ends into ends.
 #[no_mangle]
 pub extern "C" fn tt_bank_row(
     region: &[u8],

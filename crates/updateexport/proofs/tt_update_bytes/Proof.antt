@@ -1,0 +1,27 @@
+use mathlib.Core.Path.{ap, _∙_}
+use Rattle.writer.specs.declared.Writer.{Writer}
+use Rattle.writer.specs.declared.Step.{Step}
+use Rattle.lower.specs.Lower.{bytesStep}
+use Rattle.saved.specs.Answers.{after}
+use borrow.Author.Needs.{needs}
+use Rattle.updateexport.proofs.tt_update_bytes.Statement.{statement}
+use Rattle.updateexport.proofs.tt_update_bytes.Tie as tie
+
+writer-of-requires : tie.Need-writer-of-requires
+writer-of-requires c κs = search needs
+
+bytes-requires : tie.Need-bytes-requires
+bytes-requires c κs = search needs
+
+after-requires : tie.Need-after-requires
+after-requires c κs = search needs
+
+returns : tie.Need-returns
+returns c =
+    let d = c .before .before in
+    let a = d .before .before .args in
+    let e = c .before .bytes .ensures ∙ ap (λ (w : Writer). bytesStep w (a .bytes .now)) (d .writer-of .ensures) in
+    c .after .ensures ∙ ap (λ (s : Step). after s (a .state)) e
+
+pub tt-update-bytes-spec : {M : Type 1} → statement M
+tt-update-bytes-spec = tie.close (tie.spec writer-of-requires bytes-requires after-requires returns)

@@ -1,0 +1,86 @@
+// The upper layer's calls of an update under C names. The state crosses as in updateexport; texts that belong together pass joined, with
+// their lengths. No call asks anything of its caller.
+ghost use mathlib.Core.Path.{_≡_};
+ghost use Rattle.record.specs.Record.{decoded};
+ghost use Rattle.update.specs.Upper as Upper;
+ghost use Rattle.saved.specs.State.{writerOf};
+ghost use Rattle.saved.specs.Answers as Answers;
+use record::decode;
+use saved::State;
+use saved::UpdateStep;
+use saved::after;
+use saved::writer_of;
+
+// Begins an update and feeds the key of an identity and picks; five lengths to a pick.
+#[no_mangle]
+pub extern "C" fn tt_upper_begin(
+    region: &mut [u8],
+    comparing: bool,
+    at: i64,
+    identity: &[u8],
+    texts: &[u8],
+    lengths: &[u32],
+    state: State,
+) -> UpdateStep
+    ensures { λ x. ⌜ x ≡ Answers.after (Upper.beginStep (now (region .entry)) comparing at (now (identity .entry)) (now (texts .entry)) (now (lengths .entry))) state ⌝ }
+    ensures { λ _. ⌜ now (region .exit) ≡ Upper.beginRegion (now (region .entry)) comparing at (now (identity .entry)) (now (texts .entry)) (now (lengths .entry)) ⌝ }
+{
+    let s = keyfeed::begin(region, comparing, at, identity, texts, lengths);
+    after(s, state)
+}
+
+// Begins a source and feeds its dates; its record is version 3's, 384 bytes.
+#[no_mangle]
+pub extern "C" fn tt_upper_source(region: &mut [u8], state: State, bytes: &[u8]) -> UpdateStep
+    ensures { λ x. ⌜ x ≡ Answers.after (Upper.upperStep (now (region .entry)) (writerOf state) (Upper.sourceWithDates (decoded 3 (now (bytes .entry))))) state ⌝ }
+    ensures { λ _. ⌜ now (region .exit) ≡ Upper.upperRegion (now (region .entry)) (writerOf state) (Upper.sourceWithDates (decoded 3 (now (bytes .entry)))) ⌝ }
+{
+    let r = decode(bytes, 3);
+    let s = datefeed::source(writer_of(state), region, r);
+    after(s, state)
+}
+
+// Begins a table of the last source and feeds its names line.
+#[no_mangle]
+pub extern "C" fn tt_upper_table(region: &mut [u8], state: State, table: u32) -> UpdateStep
+    ensures { λ x. ⌜ x ≡ Answers.after (Upper.upperStep (now (region .entry)) (writerOf state) (Upper.tableWithNames table)) state ⌝ }
+    ensures { λ _. ⌜ now (region .exit) ≡ Upper.upperRegion (now (region .entry)) (writerOf state) (Upper.tableWithNames table) ⌝ }
+{
+    let s = rowfeed::table(writer_of(state), region, table);
+    after(s, state)
+}
+
+// Feeds a row of the open table; a length for each value.
+#[no_mangle]
+pub extern "C" fn tt_upper_row(
+    region: &mut [u8],
+    state: State,
+    texts: &[u8],
+    lengths: &[u32],
+) -> UpdateStep
+    ensures { λ x. ⌜ x ≡ Answers.after (Upper.upperStep (now (region .entry)) (writerOf state) (Upper.row (now (texts .entry)) (now (lengths .entry)))) state ⌝ }
+    ensures { λ _. ⌜ now (region .exit) ≡ Upper.upperRegion (now (region .entry)) (writerOf state) (Upper.row (now (texts .entry)) (now (lengths .entry))) ⌝ }
+{
+    let s = rowfeed::row(writer_of(state), region, texts, lengths);
+    after(s, state)
+}
+
+// Ends the open table.
+#[no_mangle]
+pub extern "C" fn tt_upper_end(region: &mut [u8], state: State) -> UpdateStep
+    ensures { λ x. ⌜ x ≡ Answers.after (Upper.upperStep (now (region .entry)) (writerOf state) Upper.tableEnd) state ⌝ }
+    ensures { λ _. ⌜ now (region .exit) ≡ Upper.upperRegion (now (region .entry)) (writerOf state) Upper.tableEnd ⌝ }
+{
+    let s = datefeed::end(writer_of(state), region);
+    after(s, state)
+}
+
+// Closes the update: what the tail holds is written.
+#[no_mangle]
+pub extern "C" fn tt_upper_close(region: &mut [u8], state: State) -> UpdateStep
+    ensures { λ x. ⌜ x ≡ Answers.after (Upper.upperStep (now (region .entry)) (writerOf state) Upper.closing) state ⌝ }
+    ensures { λ _. ⌜ now (region .exit) ≡ Upper.upperRegion (now (region .entry)) (writerOf state) Upper.closing ⌝ }
+{
+    let s = datefeed::close(writer_of(state), region);
+    after(s, state)
+}
