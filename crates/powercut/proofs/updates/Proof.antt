@@ -1,0 +1,55 @@
+use borrow.Author.Needs.{needs}
+use mathlib.Core.Path.{_≡_}
+use Prim.Native.Nat.{_-_}
+use lib.ListN.{length}
+use Rattle.powercut.proofs.updates.Statement.{statement}
+use Rattle.powercut.proofs.updates.Tie as tie
+
+abbrev Inv-loop : tie.InvT-loop
+Inv-loop image region₀ again₀ data₀ o t₀ k₀ region again «data» t k = (length region ≡ length region₀) × (length again ≡ length again₀) × (length «data» ≡ length data₀)
+
+abbrev μ-loop : tie.MeasureT-loop
+μ-loop image region₀ again₀ data₀ o t₀ k₀ region again «data» t k = 24 - k
+
+loop-holds : tie.Need-loop-holds Inv-loop μ-loop
+loop-holds c = search needs
+
+if-chosen-requires : tie.Need-if-chosen-requires Inv-loop μ-loop
+if-chosen-requires c κs = search needs
+
+add-k : tie.Need-add-k Inv-loop μ-loop
+add-k c = search needs
+
+loop-less : tie.Need-loop-less Inv-loop μ-loop
+loop-less c = search needs
+
+loop-again : tie.Need-loop-again Inv-loop μ-loop
+loop-again c = search needs
+
+same-length : tie.Need-same-length Inv-loop μ-loop
+same-length c = search needs
+
+same-length-2 : tie.Need-same-length-2 Inv-loop μ-loop
+same-length-2 c = search needs
+
+same-length-3 : tie.Need-same-length-3 Inv-loop μ-loop
+same-length-3 c = search needs
+
+returns : tie.Need-returns Inv-loop μ-loop
+returns c = search needs
+
+pub updates-spec : {M : Type 1} → statement M
+updates-spec =
+    tie.close
+    (tie.spec
+    Inv-loop
+    μ-loop
+    loop-holds
+    if-chosen-requires
+    add-k
+    loop-less
+    loop-again
+    same-length
+    same-length-2
+    same-length-3
+    returns)

@@ -1,0 +1,67 @@
+// An image: a region, or a whole flash dump with the region in it.
+use std::num::wrapping_add_usize;
+
+// How long an image is; of a longer one than a dump, one byte more than it.
+pub enum Size {
+    Bytes(usize),
+    Unread,
+}
+
+// Zeros for a region.
+pub fn room() -> [u8; 983040] {
+    [0; 983040]
+}
+
+// One read into the region from a place on.
+fn read_to(fd: i32, region: &mut [u8], at: usize) -> isize {
+    if at < region.len() {
+        return libc::read(fd, &mut region[at..]);
+    }
+    0
+}
+
+// One read of n bytes at most that are not kept.
+fn skip(fd: i32, n: usize) -> isize {
+    let mut space = io::large_buffer();
+    let bytes: &mut [u8] = &mut space;
+    if n < bytes.len() {
+        return libc::read(fd, &mut bytes[..n]);
+    }
+    libc::read(fd, bytes)
+}
+
+// One read at a place of the image. The first bytes go into the region as they do where the image is one, and in a dump those of
+// its region take their place.
+fn read_some(fd: i32, region: &mut [u8], at: usize) -> isize {
+    if at < 983040 {
+        return read_to(fd, region, at);
+    }
+    if at < 3145728 {
+        return skip(fd, 3145728 - at);
+    }
+    if at < 4128768 {
+        return read_to(fd, region, at - 3145728);
+    }
+    if at < 4194305 {
+        return skip(fd, 4194305 - at);
+    }
+    0
+}
+
+// The region of an image, and how long the image is. Each turn but the last reads a byte or more.
+pub fn read(fd: i32, region: &mut [u8]) -> Size {
+    let mut at = 0;
+    let mut turns: u32 = 4194306;
+    while 0 < turns {
+        let got = read_some(fd, region, at);
+        if got < 0 {
+            return Size::Unread;
+        }
+        if got == 0 {
+            return Size::Bytes(at);
+        }
+        at = wrapping_add_usize(at, io::count(got, region));
+        turns -= 1;
+    }
+    Size::Bytes(at)
+}

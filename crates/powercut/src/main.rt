@@ -1,0 +1,268 @@
+// Tries updates with the power cut after each of their flash operations: docs/POWERCUT.md has the options and the lines.
+mod data;
+mod image;
+mod kinds;
+mod leftover;
+mod lines;
+mod message;
+mod options;
+mod out;
+mod picture;
+mod text;
+mod trial;
+mod update;
+
+ghost use mathlib.Core.Path.{_≡_};
+ghost use lib.ListN.{length};
+use crate::image::Size;
+use crate::options::Options;
+use crate::trial::Count;
+use libc::STDERR_FILENO;
+use slice::part;
+use std::num::wrapping_add_u32;
+
+// Zeros for an argument: Linux hands over none of more bytes.
+fn argument_room() -> [u8; 131072]
+    ensures { λ r. ⌜ 131072 ≡ length r ⌝ }
+{
+    [0; 131072]
+}
+
+// How many updates were tried, their cuts together, the picture's file (below 0: none) and where its next part starts.
+struct Tally {
+    updates: u32,
+    all: Count,
+    fd: i32,
+    y: u32,
+}
+
+fn added(t: Tally, c: Count, y: u32) -> Tally {
+    let a = t.all;
+    let all = Count {
+        cuts: wrapping_add_u32(a.cuts, c.cuts),
+        old: wrapping_add_u32(a.old, c.old),
+        new: wrapping_add_u32(a.new, c.new),
+        again: wrapping_add_u32(a.again, c.again),
+        wrong: wrapping_add_u32(a.wrong, c.wrong),
+        first: 0,
+    };
+    Tally {
+        updates: wrapping_add_u32(t.updates, 1),
+        all,
+        fd: t.fd,
+        y,
+    }
+}
+
+// Takes a progress line away.
+fn clear(progress: bool) {
+    if progress {
+        out::say(STDERR_FILENO, &[13, 27, 91, 75]);
+    }
+}
+
+// The image with a leftover, and the update's bytes.
+fn prepare(image: &[u8], region: &mut [u8], data: &mut [u8], leftover: u32, update: u32) {
+    text::copy(image, region);
+    leftover::leave(region, data, leftover);
+    data::make(data, kinds::size(update), 0);
+}
+
+// One update over a region that is prepared.
+fn tried(
+    image: &[u8],
+    region: &mut [u8],
+    again: &mut [u8],
+    data: &mut [u8],
+    o: Options,
+    leftover: u32,
+    update: u32,
+    t: Tally,
+) -> Tally {
+    let p = trial::planned(region, data, leftover, update, o.progress);
+    let mut space = [0u8; 2048];
+    let marks: &mut [u8] = &mut space;
+    let c = trial::trial(region, image, again, data, marks, p);
+    clear(o.progress);
+    lines::update_line(p, c);
+    let mut y = t.y;
+    if 0 <= t.fd {
+        y = picture::draw(t.fd, marks, p, c, y);
+    }
+    added(t, c, y)
+}
+
+// One update over the image with a leftover.
+fn one(
+    image: &[u8],
+    region: &mut [u8],
+    again: &mut [u8],
+    data: &mut [u8],
+    o: Options,
+    leftover: u32,
+    update: u32,
+    t: Tally,
+) -> Tally {
+    prepare(image, region, data, leftover, update);
+    tried(image, region, again, data, o, leftover, update, t)
+}
+
+// The update, where it is chosen.
+fn if_chosen(
+    image: &[u8],
+    region: &mut [u8],
+    again: &mut [u8],
+    data: &mut [u8],
+    o: Options,
+    leftover: u32,
+    update: u32,
+    t: Tally,
+) -> Tally {
+    if kinds::has_leftover(o.leftovers, leftover) & kinds::has_update(o.updates, update) {
+        return one(image, region, again, data, o, leftover, update, t);
+    }
+    t
+}
+
+// All updates: each of four kinds for each of six leftovers.
+fn updates(
+    image: &[u8],
+    region: &mut [u8],
+    again: &mut [u8],
+    data: &mut [u8],
+    o: Options,
+    begun: Tally,
+) -> Tally {
+    let mut t = begun;
+    let mut k: u32 = 0;
+    while k < 24 {
+        t = if_chosen(image, region, again, data, o, k / 4, k % 4, t);
+        k += 1;
+    }
+    t
+}
+
+// The picture's file, below 0 where none is asked for or it can't be written. Its name is the first n bytes of space.
+fn picture_file(o: Options, space: &mut [u8]) -> i32 {
+    if o.picture == 0 {
+        return -1;
+    }
+    let n = os::arg(o.picture, space);
+    let fd = os::open_overwrite(part(space, 0, n));
+    if fd < 0 {
+        message::unwritten(part(space, 0, n));
+    }
+    fd
+}
+
+fn start(o: Options, fd: i32) -> Tally {
+    let mut y: u32 = 0;
+    if 0 <= fd {
+        y = picture::start(fd, o.leftovers, o.updates);
+    }
+    let all = Count {
+        cuts: 0,
+        old: 0,
+        new: 0,
+        again: 0,
+        wrong: 0,
+        first: 0,
+    };
+    Tally {
+        updates: 0,
+        all,
+        fd,
+        y,
+    }
+}
+
+fn finish(t: Tally, name: &[u8]) {
+    let all = t.all;
+    lines::last_line(t.updates, all);
+    if 0 <= t.fd {
+        picture::end(t.fd, name, t.updates, all);
+        libc::close(t.fd);
+    }
+}
+
+fn trials(
+    image: &[u8],
+    region: &mut [u8; 983040],
+    again: &mut [u8; 983040],
+    data: &mut [u8; 487424],
+    o: Options,
+    fd: i32,
+    name: &[u8],
+) {
+    let begun = start(o, fd);
+    let t = updates(image, region, again, data, o, begun);
+    finish(t, name);
+}
+
+fn with_rooms(image: &[u8], o: Options, fd: i32, name: &[u8]) {
+    let mut region = image::room();
+    let mut again = image::room();
+    let mut data = data::room();
+    trials(image, &mut region, &mut again, &mut data, o, fd, name);
+}
+
+// The image's name at the start of space; how long it is.
+fn name(image: usize, space: &mut [u8]) -> usize {
+    if image != 0 {
+        return os::arg(image, space);
+    }
+    text::copy(b"samples/two-good.img", space);
+    20
+}
+
+// All trials on an image of a size, or that the size is wrong. Its name is the first n bytes of space.
+fn tell(image: &[u8], size: usize, o: Options, space: &mut [u8], n: usize) {
+    if (size != 983040) & (size != 4194304) {
+        message::wrong_size(part(space, 0, n), size);
+        return;
+    }
+    let fd = picture_file(o, space);
+    if (o.picture != 0) & (fd < 0) {
+        return;
+    }
+    let m = name(o.image, space);
+    with_rooms(image, o, fd, part(space, 0, m));
+}
+
+fn opened(fd: i32, image: &mut [u8; 983040], o: Options, space: &mut [u8], n: usize) {
+    let r = image::read(fd, image);
+    libc::close(fd);
+    match r {
+        Size::Bytes(size) => tell(image, size, o, space, n),
+        Size::Unread => message::unread(part(space, 0, n)),
+    }
+}
+
+fn try_image(o: Options, space: &mut [u8]) {
+    let n = name(o.image, space);
+    let fd = os::open_read(part(space, 0, n));
+    if fd < 0 {
+        message::unread(part(space, 0, n));
+        return;
+    }
+    let mut image = image::room();
+    opened(fd, &mut image, o, space, n);
+}
+
+// Whether progress is told: where standard error is a terminal, or where it is asked for.
+fn with_progress(o: Options) -> Options {
+    Options {
+        progress: o.progress | (libc::isatty(STDERR_FILENO) != 0),
+        ..o
+    }
+}
+
+fn main() {
+    let mut space = argument_room();
+    let o = options::read(&mut space);
+    if message::said(o, &mut space) {
+        return;
+    }
+    let p = with_progress(o);
+    try_image(p, &mut space);
+}

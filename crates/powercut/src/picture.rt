@@ -1,0 +1,298 @@
+// The picture: a cell for each cut, 136 in a row (eight sectors of an erase and 16 writes), coloured by what load gave.
+use crate::kinds;
+use crate::lines::say_counts;
+use crate::lines::say_total;
+use crate::out::count;
+use crate::out::field;
+use crate::out::say;
+use crate::trial::Count;
+use crate::trial::Plan;
+use leaf::bytes::get8;
+use slice::part;
+use std::num::wrapping_add_u32;
+use std::num::wrapping_sub_u32;
+
+// How many rows of cells a kind of update has.
+fn row_count(update: u32) -> u32 {
+    kinds::operations(update) / 136 + 1
+}
+
+// How high an update's part is.
+fn part_height(update: u32) -> u32 {
+    40 + (row_count(update) % 100) * 10
+}
+
+fn height_of(choice: u32, update: u32) -> u32 {
+    if kinds::has_update(choice, update) {
+        return part_height(update) % 10000;
+    }
+    0
+}
+
+// How high the parts of the updates are for one leftover.
+fn heights(choice: u32) -> u32 {
+    let short = wrapping_add_u32(height_of(choice, 0), height_of(choice, 1));
+    let long = wrapping_add_u32(height_of(choice, 2), height_of(choice, 3));
+    wrapping_add_u32(short, long)
+}
+
+fn height(leftovers: u32, updates: u32) -> u32 {
+    let h = heights(updates) % 100000;
+    if leftovers == 6 {
+        return 160 + 6 * h;
+    }
+    160 + h
+}
+
+fn style(fd: i32) {
+    say(
+        fd,
+        b"<style>text{font:11px sans-serif;fill:#222}.t{font-size:18px}",
+    );
+    say(
+        fd,
+        b".n{font-size:9px;fill:#666;text-anchor:end}.m0{fill:#9ecae1}.m4{fill:#3182bd}",
+    );
+    say(
+        fd,
+        b".m1{fill:#74c476}.m5{fill:#238b45}.m2,.m6{fill:#d7301f}</style>\n",
+    );
+}
+
+// White lines between cells, and a dark one before each sector of the data: the first starts at cut 2, and each has 17 cuts.
+fn patterns(fd: i32) {
+    say(
+        fd,
+        b"<pattern id=\"g\" width=\"8\" height=\"10\" patternUnits=\"userSpaceOnUse\">",
+    );
+    say(
+        fd,
+        b"<path d=\"M7.5 0V10M0 9.5H8\" stroke=\"#fff\"/></pattern>\n",
+    );
+    say(
+        fd,
+        b"<pattern id=\"s\" x=\"71\" width=\"136\" height=\"10\" patternUnits=\"userSpaceOnUse\">",
+    );
+    say(fd, b"<path d=\"M.5 0V10\" stroke=\"#222\"/></pattern>\n");
+}
+
+fn rect(fd: i32, mark: u8, x: u32, y: u32, width: u32) {
+    field(fd, b"<rect class=\"m", number::wide(mark));
+    field(fd, b"\" x=\"", x);
+    field(fd, b"\" y=\"", y);
+    field(fd, b"\" width=\"", width);
+    say(fd, b"\" height=\"10\"/>\n");
+}
+
+fn text(fd: i32, x: u32, y: u32) {
+    field(fd, b"<text x=\"", x);
+    field(fd, b"\" y=\"", y);
+    say(fd, b"\">");
+}
+
+fn line(fd: i32, y: u32, words: &[u8]) {
+    text(fd, 56, y);
+    say(fd, words);
+    say(fd, b"</text>\n");
+}
+
+fn explain(fd: i32) {
+    say(
+        fd,
+        b"<text class=\"t\" x=\"56\" y=\"30\">What load gives when the power is cut during an update</text>\n",
+    );
+    line(
+        fd,
+        74,
+        b"A cell is a cut: the first comes before any flash operation, each later one after one more. The number before a row is its first cut.",
+    );
+    line(
+        fd,
+        90,
+        b"A row has 136 cuts. Dark lines part the data's sectors: an erase and 16 writes each. Header and commit word come last.",
+    );
+    line(
+        fd,
+        106,
+        b"Leftover is what the written bank held before: found (as in the image), erased, older (good, one generation older),",
+    );
+    line(
+        fd,
+        122,
+        b"half (another update cut half-way), headed (another update, only its commit word missing), random (random bytes).",
+    );
+}
+
+fn legend_entry(fd: i32, mark: u8, x: u32, words: &[u8]) {
+    rect(fd, mark, x % 10000, 134, 8);
+    text(fd, x % 10000 + 14, 143);
+    say(fd, words);
+    say(fd, b"</text>\n");
+}
+
+fn legend(fd: i32) {
+    legend_entry(fd, 0, 56, b"load gave what it gave before");
+    legend_entry(fd, 1, 256, b"load gave the new bank");
+    legend_entry(
+        fd,
+        4,
+        424,
+        b"darker: the update was also begun again from there, and committed",
+    );
+    legend_entry(
+        fd,
+        2,
+        840,
+        b"wrong: load gave something else, or the update begun again failed",
+    );
+}
+
+// The picture's beginning; where the first update's part starts.
+pub fn start(fd: i32, leftovers: u32, updates: u32) -> u32 {
+    let h = height(leftovers, updates);
+    say(
+        fd,
+        b"<svg xmlns=\"http://www.w3.org/2000/svg\" width=\"1300\"",
+    );
+    field(fd, b" height=\"", h);
+    field(fd, b"\" viewBox=\"0 0 1300 ", h);
+    say(fd, b"\">\n<title>powercut</title>\n");
+    style(fd);
+    patterns(fd);
+    say(
+        fd,
+        b"<rect width=\"1300\" height=\"100%\" fill=\"#fff\"/>\n",
+    );
+    explain(fd);
+    legend(fd);
+    160
+}
+
+// A byte of a name at a place: what XML keeps for itself is written otherwise, what isn't printable ASCII as a question mark.
+fn say_byte(fd: i32, name: &[u8], i: usize) {
+    let b = get8(name, i);
+    if (b < 32) | (126 < b) {
+        say(fd, b"?");
+        return;
+    }
+    match b {
+        38 => say(fd, b"&amp;"),
+        60 => say(fd, b"&lt;"),
+        62 => say(fd, b"&gt;"),
+        _ => say(fd, part(name, i, 1)),
+    }
+}
+
+fn say_name(fd: i32, name: &[u8]) {
+    let mut i = 0;
+    while i < name.len() {
+        say_byte(fd, name, i);
+        i += 1;
+    }
+}
+
+// The picture's end; the line for all updates stands below the title.
+pub fn end(fd: i32, name: &[u8], updates: u32, all: Count) {
+    text(fd, 56, 52);
+    say_name(fd, name);
+    say(fd, b": ");
+    say_total(fd, updates, all);
+    say(fd, b"</text>\n</svg>\n");
+}
+
+// The cells of one colour from a place of a row up to another.
+fn run_of(fd: i32, mark: u8, from: u32, to: u32, y: u32) {
+    let x = 56 + (from % 136) * 8;
+    rect(fd, mark, x, y, (wrapping_sub_u32(to, from) % 137) * 8);
+}
+
+// A row of cells, those of a colour together: the cuts from a number on, up to the end or 136 of them.
+fn cells(fd: i32, marks: &[u8], from: u32, n: u32, y: u32) {
+    let mut k: u32 = 0;
+    let mut start: u32 = 0;
+    while k < 136 {
+        let at = wrapping_add_u32(from, k);
+        if n <= at {
+            run_of(
+                fd,
+                get8(marks, wrapping_add_u32(from, start) as usize),
+                start,
+                k,
+                y,
+            );
+            return;
+        }
+        if get8(marks, at as usize) != get8(marks, wrapping_add_u32(from, start) as usize) {
+            run_of(
+                fd,
+                get8(marks, wrapping_add_u32(from, start) as usize),
+                start,
+                k,
+                y,
+            );
+            start = k;
+        }
+        k += 1;
+    }
+    run_of(
+        fd,
+        get8(marks, wrapping_add_u32(from, start) as usize),
+        start,
+        136,
+        y,
+    );
+}
+
+// A row of cells, with the number of its first cut before it.
+fn row(fd: i32, marks: &[u8], from: u32, n: u32, y: u32) {
+    field(
+        fd,
+        b"<text class=\"n\" x=\"50\" y=\"",
+        wrapping_add_u32(y, 8),
+    );
+    count(fd, b"\">", from);
+    say(fd, b"</text>\n");
+    cells(fd, marks, from, n, y);
+}
+
+fn rows(fd: i32, marks: &[u8], n: u32, wanted: u32, top: u32) {
+    let mut y = top;
+    let mut from: u32 = 0;
+    let mut left = wanted;
+    while 0 < left {
+        row(fd, marks, from, n, y);
+        y = wrapping_add_u32(y, 10);
+        from = wrapping_add_u32(from, 136);
+        left -= 1;
+    }
+}
+
+fn overlay(fd: i32, y: u32, width: u32, height: u32) {
+    field(fd, b"<path fill=\"url(#g)\" d=\"M56 ", y);
+    field(fd, b"h", width);
+    field(fd, b"v", height);
+    field(fd, b"H56z\"/><path fill=\"url(#s)\" d=\"M56 ", y);
+    field(fd, b"h", width);
+    field(fd, b"v", height);
+    say(fd, b"H56z\"/>\n");
+}
+
+// The lines over n cells: over the whole rows, and over the last one.
+fn grid(fd: i32, y: u32, n: u32) {
+    let whole = n / 136 % 100;
+    overlay(fd, y, 1088, whole * 10);
+    overlay(fd, wrapping_add_u32(y, whole * 10), n % 136 * 8, 10);
+}
+
+// An update's part; where the next one starts.
+pub fn draw(fd: i32, marks: &[u8], p: Plan, c: Count, y: u32) -> u32 {
+    text(fd, 56, wrapping_add_u32(y, 14));
+    kinds::say_kinds(fd, p.leftover, p.update);
+    say(fd, b": ");
+    say_counts(fd, p, c);
+    say(fd, b"</text>\n");
+    let top = wrapping_add_u32(y, 20);
+    rows(fd, marks, c.cuts, row_count(p.update), top);
+    grid(fd, top, c.cuts);
+    wrapping_add_u32(y, part_height(p.update))
+}

@@ -1,0 +1,352 @@
+// One update, cut after each of its flash operations.
+use crate::data::key_length;
+use crate::kinds;
+use crate::leftover::number_after;
+use crate::out::count;
+use crate::out::say;
+use crate::text::copy;
+use crate::text::put8;
+use crate::text::same_bytes;
+use crate::update::Update;
+use crate::update::begin;
+use crate::update::is_over;
+use crate::update::run;
+use crate::update::stamp;
+use crate::update::step;
+use bank::Loaded;
+use bank::bank_of;
+use bank::load;
+use header::Bank;
+use header::Validated;
+use leaf::crc::crc32;
+use libc::STDERR_FILENO;
+use slice::part;
+use std::num::wrapping_add_u32;
+use std::num::wrapping_add_usize;
+
+// What is tried, what load gave on the region found, and the bank that the update commits.
+pub struct Plan {
+    pub leftover: u32,
+    pub update: u32,
+    pub progress: bool,
+    pub found: Loaded,
+    pub fresh: Bank,
+}
+
+// How many cuts there were, on how many load gave what was found and the new bank, from how many the update was begun again, and how
+// many were wrong, the first of them at a cut.
+pub struct Count {
+    pub cuts: u32,
+    pub old: u32,
+    pub new: u32,
+    pub again: u32,
+    pub wrong: u32,
+    pub first: u32,
+}
+
+fn generation_after(l: Loaded) -> u32 {
+    match l {
+        Loaded::Found(b) => wrapping_add_u32(b.generation, 1),
+        _ => 0,
+    }
+}
+
+// The bank that an update of n bytes commits where load gives l.
+fn bank_after(l: Loaded, data: &[u8], n: usize) -> Bank {
+    Bank {
+        number: number_after(l),
+        version: 3,
+        generation: generation_after(l),
+        length: (n % 4294967296) as u32,
+        crc: crc32(0, part(data, 0, n)),
+        count: 1,
+        key: (key_length(n) % 4294967296) as u32,
+        checked: stamp(),
+    }
+}
+
+pub fn planned(region: &[u8], data: &[u8], leftover: u32, update: u32, progress: bool) -> Plan {
+    let found = load(region);
+    let fresh = bank_after(found, data, kinds::size(update));
+    Plan {
+        leftover,
+        update,
+        progress,
+        found,
+        fresh,
+    }
+}
+
+fn same_numbers(a: Bank, b: Bank) -> bool {
+    (a.number == b.number)
+        & ((a.version == b.version) & (a.generation == b.generation))
+        & ((a.length == b.length) & (a.crc == b.crc))
+        & ((a.count == b.count) & (a.key == b.key))
+        & (a.checked == b.checked)
+}
+
+fn is_found(l: Loaded, b: Bank) -> bool {
+    match l {
+        Loaded::Found(x) => same_numbers(x, b),
+        _ => false,
+    }
+}
+
+fn is_nothing(l: Loaded) -> bool {
+    match l {
+        Loaded::Nothing => true,
+        _ => false,
+    }
+}
+
+fn same_loaded(l: Loaded, e: Loaded) -> bool {
+    match e {
+        Loaded::Found(b) => is_found(l, b),
+        _ => is_nothing(l),
+    }
+}
+
+fn is_good(v: Validated, b: Bank) -> bool {
+    match v {
+        Validated::Good(x) => same_numbers(x, b),
+        _ => false,
+    }
+}
+
+// Whether a bank is there whole: validate passes, and its data are the bytes of the update.
+fn is_whole(region: &[u8], data: &[u8], b: Bank, n: usize) -> bool {
+    let v = bank::validate(region, b.number);
+    let held = part(bank_of(region, b.number), 4096, n);
+    is_good(v, b) & same_bytes(held, part(data, 0, n))
+}
+
+// Whether the bank that isn't written has the bytes that it had.
+fn is_kept(region: &[u8], before: &[u8], p: Plan) -> bool {
+    let b = p.fresh;
+    let other = if b.number == 0 { 1 } else { 0 };
+    same_bytes(bank_of(region, other), bank_of(before, other))
+}
+
+// Whether load gives what must be there after a cut.
+fn is_right(region: &[u8], before: &[u8], data: &[u8], p: Plan, over: bool) -> bool {
+    let l = load(region);
+    let b = p.fresh;
+    if over {
+        return is_found(l, b)
+            & (is_whole(region, data, b, kinds::size(p.update)) & is_kept(region, before, p));
+    }
+    let e = p.found;
+    same_loaded(l, e) & is_kept(region, before, p)
+}
+
+// Begins again on a region and sees the whole update commit.
+fn commits(region: &mut [u8], data: &[u8], update: u32) -> bool {
+    let n = kinds::size(update);
+    let l = load(region);
+    let b = bank_after(l, data, n);
+    let begun = begin(region, n, false, false);
+    let u = run(begun, region, data, 4294967295);
+    let after = load(region);
+    (is_over(u) & (u.right & (u.operations == kinds::operations(update))))
+        & (is_found(after, b) & is_whole(region, data, b, n))
+}
+
+// Whether the update is begun again after this cut: every 97th, and the last few.
+fn is_sampled(update: u32, cut: u32) -> bool {
+    (cut % 97 == 0) | (kinds::operations(update) <= wrapping_add_u32(cut, 6))
+}
+
+fn begun_again(region: &[u8], again: &mut [u8], data: &[u8], update: u32) -> bool {
+    copy(region, again);
+    commits(again, data, update)
+}
+
+// Whether the update commits again, where that is tried.
+fn goes_on(region: &[u8], again: &mut [u8], data: &[u8], update: u32, sampled: bool) -> bool {
+    if sampled {
+        return begun_again(region, again, data, update);
+    }
+    true
+}
+
+fn counted(c: Count, right: bool, over: bool, sampled: bool) -> Count {
+    let cuts = wrapping_add_u32(c.cuts, 1);
+    let mut again = c.again;
+    if sampled {
+        again = wrapping_add_u32(again, 1);
+    }
+    if !right {
+        let first = if c.wrong == 0 { c.cuts } else { c.first };
+        return Count {
+            cuts,
+            again,
+            wrong: wrapping_add_u32(c.wrong, 1),
+            first,
+            ..c
+        };
+    }
+    if over {
+        return Count {
+            cuts,
+            again,
+            new: wrapping_add_u32(c.new, 1),
+            ..c
+        };
+    }
+    Count {
+        cuts,
+        again,
+        old: wrapping_add_u32(c.old, 1),
+        ..c
+    }
+}
+
+// What a cut gave: 0 what was found, 1 the new bank, 2 wrong.
+fn gave(right: bool, over: bool) -> u8 {
+    if !right {
+        return 2;
+    }
+    if over { 1 } else { 0 }
+}
+
+// What the picture shows of a cut: what it gave, and 4 more where the update was begun again.
+fn mark(right: bool, over: bool, sampled: bool) -> u8 {
+    let g = gave(right, over) % 4;
+    if sampled { 4 + g } else { g }
+}
+
+fn tell(p: Plan, cut: u32) {
+    if p.progress & (cut % 16 == 0) {
+        say(STDERR_FILENO, b"\r");
+        kinds::say_kinds(STDERR_FILENO, p.leftover, p.update);
+        count(STDERR_FILENO, b": cut ", cut);
+        count(STDERR_FILENO, b" of ", kinds::operations(p.update));
+        say(STDERR_FILENO, b"   ");
+    }
+}
+
+// Looks at the region after a cut.
+fn look(
+    u: Update,
+    region: &[u8],
+    before: &[u8],
+    again: &mut [u8],
+    data: &[u8],
+    marks: &mut [u8],
+    p: Plan,
+    c: Count,
+) -> Count {
+    let over = is_over(u);
+    let sampled = is_sampled(p.update, c.cuts);
+    let good = u.right & is_right(region, before, data, p, over);
+    let right = goes_on(region, again, data, p.update, sampled) & good;
+    put8(marks, c.cuts as usize, mark(right, over, sampled));
+    tell(p, c.cuts);
+    counted(c, right, over, sampled)
+}
+
+fn none() -> Count {
+    Count {
+        cuts: 0,
+        old: 0,
+        new: 0,
+        again: 0,
+        wrong: 0,
+        first: 0,
+    }
+}
+
+// A step, and a look where it was a flash operation.
+fn next(
+    u: Update,
+    region: &[u8],
+    before: &[u8],
+    again: &mut [u8],
+    data: &[u8],
+    marks: &mut [u8],
+    p: Plan,
+    c: Count,
+) -> Count {
+    if u.flash {
+        return look(u, region, before, again, data, marks, p, c);
+    }
+    c
+}
+
+// All cuts of an update, the first before any operation.
+fn cuts(
+    region: &mut [u8],
+    before: &[u8],
+    again: &mut [u8],
+    data: &[u8],
+    marks: &mut [u8],
+    p: Plan,
+) -> Count {
+    let mut u = begin(region, kinds::size(p.update), false, false);
+    let mut c = look(u, region, before, again, data, marks, p, none());
+    let mut turns: u32 = 8000;
+    while 0 < turns {
+        if is_over(u) {
+            return c;
+        }
+        u = step(u, region, data);
+        c = next(u, region, before, again, data, marks, p, c);
+        turns -= 1;
+    }
+    c
+}
+
+// Whether the comparison of an update with the active bank answers as it must, and changes nothing.
+fn compares(region: &mut [u8], data: &[u8], update: u32, same: bool) -> bool {
+    let before = crc32(0, region);
+    let begun = begin(region, kinds::size(update), true, same);
+    let u = run(begun, region, data, 4294967295);
+    is_over(u) & (u.right & (crc32(0, region) == before))
+}
+
+// One more that is wrong, if it is.
+fn with_whole(c: Count, right: bool) -> Count {
+    if right {
+        return c;
+    }
+    let first = if c.wrong == 0 { c.cuts } else { c.first };
+    Count {
+        wrong: wrapping_add_u32(c.wrong, 1),
+        first,
+        ..c
+    }
+}
+
+// All cuts, with as many operations as there must be.
+fn counted_cuts(
+    region: &mut [u8],
+    before: &[u8],
+    again: &mut [u8],
+    data: &[u8],
+    marks: &mut [u8],
+    p: Plan,
+) -> Count {
+    let c = cuts(region, before, again, data, marks, p);
+    with_whole(
+        c,
+        (c.cuts == wrapping_add_u32(kinds::operations(p.update), 1)) & (c.new <= 1),
+    )
+}
+
+// One update; one that is compared first is compared after it too.
+pub fn trial(
+    region: &mut [u8],
+    before: &[u8],
+    again: &mut [u8],
+    data: &[u8],
+    marks: &mut [u8],
+    p: Plan,
+) -> Count {
+    if p.update != 3 {
+        return counted_cuts(region, before, again, data, marks, p);
+    }
+    let first = compares(region, data, 3, false);
+    let c = counted_cuts(region, before, again, data, marks, p);
+    let second = compares(region, data, 3, true);
+    with_whole(c, first & second)
+}

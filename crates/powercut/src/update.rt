@@ -1,0 +1,277 @@
+// An update by the lower layer's calls, one call a step.
+use crate::data::table_start;
+use crate::text::between;
+use commit::Stamp;
+use record::Source;
+use record::no_source;
+use std::num::wrapping_add_u32;
+use std::num::wrapping_add_usize;
+use writer::Answer;
+use writer::Stage;
+use writer::Writer;
+
+// What comes next once no operation is due.
+pub enum Phase {
+    Key,
+    Table,
+    Closed,
+    Headed,
+    Over,
+}
+
+// How far an update of n bytes is: bytes taken, flash operations done, whether the last step was one, and whether every call
+// answered as it must. One that compares ends with the question whether the update is what the active bank has.
+pub struct Update {
+    pub writer: Writer,
+    pub phase: Phase,
+    pub n: usize,
+    pub at: usize,
+    pub comparing: bool,
+    pub same: bool,
+    pub operations: u32,
+    pub flash: bool,
+    pub right: bool,
+}
+
+// Time of the beginning and the host's stamp.
+fn now() -> i64 {
+    1791000000
+}
+
+pub fn stamp() -> i64 {
+    1791000060
+}
+
+fn the_source() -> Source {
+    let z = no_source();
+    Source {
+        start: 20260101,
+        end: 20261231,
+        present: 1,
+        updated: 1790900000,
+        ..z
+    }
+}
+
+fn done(a: Answer) -> bool {
+    match a {
+        Answer::Done => true,
+        _ => false,
+    }
+}
+
+// A beginning, and the one source. same is what is to be answered where it compares.
+pub fn begin(region: &[u8], n: usize, comparing: bool, same: bool) -> Update {
+    let s = begin::begin(region, comparing, now());
+    let begun = s.writer;
+    let a = s.answer;
+    let source = the_source();
+    let t = tables::source(begun, source);
+    let writer = t.writer;
+    let b = t.answer;
+    Update {
+        writer,
+        phase: Phase::Key,
+        n,
+        at: 0,
+        comparing,
+        same,
+        operations: 0,
+        flash: false,
+        right: done(a) & done(b),
+    }
+}
+
+fn is_due(w: Writer) -> bool {
+    let s = w.stage;
+    match s {
+        Stage::Due(_) => true,
+        _ => false,
+    }
+}
+
+pub fn is_over(u: Update) -> bool {
+    let p = u.phase;
+    match p {
+        Phase::Over => true,
+        _ => false,
+    }
+}
+
+// The due operation.
+fn operate(u: Update, region: &mut [u8]) -> Update {
+    let w = u.writer;
+    let s = due::due(w, region);
+    let writer = s.writer;
+    let a = s.answer;
+    let mut operations = u.operations;
+    if !u.comparing {
+        operations = wrapping_add_u32(operations, 1);
+    }
+    Update {
+        writer,
+        operations,
+        flash: !u.comparing,
+        right: u.right & done(a),
+        ..u
+    }
+}
+
+// How many bytes were taken; none is not what is expected here.
+fn taken(a: Answer) -> usize {
+    match a {
+        Answer::Took(k) => k as usize,
+        _ => 0,
+    }
+}
+
+fn take(u: Update, bytes: &[u8]) -> Update {
+    let w = u.writer;
+    let s = take::bytes(w, bytes);
+    let writer = s.writer;
+    let a = s.answer;
+    let k = taken(a);
+    Update {
+        writer,
+        at: wrapping_add_usize(u.at, k),
+        flash: false,
+        right: u.right & (0 < k),
+        ..u
+    }
+}
+
+fn start_table(u: Update) -> Update {
+    let w = u.writer;
+    let s = tables::table(w, 0);
+    let writer = s.writer;
+    let a = s.answer;
+    Update {
+        writer,
+        phase: Phase::Table,
+        flash: false,
+        right: u.right & done(a),
+        ..u
+    }
+}
+
+fn close(u: Update) -> Update {
+    let w = u.writer;
+    let s = blocks::end(w);
+    let ended = s.writer;
+    let a = s.answer;
+    let t = begin::close(ended);
+    let writer = t.writer;
+    let b = t.answer;
+    Update {
+        writer,
+        phase: Phase::Closed,
+        flash: false,
+        right: u.right & (done(a) & done(b)),
+        ..u
+    }
+}
+
+fn header(u: Update, region: &mut [u8]) -> Update {
+    let w = u.writer;
+    let s = commit::commit(w, region, Stamp::Given(stamp()), true);
+    let writer = s.writer;
+    let a = s.answer;
+    Update {
+        writer,
+        phase: Phase::Headed,
+        operations: wrapping_add_u32(u.operations, 1),
+        flash: true,
+        right: u.right & done(a),
+        ..u
+    }
+}
+
+fn word(u: Update, region: &mut [u8]) -> Update {
+    let w = u.writer;
+    let s = commit::commit_word(w, region);
+    let writer = s.writer;
+    let a = s.answer;
+    Update {
+        writer,
+        phase: Phase::Over,
+        operations: wrapping_add_u32(u.operations, 1),
+        flash: true,
+        right: u.right & done(a),
+        ..u
+    }
+}
+
+// Whether an answer is that it is the same, or that it is not.
+fn says(a: Answer, same: bool) -> bool {
+    match a {
+        Answer::Same => same,
+        Answer::Different => !same,
+        _ => false,
+    }
+}
+
+fn ask(u: Update, region: &[u8]) -> Update {
+    let w = u.writer;
+    let s = unchanged::unchanged(w, region);
+    let writer = s.writer;
+    let a = s.answer;
+    Update {
+        writer,
+        phase: Phase::Over,
+        flash: false,
+        right: u.right & says(a, u.same),
+        ..u
+    }
+}
+
+fn in_key(u: Update, data: &[u8]) -> Update {
+    let to = table_start(u.n);
+    if u.at < to {
+        return take(u, between(data, u.at, to));
+    }
+    start_table(u)
+}
+
+fn in_table(u: Update, data: &[u8]) -> Update {
+    if u.at < u.n {
+        return take(u, between(data, u.at, u.n));
+    }
+    close(u)
+}
+
+fn closed(u: Update, region: &mut [u8]) -> Update {
+    if u.comparing {
+        return ask(u, region);
+    }
+    header(u, region)
+}
+
+// One call more.
+pub fn step(u: Update, region: &mut [u8], data: &[u8]) -> Update {
+    let w = u.writer;
+    if is_due(w) {
+        return operate(u, region);
+    }
+    let p = u.phase;
+    match p {
+        Phase::Key => in_key(u, data),
+        Phase::Table => in_table(u, data),
+        Phase::Closed => closed(u, region),
+        Phase::Headed => word(u, region),
+        Phase::Over => u,
+    }
+}
+
+// Calls until so many operations are done or the update is over; the longest update takes fewer than 8,000 calls.
+pub fn run(begun: Update, region: &mut [u8], data: &[u8], operations: u32) -> Update {
+    let mut u = begun;
+    let mut turns: u32 = 8000;
+    while 0 < turns {
+        if is_over(u) | (u.operations == operations) {
+            return u;
+        }
+        u = step(u, region, data);
+        turns -= 1;
+    }
+    u
+}
