@@ -11,7 +11,7 @@ fn main() {
         },
         Into::into,
     );
-    for name in ["export", "bankexport", "rowexport"] {
+    for name in ["export", "bankexport", "rowexport", "updateexport", "upperexport"] {
         let library = folder.join(format!("lib{name}.a"));
         println!("cargo:rerun-if-changed={}", library.display());
         if !library.is_file() {

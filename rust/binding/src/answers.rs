@@ -1,6 +1,7 @@
 //! The answers of the calls on banks, as they cross the C interface. A refusal
 //! is document 01's number, 0 for none; beside it the other numbers are 0, times
 //! not known, and a state is the one that was given.
+pub use crate::refusal::Refusal;
 
 /// A time that isn't known.
 pub const UNKNOWN: i64 = i64::MIN;

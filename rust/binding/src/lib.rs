@@ -1,5 +1,11 @@
 //! Safe functions over the proved core. No call needs a check beforehand: every
-//! index, number and length has an answer.
+//! index, number and length has an answer. `cache` has the calls under the names
+//! of the firmware's cache.rs, with results and refusals; the other modules have
+//! them with the numbers that cross the C interface.
+
+pub mod cache;
+pub mod refusal;
+pub use refusal::Refusal;
 
 /// The core's C interface, in one place. A slice is a pointer and a length.
 mod core_interface {
@@ -88,6 +94,7 @@ use core_interface::*;
 pub mod answers;
 pub mod banks;
 pub mod rows;
+pub mod update;
 
 /// The 32-bit number at `i`, little-endian; bytes past the end read 0.
 pub fn get(b: &[u8], i: usize) -> u32 {

@@ -1,0 +1,94 @@
+/* Loads a board's image and shows the bank in use: its numbers, its sources, its tables' rows.
+   show IMAGE */
+#include <stdio.h>
+#include <stdlib.h>
+
+#include "bankcore.h"
+
+enum { REGION = 983040, RECORD = 384, COLUMNS = 16 };
+
+static const char *const tables[8] = {
+    "routes", "stops", "trips", "stop_times", "calendar", "calendar_dates", "feed_info", "transfers",
+};
+
+/* The file's bytes, at most one more than a region has; how many there were. */
+static size_t read_image(const char *name, uint8_t *image)
+{
+    FILE *file = fopen(name, "rb");
+    if (!file) {
+        fprintf(stderr, "show: %s can't be read\n", name);
+        exit(2);
+    }
+    size_t n = fread(image, 1, REGION + 1, file);
+    fclose(file);
+    return n;
+}
+
+static void show_bank(const uint8_t *image, size_t n, uint32_t bank)
+{
+    TtBankNumbers b = tt_validate(image, n, bank);
+    if (b.refusal)
+        printf("bank %u: refusal %u %s\n", bank, b.refusal, tt_refusal_word(b.refusal));
+    else
+        printf("bank %u: generation %u\n", bank, b.generation);
+}
+
+/* How many rows a table has after its names line, and whether one is malformed. */
+static void show_table(const uint8_t *image, size_t n, uint32_t bank, uint32_t source, uint32_t table)
+{
+    static uint8_t values[8192];
+    size_t ends[COLUMNS];
+    size_t place = 0;
+    size_t rows = 0;
+    TtBankRowNumbers row;
+    for (;;) {
+        row = tt_bank_row(image, n, bank, source, table, place, values, sizeof values, ends, COLUMNS);
+        if (row.refusal || !row.found)
+            break;
+        rows += 1;
+        place = row.next;
+    }
+    if (row.refusal)
+        printf("  %s: refusal %u %s at %zu\n", tables[table], row.refusal, tt_refusal_word(row.refusal), place);
+    else if (rows)
+        printf("  %s: rows %zu\n", tables[table], rows - 1);
+}
+
+static void show_source(const uint8_t *image, size_t n, uint32_t bank, uint32_t source)
+{
+    uint8_t record[RECORD];
+    uint32_t refusal = tt_source(image, n, bank, source, record, sizeof record);
+    if (refusal) {
+        printf("source %u: refusal %u %s\n", source, refusal, tt_refusal_word(refusal));
+        return;
+    }
+    printf("source %u: %u to %u\n", source, tt_get(record, sizeof record, 0), tt_get(record, sizeof record, 4));
+    for (uint32_t table = 0; table < 8; table++)
+        show_table(image, n, bank, source, table);
+}
+
+int main(int argc, char **argv)
+{
+    static uint8_t image[REGION + 1];
+    if (argc != 2) {
+        fprintf(stderr, "show: name one image, of 983040 bytes\n");
+        return 2;
+    }
+    size_t n = read_image(argv[1], image);
+    TtBankNumbers bank = tt_load(image, n);
+    if (bank.refusal) {
+        printf("load: refusal %u %s\n", bank.refusal, tt_refusal_word(bank.refusal));
+        return 1;
+    }
+    show_bank(image, n, 0);
+    show_bank(image, n, 1);
+    if (!bank.found) {
+        printf("load: none\n");
+        return 0;
+    }
+    printf("load: bank %u, generation %u, %u bytes, ", bank.number, bank.generation, bank.length);
+    printf("sources %u, key length %u, checked %lld\n", bank.count, bank.key, (long long)bank.checked);
+    for (uint32_t source = 0; source < bank.count; source++)
+        show_source(image, n, bank.number, source);
+    return 0;
+}

@@ -1,0 +1,150 @@
+/* An update with at most one flash operation a turn of the main loop: cut after each number of
+   operations, then whole. update IMAGE */
+#include <stdio.h>
+#include <stdlib.h>
+#include <string.h>
+
+#include "bankcore.h"
+
+enum { REGION = 983040, RECORD = 384, ROUTES = 0, NONE_DUE = 2 };
+
+static const int64_t now = 1790000000;
+
+/* What the host hands over, and how far it got. */
+typedef struct Host {
+    uint8_t key[64], record[RECORD], dates[8], table[1024];
+    size_t key_length, table_length;
+    int next;
+    size_t taken;
+    TtState state;
+} Host;
+
+static void refused(uint32_t refusal)
+{
+    if (refusal) {
+        printf("refusal %u %s\n", refusal, tt_refusal_word(refusal));
+        exit(1);
+    }
+}
+
+/* An update of one source with one table. */
+static void prepare(Host *h)
+{
+    static const uint8_t identity[] = "shelter 12", values[] = "r7Harbour3";
+    static const uint32_t lengths[3] = {2, 7, 1};
+    memset(h, 0, sizeof *h);
+    TtKeyNumbers key = tt_key(identity, sizeof identity - 1, values, 0, lengths, 0, h->key, sizeof h->key);
+    refused(key.refusal);
+    h->key_length = key.length;
+    tt_put(h->record, RECORD, 0, 20260101);
+    tt_put(h->record, RECORD, 4, 20261231);
+    tt_put(h->record, RECORD, 8, 1 << ROUTES);
+    tt_put_time(h->record, RECORD, 12, now - 600);
+    memcpy(h->dates, h->record, sizeof h->dates);
+    TtRowNumbers line = tt_names_line(ROUTES, h->table, sizeof h->table);
+    refused(line.refusal);
+    h->table_length = line.length;
+    for (int i = 0; i < 40; i++) {
+        uint8_t *end = h->table + h->table_length;
+        line = tt_row(ROUTES, values, sizeof values - 1, lengths, 3, end, sizeof h->table - h->table_length);
+        refused(line.refusal);
+        h->table_length += line.length;
+    }
+}
+
+/* Keeps the state that a call gives; its answer. */
+static TtUpdateNumbers keep(Host *h, TtUpdateStep step)
+{
+    refused(step.numbers.refusal);
+    h->state = step.state;
+    return step.numbers;
+}
+
+/* Hands over bytes, as many as are taken; whether that was all. */
+static bool append(Host *h, const uint8_t *bytes, size_t n)
+{
+    h->taken += keep(h, tt_update_bytes(h->state, bytes + h->taken, n - h->taken)).count;
+    if (h->taken < n)
+        return false;
+    h->taken = 0;
+    return true;
+}
+
+/* One turn: the due operation if there is one, else what comes next. How many flash operations it
+   did, below 0 when all is done. */
+static int turn(Host *h, uint8_t *region)
+{
+    bool over = true;
+    if (keep(h, tt_update_due(region, REGION, h->state)).answer != NONE_DUE)
+        return 1;
+    switch (h->next) {
+    case 0: over = append(h, h->key, h->key_length); break;
+    case 1: keep(h, tt_update_source(h->state, h->record, RECORD)); break;
+    case 2: over = append(h, h->dates, sizeof h->dates); break;
+    case 3: keep(h, tt_update_table(h->state, ROUTES)); break;
+    case 4: over = append(h, h->table, h->table_length); break;
+    case 5: keep(h, tt_update_end(h->state)); break;
+    case 6: keep(h, tt_update_close(h->state)); break;
+    case 7: keep(h, tt_update_commit(region, REGION, h->state, false, 0, true)); break;
+    case 8: keep(h, tt_update_commit_word(region, REGION, h->state)); break;
+    default: return -1;
+    }
+    if (over)
+        h->next += 1;
+    return over && h->next > 7;
+}
+
+/* An update whose power goes once so many operations are done: its state is gone then. How many
+   were done, and whether it came to its end. */
+static int update(uint8_t *region, int power, bool *whole)
+{
+    static Host h;
+    int done = 0;
+    prepare(&h);
+    keep(&h, tt_update_begin(region, REGION, false, now, h.state));
+    *whole = false;
+    while (done < power && !*whole) {
+        int operations = turn(&h, region);
+        *whole = operations < 0;
+        done += *whole ? 0 : operations;
+    }
+    return done;
+}
+
+static void show(const char *what, int done, const uint8_t *region)
+{
+    TtBankNumbers bank = tt_load(region, REGION);
+    refused(bank.refusal);
+    if (done >= 0)
+        printf("%s %d %s: ", what, done, done == 1 ? "operation" : "operations");
+    else
+        printf("%s: ", what);
+    if (bank.found)
+        printf("load gives bank %u, generation %u\n", bank.number, bank.generation);
+    else
+        printf("load gives none\n");
+}
+
+int main(int argc, char **argv)
+{
+    static uint8_t image[REGION], region[REGION];
+    bool whole = false;
+    FILE *file = argc == 2 ? fopen(argv[1], "rb") : NULL;
+    if (!file || fread(image, 1, REGION, file) != REGION) {
+        fprintf(stderr, "update: name one image, of 983040 bytes\n");
+        return 2;
+    }
+    fclose(file);
+    show("at the start", -1, image);
+    for (int power = 0; !whole; power++) {
+        memcpy(region, image, REGION);
+        int done = update(region, power, &whole);
+        show(whole ? "whole," : "cut after", done, region);
+        if (!whole) {
+            bool again;
+            update(region, 1 << 20, &again);
+            show("  and again, whole", -1, region);
+        }
+    }
+    return 0;
+}

@@ -1,0 +1,77 @@
+//! What a reading that trusts a bank's header alone shows of an image, and what
+//! load gives: the trips of the first source, by where they go. ticket41 IMAGE
+use bankcore::{
+    Refusal,
+    cache::{self, BANK_SIZE, Bank},
+    get, newer,
+};
+
+const TRIPS: u32 = 2;
+
+/// The bank that passes by its header, the newer one tried first; its data are
+/// not looked at.
+fn by_header(image: &[u8]) -> Option<Bank> {
+    let generation = |bank: usize| get(image, bank * BANK_SIZE + 8);
+    let order = if newer(generation(1), generation(0)) { [1, 0] } else { [0, 1] };
+    order.into_iter().find_map(|bank| cache::header(image, bank).ok())
+}
+
+fn show_run(trips: usize, headsign: &str) {
+    let many = if trips == 1 { "trip" } else { "trips" };
+    if trips > 0 {
+        println!("  {trips} {many} to \"{headsign}\"");
+    }
+}
+
+/// The trips in stored order; those in a row that go to one place are counted.
+fn show_trips(image: &[u8], bank: &Bank) {
+    let (mut values, mut ends) = ([0; 8192], [0; 16]);
+    let (mut place, mut trips) = (0, 0);
+    let mut headsign = String::new();
+    loop {
+        match bank.row(image, 0, TRIPS, place, &mut values, &mut ends) {
+            Ok(Some(row)) if place > 0 => {
+                let text = String::from_utf8_lossy(&values[ends[2]..ends[3]]).into_owned();
+                if text != headsign {
+                    show_run(trips, &headsign);
+                    (trips, headsign) = (0, text);
+                }
+                (place, trips) = (row.next, trips + 1);
+            }
+            Ok(Some(row)) => place = row.next,
+            Ok(None) => return show_run(trips, &headsign),
+            Err(refusal) => {
+                show_run(trips, &headsign);
+                return println!("  then {refusal}, at byte {place} of the table");
+            }
+        }
+    }
+}
+
+fn show(image: &[u8], what: &str, bank: Option<Bank>) {
+    match bank {
+        Some(bank) => {
+            println!("{what}: bank {}, generation {}", bank.number, bank.generation);
+            show_trips(image, &bank);
+        }
+        None => println!("{what}: none"),
+    }
+}
+
+fn main() -> Result<(), Refusal> {
+    let name = std::env::args().nth(1).unwrap_or("samples/ticket-41.img".into());
+    let image = std::fs::read(&name).unwrap_or_else(|error| {
+        eprintln!("ticket41: {name} can't be read: {error}");
+        std::process::exit(2);
+    });
+    let loaded = cache::load(&image)?;
+    show(&image, "by the header alone", by_header(&image));
+    show(&image, "load", loaded);
+    for number in 0..2 {
+        match cache::validate(&image, number) {
+            Ok(_) => println!("bank {number} passes"),
+            Err(refusal) => println!("bank {number}: {refusal}"),
+        }
+    }
+    Ok(())
+}

@@ -1,0 +1,361 @@
+//! An update, call by call: the lower layer, one flash operation a call, and the
+//! upper layer, whole rows and tables. Any state has an answer, as has every
+//! region, table, record and row; nothing needs a check beforehand.
+use crate::{answers::Refusal, banks::Picks, rows::Values};
+
+mod core_interface {
+    use super::{State, Step};
+
+    unsafe extern "C" {
+        pub fn tt_update_begin(
+            region: *const u8,
+            n: usize,
+            comparing: bool,
+            now: i64,
+            state: State,
+        ) -> Step;
+        pub fn tt_update_source(state: State, record: *const u8, n: usize) -> Step;
+        pub safe fn tt_update_table(state: State, table: u32) -> Step;
+        pub fn tt_update_bytes(state: State, bytes: *const u8, n: usize) -> Step;
+        pub safe fn tt_update_end(state: State) -> Step;
+        pub safe fn tt_update_close(state: State) -> Step;
+        pub fn tt_update_due(region: *mut u8, n: usize, state: State) -> Step;
+        pub fn tt_update_unchanged(region: *const u8, n: usize, state: State) -> Step;
+        pub fn tt_update_commit(
+            region: *mut u8,
+            n: usize,
+            state: State,
+            stamped: bool,
+            stamp: i64,
+            current: bool,
+        ) -> Step;
+        pub fn tt_update_commit_word(region: *mut u8, n: usize, state: State) -> Step;
+        pub fn tt_upper_begin(
+            region: *mut u8,
+            n: usize,
+            comparing: bool,
+            now: i64,
+            identity: *const u8,
+            identity_length: usize,
+            texts: *const u8,
+            texts_length: usize,
+            lengths: *const u32,
+            lengths_length: usize,
+            state: State,
+        ) -> Step;
+        pub fn tt_upper_source(
+            region: *mut u8,
+            n: usize,
+            state: State,
+            record: *const u8,
+            size: usize,
+        ) -> Step;
+        pub fn tt_upper_table(region: *mut u8, n: usize, state: State, table: u32) -> Step;
+        pub fn tt_upper_row(
+            region: *mut u8,
+            n: usize,
+            state: State,
+            texts: *const u8,
+            texts_length: usize,
+            lengths: *const u32,
+            lengths_length: usize,
+        ) -> Step;
+        pub fn tt_upper_end(region: *mut u8, n: usize, state: State) -> Step;
+        pub fn tt_upper_close(region: *mut u8, n: usize, state: State) -> Step;
+    }
+}
+use core_interface::*;
+
+pub const DONE: u32 = 0;
+pub const TOOK: u32 = 1;
+pub const NONE_DUE: u32 = 2;
+pub const SAME: u32 = 3;
+pub const DIFFERENT: u32 = 4;
+
+/// What a call says. A refusal is document 01's number, 0 for none; beside it
+/// the other numbers are 0. The count is of bytes taken.
+#[repr(C)]
+#[derive(Clone, Copy, Debug, Default, PartialEq, Eq)]
+pub struct Answer {
+    pub refusal: u32,
+    pub answer: u32,
+    pub count: u32,
+}
+
+impl Answer {
+    /// The refusal, if the call was refused.
+    pub fn refused(&self) -> Option<Refusal> {
+        Refusal::of(self.refusal)
+    }
+}
+
+#[repr(C)]
+struct Step {
+    answer: Answer,
+    state: State,
+}
+
+#[repr(C)]
+#[derive(Clone, Copy, Debug, PartialEq, Eq)]
+struct Bank {
+    /// Number, version, generation, length, CRC, count, key length.
+    numbers: [u32; 7],
+    checked: i64,
+}
+
+#[repr(C)]
+#[derive(Clone, Copy, Debug, PartialEq, Eq)]
+struct Source {
+    /// Start, end, present.
+    numbers: [u32; 3],
+    updated: i64,
+    /// The original dates' pairs, then offset, length and CRC of each block.
+    tables: [u32; 40],
+    stamp: [u8; 12],
+    idlen: u8,
+    id: [u8; 80],
+    validator: [u8; 66],
+}
+
+/// The state of an update. A refused call leaves it as it was.
+#[repr(C)]
+#[derive(Clone, Copy, Debug, PartialEq, Eq)]
+pub struct State {
+    /// The stage, the due operation's two numbers, the active bank's kind.
+    stage: [u32; 4],
+    bank: Bank,
+    now: i64,
+    /// Comparing, written, fill, CRC, different, closed; count, table, start,
+    /// CRC, begun.
+    numbers: [u32; 11],
+    sources: [Source; 3],
+    tail: [u8; 256],
+}
+
+/// How many bytes a state has, as `to_bytes` gives them: its numbers one after
+/// the other, little-endian.
+pub const SIZE: usize = 16 + 36 + 8 + 44 + 3 * 339 + 256;
+
+const _: () = assert!(size_of::<State>() == 1400 && size_of::<Step>() == 1416);
+
+/// Goes over a state's bytes in order, and copies them to or from the state.
+struct Copier<'a> {
+    bytes: &'a mut [u8; SIZE],
+    at: usize,
+    to_state: bool,
+}
+
+impl Copier<'_> {
+    fn raw(&mut self, field: &mut [u8]) {
+        let bytes = &mut self.bytes[self.at..self.at + field.len()];
+        if self.to_state {
+            field.copy_from_slice(bytes);
+        } else {
+            bytes.copy_from_slice(field);
+        }
+        self.at += field.len();
+    }
+    fn words(&mut self, field: &mut [u32]) {
+        for word in field {
+            let mut bytes = word.to_le_bytes();
+            self.raw(&mut bytes);
+            *word = u32::from_le_bytes(bytes);
+        }
+    }
+    fn time(&mut self, field: &mut i64) {
+        let mut bytes = field.to_le_bytes();
+        self.raw(&mut bytes);
+        *field = i64::from_le_bytes(bytes);
+    }
+}
+
+impl State {
+    fn copy(&mut self, bytes: &mut [u8; SIZE], to_state: bool) {
+        let mut copier = Copier { bytes, at: 0, to_state };
+        copier.words(&mut self.stage);
+        copier.words(&mut self.bank.numbers);
+        copier.time(&mut self.bank.checked);
+        copier.time(&mut self.now);
+        copier.words(&mut self.numbers);
+        for source in &mut self.sources {
+            copier.words(&mut source.numbers);
+            copier.time(&mut source.updated);
+            copier.words(&mut source.tables);
+            copier.raw(&mut source.stamp);
+            copier.raw(std::slice::from_mut(&mut source.idlen));
+            copier.raw(&mut source.id);
+            copier.raw(&mut source.validator);
+        }
+        copier.raw(&mut self.tail);
+    }
+    fn empty() -> Self {
+        let source = Source {
+            numbers: [0; 3],
+            updated: 0,
+            tables: [0; 40],
+            stamp: [0; 12],
+            idlen: 0,
+            id: [0; 80],
+            validator: [0; 66],
+        };
+        Self {
+            stage: [u32::MAX, 0, 0, 0],
+            bank: Bank { numbers: [0; 7], checked: 0 },
+            now: 0,
+            numbers: [0; 11],
+            sources: [source; 3],
+            tail: [0; 256],
+        }
+    }
+    /// The state that bytes are; any are allowed.
+    pub fn from_bytes(mut bytes: [u8; SIZE]) -> Self {
+        let mut state = Self::empty();
+        state.copy(&mut bytes, true);
+        state
+    }
+    /// The state's bytes.
+    pub fn to_bytes(&self) -> [u8; SIZE] {
+        let mut bytes = [0; SIZE];
+        let mut state = *self;
+        state.copy(&mut bytes, false);
+        bytes
+    }
+    fn take(&mut self, step: Step) -> Answer {
+        *self = step.state;
+        step.answer
+    }
+}
+
+/// The lower layer: a call does at most one flash operation.
+impl State {
+    /// Begins an update on a region; where it is refused, every call on the
+    /// state is.
+    pub fn new(region: &[u8], comparing: bool, now: i64) -> (Self, Answer) {
+        let mut state = Self::empty();
+        let answer = state.begin(region, comparing, now);
+        (state, answer)
+    }
+    /// Begins an update in place of the one that was there.
+    pub fn begin(&mut self, region: &[u8], comparing: bool, now: i64) -> Answer {
+        let (at, n) = (region.as_ptr(), region.len());
+        let step = unsafe { tt_update_begin(at, n, comparing, now, *self) };
+        self.take(step)
+    }
+    /// Begins a source; its record is version 3's, 384 bytes. Missing bytes
+    /// are 0.
+    pub fn source(&mut self, record: &[u8]) -> Answer {
+        let step = unsafe { tt_update_source(*self, record.as_ptr(), record.len()) };
+        self.take(step)
+    }
+    /// Begins a table of the last source.
+    pub fn start(&mut self, table: u32) -> Answer {
+        let step = tt_update_table(*self, table);
+        self.take(step)
+    }
+    /// Takes bytes until the tail is full, and says how many; none while an
+    /// operation is due.
+    pub fn append(&mut self, bytes: &[u8]) -> Answer {
+        let step = unsafe { tt_update_bytes(*self, bytes.as_ptr(), bytes.len()) };
+        self.take(step)
+    }
+    /// Ends the open table.
+    pub fn end(&mut self) -> Answer {
+        let step = tt_update_end(*self);
+        self.take(step)
+    }
+    /// No more bytes: what the tail holds is then due.
+    pub fn close(&mut self) -> Answer {
+        let step = tt_update_close(*self);
+        self.take(step)
+    }
+    /// Does the erase, write or comparison that is due, or says that none is.
+    pub fn due(&mut self, region: &mut [u8]) -> Answer {
+        let step = unsafe { tt_update_due(region.as_mut_ptr(), region.len(), *self) };
+        self.take(step)
+    }
+    /// Whether the active bank is what was compared with it.
+    pub fn unchanged(&mut self, region: &[u8]) -> Answer {
+        let step = unsafe { tt_update_unchanged(region.as_ptr(), region.len(), *self) };
+        self.take(step)
+    }
+    /// The first write of a commit: the header without its commit word.
+    pub fn commit(&mut self, region: &mut [u8], stamp: Option<i64>, current: bool) -> Answer {
+        let (at, n) = (region.as_mut_ptr(), region.len());
+        let (stamped, stamp) = (stamp.is_some(), stamp.unwrap_or_default());
+        let step = unsafe { tt_update_commit(at, n, *self, stamped, stamp, current) };
+        self.take(step)
+    }
+    /// The second write of a commit: the commit word.
+    pub fn commit_word(&mut self, region: &mut [u8]) -> Answer {
+        let step = unsafe { tt_update_commit_word(region.as_mut_ptr(), region.len(), *self) };
+        self.take(step)
+    }
+}
+
+/// The upper layer: a call does all its flash operations, and leaves none due.
+impl State {
+    /// Begins an update in place of the one that was there, and feeds the key
+    /// of an identity and picks.
+    pub fn upper_begin(
+        &mut self,
+        region: &mut [u8],
+        comparing: bool,
+        now: i64,
+        identity: &[u8],
+        picks: Picks,
+    ) -> Answer {
+        let step = unsafe {
+            tt_upper_begin(
+                region.as_mut_ptr(),
+                region.len(),
+                comparing,
+                now,
+                identity.as_ptr(),
+                identity.len(),
+                picks.texts.as_ptr(),
+                picks.texts.len(),
+                picks.lengths.as_ptr(),
+                picks.lengths.len(),
+                *self,
+            )
+        };
+        self.take(step)
+    }
+    /// Begins a source, and feeds its dates; its record is version 3's, 384
+    /// bytes. Missing bytes are 0.
+    pub fn upper_source(&mut self, region: &mut [u8], record: &[u8]) -> Answer {
+        let (at, n) = (region.as_mut_ptr(), region.len());
+        let step = unsafe { tt_upper_source(at, n, *self, record.as_ptr(), record.len()) };
+        self.take(step)
+    }
+    /// Begins a table of the last source, and feeds its names line.
+    pub fn upper_table(&mut self, region: &mut [u8], table: u32) -> Answer {
+        let step = unsafe { tt_upper_table(region.as_mut_ptr(), region.len(), *self, table) };
+        self.take(step)
+    }
+    /// Feeds a row of the open table.
+    pub fn upper_row(&mut self, region: &mut [u8], values: Values) -> Answer {
+        let step = unsafe {
+            tt_upper_row(
+                region.as_mut_ptr(),
+                region.len(),
+                *self,
+                values.texts.as_ptr(),
+                values.texts.len(),
+                values.lengths.as_ptr(),
+                values.lengths.len(),
+            )
+        };
+        self.take(step)
+    }
+    /// Ends the open table.
+    pub fn upper_end(&mut self, region: &mut [u8]) -> Answer {
+        let step = unsafe { tt_upper_end(region.as_mut_ptr(), region.len(), *self) };
+        self.take(step)
+    }
+    /// Closes the update: what the tail holds is written.
+    pub fn upper_close(&mut self, region: &mut [u8]) -> Answer {
+        let step = unsafe { tt_upper_close(region.as_mut_ptr(), region.len(), *self) };
+        self.take(step)
+    }
+}

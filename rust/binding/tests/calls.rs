@@ -1,0 +1,196 @@
+//! The calls of `cache` over the sample images, and on arguments that are wrong.
+use bankcore::{
+    Refusal, banks,
+    banks::Picks,
+    cache::{self, Checking, SIZE, SOURCE_BYTES, Source, Turn, Writer},
+    get,
+    rows::Values,
+    update,
+};
+
+fn sample(name: &str) -> Vec<u8> {
+    let path = format!("{}/../../samples/{name}.img", env!("CARGO_MANIFEST_DIR"));
+    std::fs::read(path).unwrap()
+}
+
+#[test]
+fn refusals_have_document_01s_numbers_and_words() {
+    let words =
+        "region argument mark seal span source data identity small full turn obsolete unfit row";
+    for (word, number) in words.split(' ').zip(1..) {
+        let refusal = Refusal::of(number).unwrap();
+        assert_eq!((refusal.number(), refusal.word()), (number, word));
+        assert_eq!(refusal.to_string(), format!("refusal {number} {word}"));
+    }
+    assert_eq!(Refusal::of(0), None);
+    assert_eq!(Refusal::of(15), None);
+}
+
+#[test]
+fn load_gives_the_newer_bank_or_the_one_that_passes() {
+    let image = sample("two-good");
+    let bank = cache::load(&image).unwrap().unwrap();
+    assert_eq!((bank.number, bank.generation, bank.count), (1, 8, 2));
+    assert_eq!(cache::validate(&image, 1), Ok(bank));
+    assert_eq!(cache::load(&sample("ticket-41")).unwrap().unwrap().number, 0);
+    assert_eq!(cache::load(&sample("fresh")), Ok(None));
+    for n in 3..8 {
+        let refused = cache::validate(&sample(&format!("refusal-{n}")), 0);
+        assert_eq!(refused.map_err(Refusal::number), Err(n));
+    }
+}
+
+#[test]
+fn nothing_is_asked_of_the_caller() {
+    let image = sample("two-good");
+    let bank = cache::load(&image).unwrap().unwrap();
+    for length in [0, 1, SIZE - 1] {
+        assert_eq!(cache::load(&image[..length]), Err(Refusal::Region));
+        assert_eq!(bank.source(&image[..length], 0), Err(Refusal::Region));
+    }
+    assert_eq!(cache::validate(&image, 2), Err(Refusal::Argument));
+    assert_eq!(cache::header(&image, u32::MAX), Err(Refusal::Argument));
+    assert_eq!(bank.source(&image, 2), Err(Refusal::Source));
+    assert_eq!(bank.source(&image, u32::MAX), Err(Refusal::Source));
+    let days = [20260601, 20260602, 20260229];
+    assert_eq!(bank.fresh(&image, days, [true, true, false], 0), Err(Refusal::Argument));
+    let none = Picks { texts: &[], lengths: &[] };
+    assert_eq!(bank.same_key(&image, &[65; 65536], none), Err(Refusal::Identity));
+    assert_eq!(cache::key(b"A", none, &mut [0; 4]), Err(Refusal::Small));
+    assert_eq!(cache::row(8, Values { texts: &[], lengths: &[] }, &mut []), Err(Refusal::Argument));
+    assert_eq!(cache::bloom(&mut [], b"t1", true), Err(Refusal::Argument));
+    let (mut out, mut ends) = ([7; 4], [7; 1]);
+    assert_eq!(bank.row(&image, 0, 0, 0, &mut out, &mut ends), Err(Refusal::Small));
+    assert_eq!(bank.row(&image, 0, 0, usize::MAX, &mut out, &mut ends), Err(Refusal::Row));
+    assert_eq!((out, ends), ([7; 4], [7; 1]));
+}
+
+#[test]
+fn a_key_and_a_row_are_those_of_document_01() {
+    let picks = Picks { texts: b"7rsn", lengths: &[1, 1, 0, 1, 1] };
+    let mut out = [0; 16];
+    assert_eq!(cache::key(&[], picks, &mut out), Ok(10));
+    assert_eq!(out[..10], [1, 1, 55, 1, 114, 0, 1, 115, 1, 110]);
+    let values = Values { texts: b"a\"b,", lengths: &[3, 1] };
+    assert_eq!(cache::row(6, values, &mut out), Ok(11));
+    assert_eq!(&out[..11], b"\"a\"\"b\",\",\"\n");
+}
+
+#[test]
+fn a_record_is_its_bytes_again() {
+    for name in ["two-good", "three-sources", "version-1", "version-2", "id-length-200"] {
+        let image = sample(name);
+        let bank = cache::load(&image).unwrap().unwrap();
+        for i in 0..bank.count {
+            let mut bytes = [0; SOURCE_BYTES];
+            assert_eq!(banks::source(&image, bank.number, i, &mut bytes), 0);
+            let source = bank.source(&image, i).unwrap();
+            assert_eq!((source, source.encode()), (Source::decode(&bytes), bytes));
+        }
+    }
+}
+
+#[test]
+fn turns_sum_to_the_data_and_give_the_verdict() {
+    let image = sample("ticket-41");
+    for (number, verdict) in [(0, Ok(Turn::Good)), (1, Err(Refusal::Data))] {
+        let bank = cache::header(&image, number).unwrap();
+        let mut checking = Checking::new(&image, number).unwrap();
+        let mut sum = 0;
+        let last = loop {
+            match checking.turn(&image, 100) {
+                Ok(Turn::Hashed(n)) => sum += n,
+                last => break last,
+            }
+        };
+        assert_eq!((sum, last), (bank.length, verdict));
+        assert_eq!(checking.turn(&image, 100), verdict);
+    }
+}
+
+#[test]
+fn a_checking_state_may_be_any_bytes() {
+    let image = sample("two-good");
+    let kept = Checking::new(&image, 1).unwrap().bytes();
+    assert_eq!(Checking::from_bytes(kept).turn(&image, 10), Ok(Turn::Hashed(10)));
+    for (place, byte) in [(0, 2), (3, 1), (6, 255), (7, 1)] {
+        let mut bytes = kept;
+        bytes[place] = byte;
+        let mut forged = Checking::from_bytes(bytes);
+        assert_eq!(forged.turn(&image, 10), Err(Refusal::Turn));
+        assert_eq!(forged.bytes(), bytes);
+    }
+    let mut past = kept;
+    bankcore::put(&mut past, 4, cache::validate(&image, 1).unwrap().length + 1);
+    assert_eq!(Checking::from_bytes(past).turn(&image, 10), Err(Refusal::Turn));
+    assert_eq!(get(&past, 0), 1);
+}
+
+#[test]
+fn a_writer_may_be_any_bytes() {
+    let mut image = sample("two-good");
+    let before = image.clone();
+    let source = cache::load(&image).unwrap().unwrap().source(&image, 0).unwrap();
+    let bytes = [255; update::SIZE];
+    let mut forged = Writer::from_bytes(bytes);
+    assert_eq!(forged.source(&source), Err(Refusal::Turn));
+    assert_eq!(forged.start(0), Err(Refusal::Turn));
+    assert_eq!(forged.append(b"a"), Err(Refusal::Turn));
+    assert_eq!(forged.end(), Err(Refusal::Turn));
+    assert_eq!(forged.close(), Err(Refusal::Turn));
+    assert_eq!(forged.due(&mut image), Err(Refusal::Turn));
+    assert_eq!(forged.unchanged(&image), Err(Refusal::Turn));
+    assert_eq!(forged.commit(&mut image, None, true), Err(Refusal::Turn));
+    assert_eq!(forged.commit_word(&mut image), Err(Refusal::Turn));
+    assert!(image == before && forged.bytes() == bytes);
+    assert_eq!(Writer::new(&image[1..], false, 0), Err(Refusal::Region));
+    let kept = Writer::new(&image, false, 0).unwrap().bytes();
+    assert_eq!(Writer::from_bytes(kept).append(&[7; 300]), Ok(256));
+}
+
+#[test]
+fn a_refused_call_leaves_the_writer() {
+    let mut image = sample("two-good");
+    let mut writer = Writer::new(&image, false, 0).unwrap();
+    writer.append(b"key").unwrap();
+    let before = (image.clone(), writer);
+    assert_eq!(writer.start(0), Err(Refusal::Turn));
+    assert_eq!(writer.start(8), Err(Refusal::Argument));
+    assert_eq!(writer.append(&vec![0; 487_422]), Err(Refusal::Full));
+    assert_eq!(writer.commit(&mut image, None, true), Err(Refusal::Turn));
+    assert_eq!(writer.due(&mut image[1..]), Err(Refusal::Region));
+    assert_eq!(writer.due(&mut image), Ok(false));
+    assert!((image, writer) == before);
+}
+
+#[test]
+fn an_update_by_upper_calls_reads_back() {
+    let mut image = sample("two-good");
+    let loaded = cache::load(&image).unwrap().unwrap();
+    let source = loaded.source(&image, 0).unwrap();
+    let picks = Picks { texts: b"7rsn", lengths: &[1, 1, 0, 1, 1] };
+    let mut writer = Writer::with_key(&mut image, false, 9, b"A", picks).unwrap();
+    writer.upper_source(&mut image, &source).unwrap();
+    let stops = Values { texts: b"a,b\"", lengths: &[1, 2, 1] };
+    assert_eq!(writer.row(&mut image, stops), Err(Refusal::Turn));
+    writer.upper_start(&mut image, 0).unwrap();
+    assert_eq!(writer.row(&mut image, Values { lengths: &[1], ..stops }), Err(Refusal::Row));
+    writer.row(&mut image, stops).unwrap();
+    writer.upper_end(&mut image).unwrap();
+    writer.upper_close(&mut image).unwrap();
+    assert_eq!(writer.due(&mut image), Ok(false));
+    writer.commit(&mut image, Some(source.updated.unwrap()), true).unwrap();
+    assert_eq!(cache::load(&image), Ok(Some(loaded)));
+    writer.commit_word(&mut image).unwrap();
+    assert_eq!(writer.commit_word(&mut image), Err(Refusal::Turn));
+
+    let bank = cache::load(&image).unwrap().unwrap();
+    assert_eq!((bank.number, bank.generation), (1 - loaded.number, loaded.generation + 1));
+    assert_eq!(bank.same_key(&image, b"A", picks), Ok(true));
+    assert_eq!(bank.same_key(&image, b"B", picks), Ok(false));
+    let (mut out, mut ends) = ([0; 100], [0; 3]);
+    let names = bank.row(&image, 0, 0, 0, &mut out, &mut ends).unwrap().unwrap();
+    let row = bank.row(&image, 0, 0, names.next, &mut out, &mut ends).unwrap().unwrap();
+    assert_eq!((&out[..row.size], ends), (&b"a,b\""[..], [1, 3, 4]));
+    assert_eq!(bank.row(&image, 0, 0, row.next, &mut out, &mut ends), Ok(None));
+}
