@@ -1,5 +1,5 @@
 //! CRC-32 side by side: the core, crc32fast's table path, crc32fast, zlib; keys,
-//! banks and the filter beside the lifted Rust; rows beside csv-core.
+//! banks, the filter and updates beside the lifted Rust; rows beside csv-core.
 #[cfg(feature = "banks")]
 mod banks;
 #[cfg(feature = "banks")]
@@ -7,6 +7,8 @@ mod filter;
 mod measure;
 #[cfg(feature = "banks")]
 mod rows;
+#[cfg(feature = "banks")]
+mod updates;
 
 use common::Random;
 use measure::{Times, measure};
@@ -16,7 +18,7 @@ use std::{
 };
 
 const HELP: &str = "\
-bench [--quick] [crc] [banks] [rows] [filter]
+bench [--quick] [crc] [banks] [rows] [filter] [updates]
 
 crc     times the core's CRC-32 beside crc32fast's table path, crc32fast with
         SIMD and zlib, in one run, and prints their speeds as ratios to the
@@ -26,6 +28,8 @@ banks   times load, validate, key and key match beside the lifted Rust, built
 rows    times the writing and the reading of rows beside csv-core
 filter  times queries and insertions of the trip filter beside the lifted Rust,
         built in both ways
+updates times a full update by bytes and by rows beside the lifted Rust, built in
+        both ways, and single calls
 
 Without a word all are run.
 
@@ -35,7 +39,7 @@ Without a word all are run.
 All take turns in short batches, so that a busy machine slows all alike. A time
 is the lower decile of its batches; for CRC-32 the median is given beside it. A
 ratio above 1 is faster than the table path, or than csv-core. Exit status: 0
-CRC-32, rows and filter reached their marks, 1 not, 2 wrong use.
+CRC-32, rows, filter and updates reached their marks, 1 not, 2 wrong use.
 ";
 
 #[link(name = "z")]
@@ -143,7 +147,7 @@ fn crc(rounds: usize) -> Option<bool> {
 
 fn main() -> ExitCode {
     let mut rounds = 3000;
-    const PARTS: [&str; 4] = ["crc", "banks", "rows", "filter"];
+    const PARTS: [&str; 5] = ["crc", "banks", "rows", "filter", "updates"];
     let mut wanted = Vec::new();
     for argument in std::env::args().skip(1) {
         match argument.as_str() {
@@ -188,12 +192,15 @@ fn main() -> ExitCode {
         if asked("filter") {
             reached &= filter::filter(rounds / 3);
         }
+        if asked("updates") {
+            reached &= updates::updates(rounds / 10);
+        }
     }
     #[cfg(not(feature = "banks"))]
-    if asked("banks") || asked("rows") || asked("filter") {
+    if asked("banks") || asked("rows") || asked("filter") || asked("updates") {
         println!(
-            "keys, banks, rows and filter: not in this build; cargo build --release --offline \
-             -p bench has them"
+            "keys, banks, rows, filter and updates: not in this build; cargo build --release \
+             --offline -p bench has them"
         );
     }
     if reached { ExitCode::SUCCESS } else { ExitCode::FAILURE }

@@ -1,22 +1,36 @@
 //! Runs the core beside the lifted Rust and counts where they differ.
 mod banks;
+mod cuts;
+mod events;
 mod filter;
+mod forged;
+mod full;
 mod keys;
 mod leaves;
 mod pairs;
 mod rows;
 mod stored;
+mod unchanged;
+mod update;
+mod updates;
 
-use std::{collections::BTreeMap, fmt::Debug, process::ExitCode};
+use common::Random;
+use std::{
+    collections::BTreeMap,
+    fmt::{Debug, Display},
+    process::ExitCode,
+};
 
 const HELP: &str = "\
-compare [--seed N] [--quick] [PART...]
+compare [--seed N] [--quick] [--cases N] [--case N] [PART...]
 
 Runs the proved core beside the Rust it follows, and prints for each part how
 many answers were compared and how many differ. Without a PART all are run.
 
   --seed N   the seed of the random inputs (default 1)
   --quick    fewer inputs
+  --cases N  how many cases the parts on updates run
+  --case N   only that one of their cases
   --help     this text
 
 Parts:
@@ -29,6 +43,40 @@ const SHOWN: usize = 5;
 pub struct Plan {
     pub seed: u64,
     pub quick: bool,
+    pub cases: Option<u64>,
+    pub case: Option<u64>,
+}
+
+impl Plan {
+    /// The cases of a part, `usual` of them if nothing else is asked for.
+    pub fn cases(&self, usual: u64) -> impl Iterator<Item = Case> + use<> {
+        let usual = if self.quick { usual.div_ceil(10) } else { usual };
+        let numbers = match self.case {
+            Some(number) => number..number + 1,
+            None => 0..self.cases.unwrap_or(usual),
+        };
+        let seed = self.seed;
+        numbers.map(move |number| Case { seed, number })
+    }
+}
+
+/// One of a part's cases. Its random numbers are its own, so that it can be run
+/// alone.
+pub struct Case {
+    pub seed: u64,
+    pub number: u64,
+}
+
+impl Case {
+    pub fn random(&self) -> Random {
+        let apart = self.number.wrapping_mul(0xd134_2543_de82_ef95);
+        Random::new(Random::new(self.seed.wrapping_add(apart)).u64())
+    }
+    /// An input of this case, ordered by its size.
+    pub fn about(&self, size: usize, what: impl Display) -> (Vec<u64>, String) {
+        let Self { seed, number } = self;
+        (vec![size as u64, *number], format!("--seed {seed} --case {number}: {what}"))
+    }
 }
 
 /// The count of one part.
@@ -130,6 +178,31 @@ const PARTS: &[Part] = &[
         about: "the trip filter, every byte after each call",
         run: filter::filter,
     },
+    Part {
+        name: "updates",
+        about: "updates by the lower calls: each flash operation, and the region",
+        run: updates::updates,
+    },
+    Part {
+        name: "unchanged",
+        about: "unchanged, beside banks of all versions with one thing other",
+        run: unchanged::unchanged,
+    },
+    Part {
+        name: "cuts",
+        about: "updates cut after k operations, load, and the next update",
+        run: cuts::cuts,
+    },
+    Part {
+        name: "forged",
+        about: "calls on forged states: answer, state and region",
+        run: forged::forged,
+    },
+    Part {
+        name: "history",
+        about: "random calls with cuts: load and the bank, beside demand 3's history",
+        run: events::history,
+    },
     Part { name: "smoke", about: "the lifted Rust alone, through an update", run: smoke },
 ];
 
@@ -143,28 +216,38 @@ fn smoke(_: &Plan, tally: &mut Tally) {
     }
 }
 
-fn main() -> ExitCode {
-    let mut plan = Plan { seed: 1, quick: false };
+fn help() -> ExitCode {
+    print!("{HELP}");
+    for part in PARTS {
+        println!("  {:<11} {}", part.name, part.about);
+    }
+    println!("\nExit status: 0 no difference, 1 differences, 2 wrong use.");
+    ExitCode::SUCCESS
+}
+
+/// The plan and the parts asked for; none where the program is to end with a
+/// status.
+fn asked() -> Result<(Plan, Vec<usize>), ExitCode> {
+    let mut plan = Plan { seed: 1, quick: false, cases: None, case: None };
     let mut wanted = Vec::new();
     let mut arguments = std::env::args().skip(1);
     while let Some(argument) = arguments.next() {
         match argument.as_str() {
-            "--help" | "-h" => {
-                print!("{HELP}");
-                for part in PARTS {
-                    println!("  {:<11} {}", part.name, part.about);
-                }
-                println!("\nExit status: 0 no difference, 1 differences, 2 wrong use.");
-                return ExitCode::SUCCESS;
-            }
+            "--help" | "-h" => return Err(help()),
             "--quick" => plan.quick = true,
-            "--seed" => match arguments.next().and_then(|n| n.parse().ok()) {
-                Some(seed) => plan.seed = seed,
-                None => return wrong("--seed needs a number"),
-            },
+            name @ ("--seed" | "--cases" | "--case") => {
+                let Some(number) = arguments.next().and_then(|n| n.parse().ok()) else {
+                    return Err(wrong(&format!("{name} needs a number")));
+                };
+                match name {
+                    "--seed" => plan.seed = number,
+                    "--cases" => plan.cases = Some(number),
+                    _ => plan.case = Some(number),
+                }
+            }
             name => match PARTS.iter().position(|p| p.name == name) {
                 Some(i) => wanted.push(i),
-                None => return wrong(&format!("there is no part {name}")),
+                None => return Err(wrong(&format!("there is no part {name}"))),
             },
         }
     }
@@ -173,28 +256,34 @@ fn main() -> ExitCode {
     }
     wanted.sort_unstable();
     wanted.dedup();
+    Ok((plan, wanted))
+}
 
+/// Runs a part and prints its line; whether anything differs.
+fn run(part: &Part, plan: &Plan) -> bool {
+    let mut tally = Tally::default();
+    (part.run)(plan, &mut tally);
+    let Tally { compared, differ, smallest, note } = tally;
+    let of = if note.is_empty() { "" } else { " of " };
+    println!("{}: {compared} compared{of}{note}, {differ} differ", part.name);
+    for text in smallest.values() {
+        println!("  {text}");
+    }
+    differ != 0
+}
+
+fn main() -> ExitCode {
+    let (plan, wanted) = match asked() {
+        Ok(asked) => asked,
+        Err(status) => return status,
+    };
     println!(
         "seed {}, crc32fast {}{}",
         plan.seed,
         common::crc32fast(),
         if plan.quick { ", quick" } else { "" }
     );
-    let mut differ = 0;
-    for &i in &wanted {
-        let part = &PARTS[i];
-        let mut tally = Tally::default();
-        (part.run)(&plan, &mut tally);
-        let note = if tally.note.is_empty() { "" } else { " of " };
-        println!(
-            "{}: {} compared{note}{}, {} differ",
-            part.name, tally.compared, tally.note, tally.differ
-        );
-        for text in tally.smallest.values() {
-            println!("  {text}");
-        }
-        differ += u64::from(tally.differ != 0);
-    }
+    let differ = wanted.iter().filter(|i| run(&PARTS[**i], &plan)).count();
     println!("{} parts, {differ} differ", wanted.len());
     if differ == 0 { ExitCode::SUCCESS } else { ExitCode::FAILURE }
 }

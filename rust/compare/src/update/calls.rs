@@ -1,0 +1,145 @@
+//! The calls on a state as one type, the runs of lower calls that the upper ones
+//! are, and the flash operation that a lower call did.
+use super::{
+    content::{names_line, row_line},
+    fields::{ERASE, FIRST, Fields, SECOND, STAGE, WRITE},
+};
+use bankcore::{
+    rows::Values,
+    update::{Answer, DONE, State},
+};
+use common::made::SECTOR;
+use lifted::{
+    cache::{OFFSET, door},
+    standins::flash::Operation,
+};
+
+#[derive(Clone, Debug)]
+pub enum Call {
+    Source(Vec<u8>),
+    Table(u32),
+    Bytes(Vec<u8>),
+    End,
+    Close,
+    Due,
+    Unchanged,
+    Commit(Option<i64>, bool),
+    Word,
+    /// The upper calls. A row is its texts and their lengths.
+    SourceWithDates(Vec<u8>),
+    TableWithNames(u32),
+    Row(Vec<u8>, Vec<u32>),
+    TableEnd,
+    Closing,
+}
+
+impl Call {
+    pub fn make(&self, state: &mut State, region: &mut [u8]) -> Answer {
+        match self {
+            Self::Source(record) => state.source(record),
+            Self::Table(table) => state.start(*table),
+            Self::Bytes(bytes) => state.append(bytes),
+            Self::End => state.end(),
+            Self::Close => state.close(),
+            Self::Due => state.due(region),
+            Self::Unchanged => state.unchanged(region),
+            Self::Commit(stamp, current) => state.commit(region, *stamp, *current),
+            Self::Word => state.commit_word(region),
+            upper => upper.make_upper(state, region),
+        }
+    }
+    fn make_upper(&self, state: &mut State, region: &mut [u8]) -> Answer {
+        match self {
+            Self::SourceWithDates(record) => state.upper_source(region, record),
+            Self::TableWithNames(table) => state.upper_table(region, *table),
+            Self::Row(texts, lengths) => state.upper_row(region, Values { texts, lengths }),
+            Self::TableEnd => state.upper_end(region),
+            _ => state.upper_close(region),
+        }
+    }
+    pub fn is_upper(&self) -> bool {
+        use Call::*;
+        matches!(self, SourceWithDates(_) | TableWithNames(_) | Row(..) | TableEnd | Closing)
+    }
+    /// The bytes that an upper call takes.
+    pub fn taken(&self) -> Vec<u8> {
+        match self {
+            Self::SourceWithDates(record) => (0..8).map(|i| byte(record, i)).collect(),
+            Self::TableWithNames(table) => names_line(*table as usize),
+            Self::Row(texts, lengths) => row_line(&handed(texts, lengths)),
+            _ => Vec::new(),
+        }
+    }
+    /// An upper call's run: what is due, the lower call, what is due, and then
+    /// byte by byte.
+    pub fn run(&self) -> Vec<Self> {
+        let mut run = vec![Self::Due; 3];
+        run.extend(match self {
+            Self::SourceWithDates(record) => Some(Self::Source(record.clone())),
+            Self::TableWithNames(table) => Some(Self::Table(*table)),
+            Self::TableEnd => Some(Self::End),
+            Self::Closing => Some(Self::Close),
+            _ => None,
+        });
+        run.extend(vec![Self::Due; 3]);
+        run.extend(feed(&self.taken()));
+        run
+    }
+}
+
+/// A byte, then what is due, then the next.
+pub fn feed(bytes: &[u8]) -> impl Iterator<Item = Call> {
+    bytes.iter().flat_map(|b| [Call::Bytes(vec![*b]), Call::Due, Call::Due, Call::Due])
+}
+
+pub fn byte(bytes: &[u8], i: usize) -> u8 {
+    bytes.get(i).copied().unwrap_or(0)
+}
+
+/// The values that texts in a row and their lengths mean.
+pub fn handed<'a>(mut texts: &'a [u8], lengths: &[u32]) -> Vec<&'a [u8]> {
+    let one = |n: &u32| {
+        let (value, rest) = texts.split_at(texts.len().min(*n as usize));
+        texts = rest;
+        value
+    };
+    lengths.iter().map(one).collect()
+}
+
+/// The operation that a lower call did: by the state before it, and for a header
+/// and a commit word by the region after it.
+pub fn operation(call: &Call, before: &State, answer: Answer, after: &[u8]) -> Option<Operation> {
+    let writes = matches!(call, Call::Due | Call::Commit(..) | Call::Word);
+    if !writes || answer.refusal != 0 || answer.answer != DONE {
+        return None;
+    }
+    let before = Fields::of(before);
+    let base = before.target();
+    let written = |from: usize, to: usize| Operation::Write {
+        offset: OFFSET + (base + from) as u32,
+        bytes: after[base + from..base + to].to_vec(),
+    };
+    match call {
+        Call::Due => due(&before, OFFSET + base as u32),
+        Call::Commit(..) => Some(written(0, door::HEADER)),
+        Call::Word => Some(written(44, 48)),
+        _ => None,
+    }
+}
+
+fn due(before: &Fields, base: u32) -> Option<Operation> {
+    let (first, second) = (before.numbers[FIRST], before.numbers[SECOND] as usize);
+    let sector = SECTOR as u32;
+    match before.numbers[STAGE] {
+        ERASE => {
+            let start = base + first * sector;
+            Some(Operation::Erase { start, end: start + sector })
+        }
+        WRITE => {
+            let mut bytes = before.tail[..second].to_vec();
+            bytes.resize(second.next_multiple_of(4), 255);
+            Some(Operation::Write { offset: base + sector + first, bytes })
+        }
+        _ => None,
+    }
+}

@@ -1,0 +1,111 @@
+//! The core's side of an update, call by call, with the operations it did.
+use super::{
+    calls::{Call, operation},
+    content::{Content, Source, names_line},
+    flash::perform,
+};
+use bankcore::update::{Answer, DONE, NONE_DUE, State};
+use common::Random;
+use lifted::standins::flash::Operation;
+
+pub struct Core {
+    pub state: State,
+    pub region: Vec<u8>,
+    pub operations: Vec<Operation>,
+    /// The region that these operations leave, and the first one after which the
+    /// core's was another where it was done.
+    pub shadow: Vec<u8>,
+    pub strayed: Option<usize>,
+    /// The first refusal.
+    pub refusal: u32,
+    /// How many operations are done before the power goes.
+    pub cut: usize,
+}
+
+impl Core {
+    pub fn new(region: &[u8], comparing: bool, now: i64) -> Self {
+        let (state, answer) = State::new(region, comparing, now);
+        Self { refusal: answer.refusal, ..Self::of(state, region) }
+    }
+    /// Goes on from a state and a region.
+    pub fn of(state: State, region: &[u8]) -> Self {
+        Self {
+            state,
+            region: region.to_vec(),
+            operations: Vec::new(),
+            shadow: region.to_vec(),
+            strayed: None,
+            refusal: 0,
+            cut: usize::MAX,
+        }
+    }
+    /// Whether the power is gone.
+    pub fn is_cut(&self) -> bool {
+        self.operations.len() >= self.cut
+    }
+    /// Whether the power is gone, or a call was refused.
+    pub fn stopped(&self) -> bool {
+        self.refusal != 0 || self.is_cut()
+    }
+    pub fn call(&mut self, call: &Call) -> Answer {
+        if self.is_cut() {
+            return Answer { answer: NONE_DUE, ..Answer::default() };
+        }
+        let before = self.state;
+        let answer = call.make(&mut self.state, &mut self.region);
+        if self.refusal == 0 {
+            self.refusal = answer.refusal;
+        }
+        if let Some(done) = operation(call, &before, answer, &self.region) {
+            let span = perform(&mut self.shadow, &done);
+            if self.strayed.is_none() && self.region[span.clone()] != self.shadow[span] {
+                self.strayed = Some(self.operations.len());
+            }
+            self.operations.push(done);
+        }
+        answer
+    }
+    /// Does all that is due.
+    pub fn settle(&mut self) {
+        while self.call(&Call::Due) == (Answer { answer: DONE, ..Answer::default() }) {}
+    }
+    /// Offers bytes in pieces until all are taken.
+    pub fn append(&mut self, random: &mut Random, mut bytes: &[u8]) {
+        while !bytes.is_empty() && !self.stopped() {
+            let some = random.pick(&[1, 7, 100, 255, 256, 257, 1000, usize::MAX]).min(bytes.len());
+            let answer = self.call(&Call::Bytes(bytes[..some].to_vec()));
+            bytes = &bytes[answer.count as usize..];
+            if answer.count == 0 || random.once_in(2) || bytes.is_empty() {
+                self.settle();
+            }
+        }
+    }
+    fn source(&mut self, random: &mut Random, source: &Source) {
+        self.call(&Call::Source(source.record().to_vec()));
+        self.append(random, &source.fields.start.to_le_bytes());
+        self.append(random, &source.fields.end.to_le_bytes());
+        for (table, pieces) in &source.tables {
+            self.call(&Call::Table(*table as u32));
+            self.append(random, &names_line(*table));
+            for piece in pieces {
+                self.append(random, &piece.bytes());
+            }
+            self.call(&Call::End);
+        }
+    }
+    pub fn fill(&mut self, random: &mut Random, content: &Content) {
+        self.append(random, &content.key.bytes());
+        for source in &content.sources {
+            self.source(random, source);
+        }
+    }
+    pub fn close(&mut self) {
+        self.call(&Call::Close);
+        self.settle();
+    }
+    pub fn commit(&mut self, stamp: Option<i64>, current: bool) {
+        if self.call(&Call::Commit(stamp, current)).refusal == 0 {
+            self.call(&Call::Word);
+        }
+    }
+}

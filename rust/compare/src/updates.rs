@@ -1,0 +1,259 @@
+//! Updates by the lower calls beside the lifted `Writer`: each flash operation,
+//! and the region after it.
+use crate::{
+    Case, Plan, Tally,
+    full::{bytes, rows},
+    keys::Selection,
+    update::{
+        calls::Call,
+        content::{Content, Key, leftovers},
+        core::Core,
+        flash::{first_other, performed, place},
+        lifted::{COMMITTED, How, Lifted, Outcome},
+        upper::Upper,
+    },
+};
+use bankcore::{banks, update::DONE};
+use common::{Random, made::CAPACITY};
+use lifted::{
+    cache::door::{self, BankFields},
+    standins::{flash::Operation, view::View},
+};
+
+/// How many updates went which way.
+#[derive(Default)]
+pub struct Counts {
+    pub ended: [usize; 6],
+    /// Those made by the upper calls.
+    pub upper: usize,
+    pub operations: usize,
+}
+
+impl Counts {
+    pub fn note(&self) -> String {
+        let of = |outcome: Outcome| self.ended[outcome as usize];
+        format!(
+            "{} updates committed, {} abandoned, {} obsolete, {} unfit, {} full and {} cut, {} of \
+             them by the upper calls, with {} flash operations",
+            of(Outcome::Committed),
+            of(Outcome::Abandoned),
+            of(Outcome::Obsolete),
+            of(Outcome::Unfit),
+            of(Outcome::Full),
+            of(Outcome::Cut),
+            self.upper,
+            self.operations
+        )
+    }
+}
+
+/// An update on both sides: what it was, to say where they differ.
+pub struct Beside<'a> {
+    pub case: &'a Case,
+    pub length: usize,
+}
+
+impl Beside<'_> {
+    pub fn about(&self, what: &str) -> (Vec<u64>, String) {
+        self.case.about(self.length, format!("{what} of an update of {} bytes", self.length))
+    }
+    /// The operations and the region after each and at the end.
+    pub fn operations(
+        &self,
+        tally: &mut Tally,
+        core: &Core,
+        operations: &[Operation],
+        region: &[u8],
+    ) {
+        let other = first_other(&core.operations, operations);
+        let shown = |list: &[Operation]| other.and_then(|i| list.get(i)).map(place);
+        tally.same(shown(&core.operations), shown(operations), || self.about("an operation"));
+        tally.same(other, None, || self.about("the first other operation"));
+        tally.same(core.strayed, None, || self.about("the bytes after an operation"));
+        tally.same(first_other(&core.region, region), None, || self.about("the region"));
+    }
+    /// What load finds on a region.
+    pub fn load(&self, tally: &mut Tally, region: &[u8]) -> Option<BankFields> {
+        let rust = door::load(&View::new(region)).expect("the Rust loads").map(BankFields::from);
+        let core = banks::load(region);
+        let found = (core.found == 1).then(|| BankFields {
+            offset: lifted::cache::OFFSET + core.number * lifted::cache::BANK_SIZE,
+            generation: core.generation,
+            length: core.length,
+            key_length: core.key,
+            count: core.count,
+            checked: core.checked,
+            version: core.version,
+        });
+        tally.same(found, rust, || self.about("load"));
+        rust
+    }
+}
+
+/// How many operations an update of so many bytes makes.
+fn operations_of(length: usize) -> usize {
+    1 + length.div_ceil(4096) + length.div_ceil(256) + 2
+}
+
+/// An obsolete update: the Rust refuses it before it writes its last bytes, the
+/// core once they are written.
+fn obsolete(tally: &mut Tally, beside: &Beside, core: &Core, stamp: Option<i64>) {
+    let (mut state, mut region) = (core.state, core.region.clone());
+    state.close();
+    while state.due(&mut region).answer == DONE {}
+    let before = (state, region.clone());
+    let refusal = Call::Commit(stamp, false).make(&mut state, &mut region).refusal;
+    tally.same(refusal, 12, || beside.about("the refusal"));
+    tally.same((state, region) == before, true, || beside.about("a refused commit"));
+}
+
+fn by_lower(random: &mut Random, region: &[u8], content: &Content, how: How) -> Core {
+    let mut core = Core::new(region, false, content.now);
+    core.cut = how.cut.unwrap_or(usize::MAX);
+    core.fill(random, content);
+    if how.current && !how.abandoned {
+        core.close();
+        core.commit(content.stamp, true);
+    }
+    core
+}
+
+/// By the upper calls, each beside its run, whose operations they are.
+fn by_upper(
+    tally: &mut Tally,
+    beside: &Beside,
+    region: &[u8],
+    content: &Content,
+    how: How,
+) -> Core {
+    let cut = how.cut.unwrap_or(usize::MAX);
+    let (mut upper, _) = Upper::begin(region, (false, content.now), &content.key.selection(), cut);
+    upper.fill(content);
+    if how.current && !how.abandoned {
+        upper.call(&Call::Closing);
+        if upper.call(&Call::Commit(content.stamp, true)).refusal == 0 {
+            upper.call(&Call::Word);
+        }
+    }
+    let apart = upper.apart.as_deref();
+    tally.same(apart, None, || beside.about("an upper call that isn't its run"));
+    upper.run
+}
+
+/// One update in writing mode on both sides; the region that it leaves.
+pub fn write(
+    tally: &mut Tally,
+    (case, random): (&Case, &mut Random),
+    region: &[u8],
+    (content, how): (&Content, How),
+    counts: &mut Counts,
+) -> (Outcome, Vec<u8>) {
+    let rust = Lifted::write(region, content, how);
+    let beside = Beside { case, length: content.length() };
+    // The Rust doesn't ask whether the bank will validate; the core does (13).
+    let unfit = rust.outcome == Outcome::Unfit;
+    let done = rust.operations.len() - if unfit { 2 } else { 0 };
+    let expected = performed(region.to_vec(), &rust.operations[..done]);
+    if !unfit {
+        let other = first_other(&expected, &rust.region);
+        tally.same(other, None, || beside.about("the Rust's region"));
+    }
+
+    let core = match content.rows {
+        false => by_lower(random, region, content, how),
+        true => by_upper(tally, &beside, region, content, how),
+    };
+    if rust.outcome == Outcome::Obsolete {
+        obsolete(tally, &beside, &core, content.stamp);
+    }
+    tally.same(core.refusal, if unfit { 13 } else { 0 }, || beside.about("the first refusal"));
+    beside.operations(tally, &core, &rust.operations[..done], &expected);
+    if rust.outcome == Outcome::Committed {
+        tally.same(done, operations_of(beside.length), || beside.about("how many operations"));
+    }
+    counts.operations += done;
+    counts.upper += usize::from(content.rows);
+    counts.ended[rust.outcome as usize] += 1;
+    (rust.outcome, core.region)
+}
+
+/// Lengths of data around the sizes of a page, a sector and a bank.
+const LENGTHS: [usize; 13] = [
+    255,
+    256,
+    257,
+    4095,
+    4096,
+    4097,
+    8192,
+    CAPACITY - 4096,
+    CAPACITY - 256,
+    CAPACITY - 255,
+    CAPACITY - 3,
+    CAPACITY - 1,
+    CAPACITY,
+];
+
+/// The region for a case: leftovers, and in some the first operations of an
+/// update.
+pub fn found(random: &mut Random) -> Vec<u8> {
+    let region = leftovers(random);
+    if random.once_in(3) {
+        let content = Content::random(random, false);
+        let cut = Some(random.below(12));
+        return Lifted::write(&region, &content, How { cut, ..COMMITTED }).region;
+    }
+    region
+}
+
+/// Short enough for this length, with a key and a table to stretch.
+fn of_length(random: &mut Random, length: usize, rows: bool) -> Content {
+    let mut content = Content::random(random, rows);
+    if content.length() > length {
+        content.key = if rows { Key::Picked(Selection::default()) } else { Key::Bytes(vec![1; 3]) };
+        content.sources.truncate(1);
+        content.sources[0].tables.truncate(1);
+        content.sources[0].tables[0].1.clear();
+    }
+    content.stretch(random, length);
+    content
+}
+
+/// The update of a case's turn: in some the length is one of the above.
+fn next(random: &mut Random, case: &Case, turn: usize) -> (Content, How) {
+    let rows = random.once_in(3);
+    let special = case.number as usize % 16;
+    if turn == 3 && special < LENGTHS.len() {
+        // A run goes byte by byte, so few of them fill a bank.
+        let rows = rows && (LENGTHS[special] < 10_000 || random.once_in(8));
+        return (of_length(random, LENGTHS[special], rows), COMMITTED);
+    }
+    let how = How { abandoned: random.once_in(8), current: !random.once_in(10), cut: None };
+    (Content::random(random, rows), how)
+}
+
+pub fn updates(plan: &Plan, tally: &mut Tally) {
+    let mut counts = Counts::default();
+    for case in plan.cases(60) {
+        let mut random = case.random();
+        let mut region = found(&mut random);
+        for turn in 0..5 {
+            let (content, how) = next(&mut random, &case, turn);
+            if !content.fits() {
+                continue;
+            }
+            let given = (&content, how);
+            let (_, after) = write(tally, (&case, &mut random), &region, given, &mut counts);
+            region = after;
+            Beside { case: &case, length: content.length() }.load(tally, &region);
+        }
+        if case.number % 16 == 13 {
+            bytes(tally, (&case, &mut random), &region, &mut counts);
+        } else if case.number % 64 == 14 {
+            rows(tally, (&case, &mut random), &region, &mut counts);
+        }
+    }
+    let counted = [255, 257, CAPACITY].map(operations_of);
+    tally.same(counted, [5, 6, 2026], || (vec![0], "document 01's numbers of operations".into()));
+    tally.note = counts.note();
+}
