@@ -6,14 +6,17 @@ ghost use Rattle.lower.specs.Lower as Lower;
 use writer::Tables;
 use writer::Taken;
 use writer::Writer;
-use writer::in_range;
+use writer::parts_in_range;
 
 // Whether a state takes bytes, sources and tables.
 pub fn may_take(w: Writer) -> bool
     ensures { λ r. ⌜ r ≡ Lower.mayTake w ⌝ }
 {
+    let b = w.beginning;
     let t = w.taken;
-    in_range(w) & !t.closed
+    let x = w.tables;
+    let s = w.stage;
+    parts_in_range(b, t, x, s) & !t.closed
 }
 
 pub fn is_open(s: Tables) -> bool
