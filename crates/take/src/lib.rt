@@ -78,8 +78,7 @@ fn take_some(w: Writer, bytes: &[u8]) -> Step
     }
 }
 
-// Takes bytes until the tail is full, and says how many.
-pub fn bytes(w: Writer, offered: &[u8]) -> Step
+fn take_bytes(w: Writer, offered: &[u8]) -> Step
     ensures { λ r. ⌜ r ≡ Lower.bytesStep w (now (offered .entry)) ⌝ }
 {
     let t = w.taken;
@@ -90,4 +89,25 @@ pub fn bytes(w: Writer, offered: &[u8]) -> Step
         return stays(w, Refusal::Full);
     }
     stays(w, Refusal::Turn)
+}
+
+// Takes bytes until the tail is full, and says how many. What they leave as it was is taken from w itself, which saves copies of it.
+pub fn bytes(w: Writer, offered: &[u8]) -> Step
+    ensures { λ r. ⌜ r ≡ Lower.bytesStep w (now (offered .entry)) ⌝ }
+{
+    let x = take_bytes(w, offered);
+    let answer = x.answer;
+    let v = x.writer;
+    let stage = v.stage;
+    let taken = v.taken;
+    let tables = v.tables;
+    let tail = v.tail;
+    let writer = Writer {
+        stage,
+        taken,
+        tables,
+        tail,
+        ..w
+    };
+    Step { answer, writer }
 }
