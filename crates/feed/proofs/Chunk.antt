@@ -7,23 +7,24 @@ use native.Mathlib.Omega.{arith}
 use native.Mathlib.Decide.{decLt}
 use lib.Dec.{leb, eqb}
 use lib.ListN.{length, take, drop, set, take-append-drop}
-use lib.Seq.{sets, length-take-le}
+use lib.Seq.{sets, take-all, length-take-le}
 use borrow.Author.Tests.{ne-eqb, le-leb, leb-true}
 use Rattle.leaf.proofs.Checksum.{crc32-append}
 use Rattle.header.proofs.Laws.{and-left, and-right}
-use Rattle.writer.specs.declared.Stage.the-variants.{Idle}
+use Rattle.writer.specs.declared.Stage.{Stage}
+use Rattle.writer.specs.declared.Stage.the-variants.{Idle, Due, Headed, Committed}
 use Rattle.writer.specs.declared.Taken.{Taken}
 use Rattle.writer.specs.declared.Tables.{Tables}
 use Rattle.writer.specs.declared.Writer.{Writer}
 use Rattle.writer.specs.declared.Step.{Step}
-use Rattle.writer.specs.State.{position, isDue, stageOf, aligned, takenOk, tablesOk, stageOk, inRange}
+use Rattle.writer.specs.State.{position, isDue, stageOf, aligned, takenOk, tablesOk, operationOk, stageOk, inRange}
 use Rattle.writer.proofs.Laws.{ranged, fill-fits, position-fits}
 use Rattle.lower.specs.Lower.{mayTake, room, takenMore, withBytes, bytesStep}
 use Rattle.lower.proofs.Laws.{bytes-took, took-some}
 use Rattle.feed.specs.Run.{lowerStep, lowerOps, ranWriter, ranRegion}
 use Rattle.feed.specs.Feed.{dues, feed}
 use Rattle.flash.specs.Flash.{performed}
-use Rattle.feed.proofs.Laws.{quiet, quiet-dues-writer, quiet-dues-ran, then-writer, then-region}
+use Rattle.feed.proofs.Laws.{quiet, quiet-settled, quiet-dues-writer, quiet-dues-ran, then-writer, then-region, fed-all-writer, fed-all-region}
 
 pub is-false : (b : Bool) → not b ≡ true → b ≡ false
 is-false true e = absurd (false≢true e)
@@ -226,3 +227,39 @@ module _ (region : List ℕ) (w : Writer) (bs : List ℕ) (m : mayTake w ≡ tru
 
 pub takes-fits : (w : Writer) → mayTake w ≡ true → (w .taken .fill ≤ 256) × (position (w .taken) ≤ 487424)
 takes-fits w m = let t = ranged w (in-range w m) .taken in (fill-fits (w .taken) t, position-fits (w .taken) t)
+
+-- ---- bytes that leave room in the tail, and nothing is due
+
+module _ (w : Writer) (d : isDue (w .taken) ≡ false) where
+  quiet-by : (s : Stage) → stageOk (w .beginning .comparing) (w .taken) s ≡ true → quiet s ≡ true
+  unfolding stageOk
+  quiet-by (Due o) e = absurd (false≢true (sym d ∙ and-left (isDue (w .taken)) (operationOk (w .beginning .comparing) (w .taken) o) e))
+  quiet-by Idle e = refl
+  quiet-by Headed e = refl
+  quiet-by Committed e = refl
+
+module _ (region : List ℕ) (w : Writer) (bs : List ℕ) (m : mayTake w ≡ true) (d : isDue (w .taken) ≡ false) (k : position (w .taken) + length bs ≤ 487424) (l : 1 ≤ length bs) (h : w .taken .fill + length bs < 256) where
+  quiet-before : quiet (w .stage) ≡ true
+  quiet-before = quiet-by w d (w .stage) (ranged w (in-range w m) .stage)
+
+  stage-after : withBytes w bs .stage ≡ Idle
+  unfolding withBytes stageOf
+  stage-after = rw (none-due (takenMore (w .taken) bs) (open-yet w m) h)
+
+  module _ (s : Step) (f : s ≡ bytesStep w bs) where
+    all-fit : length bs ≡ min (length bs) (256 - w .taken .fill)
+    all-fit = omega arith
+
+    is-taken : s .writer ≡ withBytes w bs
+    is-taken = ap (λ (x : Step). x .writer) f ∙ all-taken w bs m d k (length bs) all-fit ∙ ap (withBytes w) (take-all (length bs) bs (omega arith))
+
+    quiet-after : quiet (s .writer .stage) ≡ true
+    quiet-after = ap (λ (v : Writer). quiet (v .stage)) is-taken ∙ ap quiet stage-after
+
+    pub short-fed : (s .writer ≡ ranWriter region w (dues ++ (dues ++ feed bs))) × (region ≡ ranRegion region w (dues ++ (dues ++ feed bs)))
+    short-fed =
+        let q = quiet-settled region (s .writer) (s .writer .stage) refl quiet-after in
+        let c = chunk-fed region w bs m d k l (length bs) all-fit s f (s .writer) region (q .0) (q .1) in (
+          fed-all-writer region (s .writer) bs (length bs) (omega arith) (ranWriter region w (feed bs)) (c .2) ∙ sym (quiet-dues-writer region w (dues ++ feed bs) quiet-before ∙ quiet-dues-writer region w (feed bs) quiet-before),
+          fed-all-region region (s .writer) bs (length bs) (omega arith) (ranRegion region w (feed bs)) (c .3) ∙ sym (quiet-dues-ran region w (dues ++ feed bs) quiet-before ∙ quiet-dues-ran region w (feed bs) quiet-before),
+        )

@@ -73,6 +73,10 @@ module _ (region : List ℕ) (w : Writer) where
   unfolding ranWriter ranRegion
   quiet-settled s h e = let q = ap quiet h ∙ e in (sym (quiet-dues-writer [] q), sym (quiet-dues-ran [] q))
 
+  pub quiet-two : (s : Stage) → w .stage ≡ s → quiet s ≡ true → (w ≡ ranWriter region w (due ∷ due ∷ [])) × (region ≡ ranRegion region w (due ∷ due ∷ []))
+  unfolding ranWriter ranRegion
+  quiet-two s h e = let q = ap quiet h ∙ e in (sym (quiet-writer (due ∷ []) q ∙ quiet-writer [] q), sym (quiet-ran (due ∷ []) q ∙ quiet-ran [] q))
+
 -- ---- runs
 
 pub ran-append-writer : (xs ys : List Lower) (region : List ℕ) (w : Writer) → ranWriter region w (xs ++ ys) ≡ ranWriter (ranRegion region w xs) (ranWriter region w xs) ys
@@ -98,16 +102,19 @@ module _ (region : List ℕ) (w : Writer) (xs ys : List Lower) (v : Writer) (r :
   pub then-region : (u : List ℕ) → u ≡ ranRegion r v ys → u ≡ ranRegion region w (xs ++ ys)
   then-region u e = e ∙ (λ i. ranRegion (b i) (a i) ys) ∙ sym (ran-append-region xs ys region w)
 
--- three due calls
+-- due calls
 module _ (region : List ℕ) (w : Writer) where
-  pub three : (a b c : Step) (r₁ r₂ r₃ : List ℕ) → a ≡ dueStep region w → r₁ ≡ dueRegion region w → b ≡ dueStep r₁ (a .writer) → r₂ ≡ dueRegion r₁ (a .writer)
-      → c ≡ dueStep r₂ (b .writer) → r₃ ≡ dueRegion r₂ (b .writer) → (c .writer ≡ ranWriter region w dues) × (r₃ ≡ ranRegion region w dues)
+  pub two : (a b : Step) (r₁ r₂ : List ℕ) → a ≡ dueStep region w → r₁ ≡ dueRegion region w → b ≡ dueStep r₁ (a .writer) → r₂ ≡ dueRegion r₁ (a .writer) → (b .writer ≡ ranWriter region w (due ∷ due ∷ [])) × (r₂ ≡ ranRegion region w (due ∷ due ∷ []))
   unfolding ranWriter ranRegion lowerStep lowerOps dueRegion
-  three a b c r₁ r₂ r₃ ea e₁ eb e₂ ec e₃ =
+  two a b r₁ r₂ ea e₁ eb e₂ =
       let wa = ap (λ (s : Step). s .writer) ea in
-      let wb : b .writer ≡ dueStep (dueRegion region w) (dueStep region w .writer) .writer = ap (λ (s : Step). s .writer) eb ∙ (λ i. dueStep (e₁ i) (wa i) .writer) in
-      let f₂ : r₂ ≡ dueRegion (dueRegion region w) (dueStep region w .writer) = e₂ ∙ (λ i. dueRegion (e₁ i) (wa i)) in
-      (ap (λ (s : Step). s .writer) ec ∙ (λ i. dueStep (f₂ i) (wb i) .writer), e₃ ∙ (λ i. dueRegion (f₂ i) (wb i)))
+      (ap (λ (s : Step). s .writer) eb ∙ (λ i. dueStep (e₁ i) (wa i) .writer), e₂ ∙ (λ i. dueRegion (e₁ i) (wa i)))
+
+  pub one-two : (a : Step) (r₁ : List ℕ) → a ≡ dueStep region w → r₁ ≡ dueRegion region w → (v : Writer) (r : List ℕ) → v ≡ ranWriter r₁ (a .writer) (due ∷ due ∷ []) → r ≡ ranRegion r₁ (a .writer) (due ∷ due ∷ []) → (v ≡ ranWriter region w dues) × (r ≡ ranRegion region w dues)
+  unfolding ranWriter ranRegion lowerStep lowerOps dueRegion
+  one-two a r₁ ea e₁ v r e f =
+      let wa = ap (λ (s : Step). s .writer) ea in
+      (e ∙ (λ i. ranWriter (e₁ i) (wa i) (due ∷ due ∷ [])), f ∙ (λ i. ranRegion (e₁ i) (wa i) (due ∷ due ∷ [])))
 
 -- a byte, then what is due
 pub one-fed : (region : List ℕ) (w : Writer) (bs : List ℕ) → 1 ≤ length bs → (s : Step) → s ≡ bytesStep w (take 1 bs) → (v : Writer) (r : List ℕ) → v ≡ ranWriter region (s .writer) dues → r ≡ ranRegion region (s .writer) dues

@@ -1,11 +1,12 @@
 // Runs of lower calls: what is due is done, and bytes are fed.
 ghost use mathlib.Core.Path.{_≡_};
 ghost use mathlib.Core.Bool.{true, false};
-ghost use Prim.Native.Nat.{_+_, _≤_};
-ghost use mathlib.Core.List.{_++_};
+ghost use Prim.Native.Nat.{_+_, _≤_, _<_};
+ghost use mathlib.Core.List.{_∷_, [], _++_};
 ghost use lib.ListN.{length, drop};
 ghost use Rattle.writer.specs.State as State;
 ghost use Rattle.lower.specs.Lower as Lower;
+ghost use Rattle.feed.specs.Run as Run;
 ghost use Rattle.feed.specs.Run.{ranWriter, ranRegion};
 ghost use Rattle.feed.specs.Feed as Feed;
 use due::due;
@@ -15,14 +16,34 @@ use writer::Stage;
 use writer::Writer;
 use writer::is_due;
 
+// The second and the third operation that are due.
+fn do_two(w: Writer, region: &mut [u8]) -> Writer
+    ensures { λ r. ⌜ (r ≡ ranWriter (now (region .entry)) w (Run.due ∷ Run.due ∷ [])) × (now (region .exit) ≡ ranRegion (now (region .entry)) w (Run.due ∷ Run.due ∷ [])) ⌝ }
+{
+    let b = due(w, region);
+    let c = due(b.writer, region);
+    c.writer
+}
+
+// Does what is still due, two operations at the most.
+fn settle_two(w: Writer, region: &mut [u8]) -> Writer
+    ensures { λ r. ⌜ (r ≡ ranWriter (now (region .entry)) w (Run.due ∷ Run.due ∷ [])) × (now (region .exit) ≡ ranRegion (now (region .entry)) w (Run.due ∷ Run.due ∷ [])) ⌝ }
+{
+    let s = w.stage;
+    match s {
+        Stage::Due(_) => do_two(w, region),
+        Stage::Idle => w,
+        Stage::Headed => w,
+        Stage::Committed => w,
+    }
+}
+
 // What is due, of which there are at most three in a row.
 fn do_due(w: Writer, region: &mut [u8]) -> Writer
     ensures { λ r. ⌜ (r ≡ ranWriter (now (region .entry)) w Feed.dues) × (now (region .exit) ≡ ranRegion (now (region .entry)) w Feed.dues) ⌝ }
 {
     let a = due(w, region);
-    let b = due(a.writer, region);
-    let c = due(b.writer, region);
-    c.writer
+    settle_two(a.writer, region)
 }
 
 // Does what is due.
@@ -101,4 +122,29 @@ pub fn settle_feed(w: Writer, region: &mut [u8], bytes: &[u8]) -> Writer
 {
     let v = settle(w, region);
     feed(v, region, bytes)
+}
+
+// Whether n bytes, some, leave room in the tail, and nothing is due before them.
+fn is_short(w: Writer, n: usize) -> bool
+    ensures { λ r. ⌜ (r ≡ true → (Lower.mayTake w ≡ true) × (State.isDue (w .taken) ≡ false) × (State.position (w .taken) + n ≤ 487424) × (1 ≤ n) × (w .taken .fill + n < 256)) ⌝ }
+{
+    let t = w.taken;
+    if may_take(w) & !is_due(t) {
+        if n < (256 - t.fill) as usize {
+            return (0 < n) & (n <= 487424 - (t.written + t.fill) as usize);
+        }
+    }
+    false
+}
+
+// Does what is due, and again, then feeds bytes: by one call where nothing is due before and after them.
+pub fn feed_line(w: Writer, region: &mut [u8], bytes: &[u8]) -> Writer
+    ensures { λ r. ⌜ (r ≡ ranWriter (now (region .entry)) w (Feed.dues ++ (Feed.dues ++ Feed.feed (now (bytes .entry))))) × (now (region .exit) ≡ ranRegion (now (region .entry)) w (Feed.dues ++ (Feed.dues ++ Feed.feed (now (bytes .entry))))) ⌝ }
+{
+    if is_short(w, bytes.len()) {
+        let s = take::bytes(w, bytes);
+        return s.writer;
+    }
+    let v = settle(w, region);
+    settle_feed(v, region, bytes)
 }
