@@ -210,6 +210,40 @@ module _ (t : ℕ) (texts lengths out o : List ℕ) (a : RowAnswer) (h : t ≤ 7
     pub row-there : take n o ≡ rowOf (handed texts lengths)
     row-there = (λ i. take (row-written .1 i) (row-out i)) ∙ start-is (rowOf (handed texts lengths)) out (omega (arith, row-written .1, row-short))
 
+-- a row that was written to fewer bytes
+
+by-three : (p q r : Bool) (m n : ℕ) → pick p (pick q (pick r (Written m) (RowRefused Small)) (RowRefused Row)) (RowRefused Row) ≡ Written n → ((p && q) ≡ true) × (n ≡ m) × (r ≡ true)
+by-three true true true m n e = (refl, cc, refl)
+by-three true true false m n e = (cc, cc, cc)
+by-three true false r m n e = (cc, cc, cc)
+by-three false q r m n e = (cc, cc, cc)
+
+module _ (t : ℕ) (texts lengths out o : List ℕ) (a : RowAnswer) (h : t ≤ 7) (e : a ≡ rowAnswer t texts lengths (length out)) (k : o ≡ after a (rowOf (handed texts lengths)) out) (n : ℕ) (f : a ≡ Written n) where
+  abbrev few-size : ℕ
+  few-size = length (rowOf (handed texts lengths))
+
+  few-answer : a ≡ pick (eqb (length lengths) (columnCount t)) (pick (leb few-size 8192) (pick (leb few-size (length out)) (Written few-size) (RowRefused Small)) (RowRefused Row)) (RowRefused Row)
+  unfolding rowAnswer within
+  few-answer = e ∙ rw (le-leb t 7 h)
+
+  few-all : ((eqb (length lengths) (columnCount t) && leb few-size 8192) ≡ true) × (n ≡ few-size) × (leb few-size (length out) ≡ true)
+  few-all = by-three (eqb (length lengths) (columnCount t)) (leb few-size 8192) (leb few-size (length out)) few-size n (sym few-answer ∙ f)
+
+  pub few-written : ((eqb (length lengths) (columnCount t) && leb few-size 8192) ≡ true) × (n ≡ few-size)
+  few-written = (few-all .0, few-all .1)
+
+  pub few-short : n ≤ 8192
+  few-short = omega (arith, few-all .1, leb-true few-size 8192 (and-right (eqb (length lengths) (columnCount t)) (leb few-size 8192) (few-all .0)))
+
+  few-out : o ≡ written out 0 (rowOf (handed texts lengths))
+  few-out = k ∙ ap (λ (b : RowAnswer). after b (rowOf (handed texts lengths)) out) f
+
+  pub few-length : n ≤ length o
+  few-length = omega (arith, few-all .1, leb-true few-size (length out) (few-all .2), ap length few-out, length-written out 0 (rowOf (handed texts lengths)))
+
+  pub few-there : take n o ≡ rowOf (handed texts lengths)
+  few-there = (λ i. take (few-all .1 i) (few-out i)) ∙ start-is (rowOf (handed texts lengths)) out (leb-true few-size (length out) (few-all .2))
+
 -- ---- the beginning
 
 module _ (region : List ℕ) (w : Writer) (xs ys zs : List ℕ) (z : xs ++ ys ≡ zs) (v : Writer) (r : List ℕ) (a : v ≡ ranWriter region w (feed xs)) (b : r ≡ ranRegion region w (feed xs)) where
