@@ -9,6 +9,7 @@ ghost use Rattle.feed.specs.Run as Run;
 ghost use Rattle.feed.specs.Run.{ranWriter, ranRegion};
 ghost use Rattle.feed.specs.Feed as Feed;
 ghost use Rattle.update.specs.Upper as Upper;
+use feed::feed_line;
 use feed::settle;
 use feed::settle_feed;
 use lower::is_open;
@@ -80,12 +81,21 @@ fn run_row(w: Writer, region: &mut [u8], bytes: &[u8], n: usize) -> Writer
     ensures { λ r. ⌜ (r ≡ ranWriter (now (region .entry)) w (Feed.dues ++ (Feed.dues ++ Feed.feed (take n (now (bytes .entry)))))) × (now (region .exit) ≡ ranRegion (now (region .entry)) w (Feed.dues ++ (Feed.dues ++ Feed.feed (take n (now (bytes .entry)))))) ⌝ }
 {
     let line = &bytes[0..n];
+    feed_line(w, region, line)
+}
+
+// The run of a long row, which stands in the first n bytes.
+fn run_long(w: Writer, region: &mut [u8], bytes: &[u8], n: usize) -> Writer
+    requires { ⌜ n ≤ length (now bytes) ⌝ }
+    ensures { λ r. ⌜ (r ≡ ranWriter (now (region .entry)) w (Feed.dues ++ (Feed.dues ++ Feed.feed (take n (now (bytes .entry)))))) × (now (region .exit) ≡ ranRegion (now (region .entry)) w (Feed.dues ++ (Feed.dues ++ Feed.feed (take n (now (bytes .entry)))))) ⌝ }
+{
+    let line = &bytes[0..n];
     let v = settle(w, region);
     settle_feed(v, region, line)
 }
 
-// Feeds a row of the open table, where it is one and fits.
-fn row_in(w: Writer, region: &mut [u8], texts: &[u8], lengths: &[u32]) -> Step
+// Feeds a row of the open table, where it is one and fits, of up to 8,192 bytes.
+fn long_row(w: Writer, region: &mut [u8], texts: &[u8], lengths: &[u32]) -> Step
     requires { ⌜ (length (now region) ≡ 983040) × (Upper.orderOk w (Upper.row (now texts) (now lengths)) ≡ true) × (w .tables .table ≤ 7) ⌝ }
     ensures { λ r. ⌜ (r ≡ Upper.upperStep (now (region .entry)) w (Upper.row (now (texts .entry)) (now (lengths .entry)))) × (now (region .exit) ≡ Upper.upperRegion (now (region .entry)) w (Upper.row (now (texts .entry)) (now (lengths .entry)))) ⌝ }
 {
@@ -94,6 +104,24 @@ fn row_in(w: Writer, region: &mut [u8], texts: &[u8], lengths: &[u32]) -> Step
     let a = row::row(x.table, texts, lengths, &mut out);
     let RowAnswer::Written(n) = a else {
         return stays(w, Refusal::Row);
+    };
+    if fits(w.taken, n) {
+        let v = run_long(w, region, &out, n);
+        return did(v);
+    }
+    stays(w, Refusal::Full)
+}
+
+// Feeds a row of the open table, where it is one and fits; first tried in few bytes, which are quickly made.
+fn row_in(w: Writer, region: &mut [u8], texts: &[u8], lengths: &[u32]) -> Step
+    requires { ⌜ (length (now region) ≡ 983040) × (Upper.orderOk w (Upper.row (now texts) (now lengths)) ≡ true) × (w .tables .table ≤ 7) ⌝ }
+    ensures { λ r. ⌜ (r ≡ Upper.upperStep (now (region .entry)) w (Upper.row (now (texts .entry)) (now (lengths .entry)))) × (now (region .exit) ≡ Upper.upperRegion (now (region .entry)) w (Upper.row (now (texts .entry)) (now (lengths .entry)))) ⌝ }
+{
+    let x = w.tables;
+    let mut out = [0u8; 512];
+    let a = row::row(x.table, texts, lengths, &mut out);
+    let RowAnswer::Written(n) = a else {
+        return long_row(w, region, texts, lengths);
     };
     if fits(w.taken, n) {
         let v = run_row(w, region, &out, n);

@@ -8,7 +8,7 @@ use Rattle.writer.specs.State.{position}
 use Rattle.feed.specs.Run.{ranWriter, ranRegion}
 use Rattle.feed.specs.Feed.{dues, feed}
 use Rattle.update.specs.Upper.{row, taken, runOf}
-use Rattle.update.proofs.Laws.{row-not, row-written, row-short, row-length, row-there, upper-done, upper-full, upper-row}
+use Rattle.update.proofs.Laws.{few-written, few-short, few-length, few-there, upper-done, upper-full}
 use borrow.Author.Needs.{needs}
 use Rattle.rowfeed.proofs.row_in.Statement.{statement}
 use Rattle.rowfeed.proofs.row_in.Tie as tie
@@ -25,16 +25,18 @@ enum-known-a c = search needs
 enum-told : tie.Need-enum-told
 enum-told c = search needs
 
-stays-requires : tie.Need-stays-requires
-stays-requires c κs = search needs
+long-row-requires : tie.Need-long-row-requires
+long-row-requires c κs =
+    let s = c .before .before .before .before .before .before .before .before .before .before in
+    (s .pre .0, s .pre .1, s .pre .2)
+
+same-length : tie.Need-same-length
+same-length c = search needs
 
 returns : tie.Need-returns
 returns c =
-    let r = c .before .before .before .before in
-    let s = r .before .before .before .before .before .before in
-    let y = s .args in
-    let d = upper-row (y .region .now) (y .w) (row (y .texts .now) (y .lengths .now)) (s .pre .0) refl (s .pre .1) (row-not (y .w .tables .table) (y .texts .now) (y .lengths .now) (replicate 8192 0) (r .row .last .1 .1 .1 .0) (r .row .result) (s .pre .2) (length-replicate {A = ℕ} 8192 0) (r .row .ensures .0) (r .row .ensures .1) (c .before .enum-told .given .0 .0) (c .before .enum-told .given .1)) in
-    (c .stays .ensures ∙ d .0, d .1)
+    let l = c .before .before .long-row in
+    (l .ensures .0, l .ensures .1)
 
 fits-requires : tie.Need-fits-requires
 fits-requires c κs = search needs
@@ -48,15 +50,15 @@ run-row-requires c κs =
     let s = r .before .before .before .before .before .before in
     let y = s .args in
     let n = c .before .before .before .before .before .a .given in
-    let h = row-short (y .w .tables .table) (y .texts .now) (y .lengths .now) (replicate 8192 0) (r .row .last .1 .1 .1 .0) (r .row .result) (s .pre .2) (length-replicate {A = ℕ} 8192 0) (r .row .ensures .0) (r .row .ensures .1) (n .0 .0) (n .1) in
-    let k = row-length (y .w .tables .table) (y .texts .now) (y .lengths .now) (replicate 8192 0) (r .row .last .1 .1 .1 .0) (r .row .result) (s .pre .2) (length-replicate {A = ℕ} 8192 0) (r .row .ensures .0) (r .row .ensures .1) (n .0 .0) (n .1) in
-    omega (arith, h, k)
+    let h = few-short (y .w .tables .table) (y .texts .now) (y .lengths .now) (replicate 512 0) (r .row .last .1 .1 .1 .0) (r .row .result) (s .pre .2) (r .row .ensures .0) (r .row .ensures .1) (n .0 .0) (n .1) in
+    let k = few-length (y .w .tables .table) (y .texts .now) (y .lengths .now) (replicate 512 0) (r .row .last .1 .1 .1 .0) (r .row .result) (s .pre .2) (r .row .ensures .0) (r .row .ensures .1) (n .0 .0) (n .1) in
+    omega (arith, h, k, length-replicate {A = ℕ} 512 0)
 
 did-requires : tie.Need-did-requires
 did-requires c κs = search needs
 
-same-length : tie.Need-same-length
-same-length c = search needs
+same-length-2 : tie.Need-same-length-2
+same-length-2 c = search needs
 
 returns-2 : tie.Need-returns-2
 unfolding taken runOf
@@ -68,8 +70,8 @@ returns-2 c =
     let t = x .before .before .before in
     let f = t .before in
     let n = f .before .before .a .given in
-    let w = row-written (y .w .tables .table) (y .texts .now) (y .lengths .now) (replicate 8192 0) (r .row .last .1 .1 .1 .0) (r .row .result) (s .pre .2) (length-replicate {A = ℕ} 8192 0) (r .row .ensures .0) (r .row .ensures .1) (n .0 .0) (n .1) in
-    let b = row-there (y .w .tables .table) (y .texts .now) (y .lengths .now) (replicate 8192 0) (r .row .last .1 .1 .1 .0) (r .row .result) (s .pre .2) (length-replicate {A = ℕ} 8192 0) (r .row .ensures .0) (r .row .ensures .1) (n .0 .0) (n .1) in
+    let w = few-written (y .w .tables .table) (y .texts .now) (y .lengths .now) (replicate 512 0) (r .row .last .1 .1 .1 .0) (r .row .result) (s .pre .2) (r .row .ensures .0) (r .row .ensures .1) (n .0 .0) (n .1) in
+    let b = few-there (y .w .tables .table) (y .texts .now) (y .lengths .now) (replicate 512 0) (r .row .last .1 .1 .1 .0) (r .row .result) (s .pre .2) (r .row .ensures .0) (r .row .ensures .1) (n .0 .0) (n .1) in
     let d =
     upper-done (y .region .now) (y .w) (row (y .texts .now) (y .lengths .now)) (s .pre .0) refl (s .pre .1) (w .0)
     (ap (λ (k : ℕ). leb (position (y .w .taken) + k) 487424) (sym (w .1)) ∙ sym (f .fits2 .ensures) ∙ t .if1 .taken)
@@ -79,8 +81,8 @@ returns-2 c =
     (x .run-row .ensures .1 ∙ ap (λ (l : List ℕ). ranRegion (y .region .now) (y .w) (dues ++ (dues ++ feed l))) b) in
     (c .did .ensures ∙ d .0, d .1)
 
-stays-requires-2 : tie.Need-stays-requires-2
-stays-requires-2 c κs = search needs
+stays-requires : tie.Need-stays-requires
+stays-requires c κs = search needs
 
 returns-3 : tie.Need-returns-3
 unfolding taken
@@ -91,9 +93,9 @@ returns-3 c =
     let t = c .before in
     let f = t .before in
     let n = f .before .before .a .given in
-    let w = row-written (y .w .tables .table) (y .texts .now) (y .lengths .now) (replicate 8192 0) (r .row .last .1 .1 .1 .0) (r .row .result) (s .pre .2) (length-replicate {A = ℕ} 8192 0) (r .row .ensures .0) (r .row .ensures .1) (n .0 .0) (n .1) in
+    let w = few-written (y .w .tables .table) (y .texts .now) (y .lengths .now) (replicate 512 0) (r .row .last .1 .1 .1 .0) (r .row .result) (s .pre .2) (r .row .ensures .0) (r .row .ensures .1) (n .0 .0) (n .1) in
     let d = upper-full (y .region .now) (y .w) (row (y .texts .now) (y .lengths .now)) (s .pre .0) refl (s .pre .1) (w .0) (ap (λ (k : ℕ). leb (position (y .w .taken) + k) 487424) (sym (w .1)) ∙ sym (f .fits2 .ensures) ∙ t .if1 .left) in
-    (c .stays2 .ensures ∙ d .0, d .1)
+    (c .stays .ensures ∙ d .0, d .1)
 
 pub row-in-spec : {M : Type 1} → statement M
 row-in-spec =
@@ -103,13 +105,14 @@ row-in-spec =
     row-requires
     enum-known-a
     enum-told
-    stays-requires
+    long-row-requires
+    same-length
     returns
     fits-requires
     slice-aggregate-run-row
     run-row-requires
     did-requires
-    same-length
+    same-length-2
     returns-2
-    stays-requires-2
+    stays-requires
     returns-3)

@@ -5,7 +5,6 @@ use native.Mathlib.Nat.{sub-zero}
 use lib.ListN.{take}
 use Rattle.feed.specs.Run.{ranWriter, ranRegion}
 use Rattle.feed.specs.Feed.{dues, feed}
-use Rattle.feed.proofs.Laws.{then-writer, then-region}
 use borrow.Author.Needs.{needs}
 use Rattle.rowfeed.proofs.run_row.Statement.{statement}
 use Rattle.rowfeed.proofs.run_row.Tie as tie
@@ -19,26 +18,20 @@ part-line-start c = search needs
 part-line-end : tie.Need-part-line-end
 part-line-end c = search needs
 
-settle-requires : tie.Need-settle-requires
-settle-requires c κs = search needs
-
-settle-feed-requires : tie.Need-settle-feed-requires
-settle-feed-requires c κs = search needs
+feed-line-requires : tie.Need-feed-line-requires
+feed-line-requires c κs = search needs
 
 same-length : tie.Need-same-length
 same-length c = search needs
 
 returns : tie.Need-returns
 returns c =
-    let z = c .before .before .settle-feed in
-    let y = c .before .before .before .before .before .before in
-    let s = y .settle in
-    let a = y .before .before .before .before .before .args in
-    let r = s .last .1 .0 in
-    let cs = dues ++ feed (take (a .n) (a .bytes .now)) in
+    let z = c .before .before in
+    let f = z .feed-line in
+    let a = z .before .before .before .before .before .args in
     let k = ap (λ (n : ℕ). take n (a .bytes .now)) (sub-zero (a .n)) in (
-      then-writer (a .region .now) (a .w) dues cs (s .result) r (s .ensures .0) (s .ensures .1) (z .result) (z .ensures .0 ∙ ap (λ (l : List ℕ). ranWriter r (s .result) (dues ++ feed l)) k),
-      then-region (a .region .now) (a .w) dues cs (s .result) r (s .ensures .0) (s .ensures .1) (z .last .1 .0) (z .ensures .1 ∙ ap (λ (l : List ℕ). ranRegion r (s .result) (dues ++ feed l)) k),
+      f .ensures .0 ∙ ap (λ (l : List ℕ). ranWriter (a .region .now) (a .w) (dues ++ (dues ++ feed l))) k,
+      f .ensures .1 ∙ ap (λ (l : List ℕ). ranRegion (a .region .now) (a .w) (dues ++ (dues ++ feed l))) k,
     )
 
 pub run-row-spec : {M : Type 1} → statement M
@@ -48,7 +41,6 @@ run-row-spec =
     sub-line
     part-line-start
     part-line-end
-    settle-requires
-    settle-feed-requires
+    feed-line-requires
     same-length
     returns)
