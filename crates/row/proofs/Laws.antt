@@ -6,16 +6,16 @@ use native.Mathlib.Numerals.{add-one}
 use native.Mathlib.Nat.{add-zero, add-suc}
 use mathlib.Core.Bool.{Bool, true, false, _||_}
 use mathlib.Core.Path.{_≡_, refl, sym, ap, _∙_}
-use mathlib.Core.List.{List, [], _∷_, _++_}
-use lib.Dec.{eqb}
+use mathlib.Core.List.{List, [], _∷_, _++_, append-nil}
+use lib.Dec.{eqb, leb}
 use lib.ListN.{length, take, drop, getD, set, drop-of-length-le, length-drop, length-append, length-set, length-take}
-use lib.Seq.{sets, drop-cons, drop-drop, take-all, getD-set-same, getD-set-other}
-use borrow.Author.Tests.{eq-eqb, ne-eqb}
+use lib.Seq.{sets, sets-eq, length-sets, set-set, set-comm, drop-cons, drop-drop, take-all, take-add, getD-take, getD-drop, getD-set-same, getD-set-other}
+use borrow.Author.Tests.{eq-eqb, ne-eqb, eqb-true, le-leb, lt-leb}
 use Rattle.number.specs.Number.{pick}
 use Rattle.csv.specs.Write.{special, anySpecial, doubled, fieldOf, behind, rowOf}
 use Rattle.csv.proofs.Laws.{sets-append}
 use Rattle.row.specs.Write.{cutBy}
-use Rattle.row.specs.Steps.{Sizes}
+use Rattle.row.specs.Steps.{Sizes, FirstQuote}
 
 -- ---- bytes copied
 
@@ -46,17 +46,22 @@ or-assoc : (a b c : Bool) → (a || b) || c ≡ a || (b || c)
 or-assoc true b c = refl
 or-assoc false b c = refl
 
-or-none : (a : Bool) → a ≡ a || false
-or-none true = refl
-or-none false = refl
+-- n of the bytes before i are special
+abbrev pub Counted : List ℕ → ℕ → ℕ → Type 0
+Counted v i n = (n ≡ 0 → anySpecial (drop i v) ≡ anySpecial v) × ((n ≡ 0 → ⊥) → true ≡ anySpecial v)
 
-pub some-turn : (v : List ℕ) (i : ℕ) (found : Bool) → i < length v → (found || special (getD v i 0)) || anySpecial (drop (i + 1) v) ≡ found || anySpecial (drop i v)
-unfolding anySpecial
-some-turn v i found h = rw (add-one i, drop-cons v i 0 h) (or-assoc found (special (getD v i 0)) (anySpecial (drop (suc i) v)))
+pub counted-start : (v : List ℕ) → Counted v 0 0
+counted-start v = (λ e. refl, λ h. absurd (h refl))
 
-pub some-out : (v : List ℕ) (i : ℕ) (found : Bool) → length v ≤ i → found ≡ found || anySpecial (drop i v)
-unfolding anySpecial
-some-out v i found h = rw (drop-of-length-le v h) (or-none found)
+pub counted-yes : (v : List ℕ) (i n : ℕ) → i < length v → special (getD v i 0) ≡ true → Counted v i n → Counted v (i + 1) (n + 1)
+counted-yes v i n h e k = (λ z. absurd (omega arith), λ z. go (decLt 0 n))
+  where
+    go : Dec (0 < n) → true ≡ anySpecial v
+    go (yes p) = k .1 (λ z. omega arith)
+    go (no p) = any-yes v i h e ∙ k .0 (omega arith)
+
+pub counted-no : (v : List ℕ) (i n : ℕ) → i < length v → special (getD v i 0) ≡ false → Counted v i n → Counted v (i + 1) n
+counted-no v i n h e k = (λ z. sym (any-turn v i h e) ∙ k .0 z, k .1)
 
 -- the first n bytes, and those behind them
 special-split : (n : ℕ) (v : List ℕ) → anySpecial v ≡ anySpecial (take n v) || anySpecial (drop n v)
@@ -68,11 +73,10 @@ special-split (suc n) (b ∷ v) = ap (λ (q : Bool). special b || q) (special-sp
 pub chunk-yes : (v : List ℕ) (i n : ℕ) → anySpecial (take n (drop i v)) ≡ true → true ≡ anySpecial (drop i v)
 chunk-yes v i n e = sym (special-split n (drop i v) ∙ simp e)
 
-pub chunk-no : (v : List ℕ) (i : ℕ) → anySpecial (take (i + 16 - i) (drop i v)) ≡ false → anySpecial (drop i v) ≡ anySpecial (drop (i + 16) v)
-chunk-no v i e =
-    let n : i + 16 - i ≡ 16 = omega arith in
-    let s : anySpecial (take 16 (drop i v)) ≡ false = rw n at e in
-    special-split 16 (drop i v) ∙ simp s (rw (drop-drop 16 i v))
+pub chunk-no : (v : List ℕ) (i end : ℕ) → i ≤ end → anySpecial (take (end - i) (drop i v)) ≡ false → anySpecial (drop i v) ≡ anySpecial (drop end v)
+chunk-no v i end h e =
+    let n : i + (end - i) ≡ end = omega arith in
+    special-split (end - i) (drop i v) ∙ simp e (rw (drop-drop (end - i) i v, n))
 
 pub doubled-split : (n : ℕ) (v : List ℕ) → doubled v ≡ doubled (take n v) ++ doubled (drop n v)
 unfolding doubled
@@ -122,16 +126,6 @@ count-end v i n q h e f =
     let g = ap (λ (l : List ℕ). length (doubled l)) (rest-is v i) in
     omega (arith, d, e, f, g, length-drop i v)
 
--- sixteen bytes more are written
-pub part-written : (v out o : List ℕ) (i n r : ℕ) → r ≡ n + length (doubled (take (i + 16 - i) (drop i v))) → o ≡ sets out n (doubled (take (i + 16 - i) (drop i v)))
-    → sets out n (doubled (drop i v)) ≡ sets o r (doubled (drop (i + 16) v))
-part-written v out o i n r e f =
-    let p = doubled (take (i + 16 - i) (drop i v)) in
-    ap (sets out n) (doubled-part v i 16) ∙ sets-append out n p (doubled (drop (i + 16) v)) ∙ rw (e, f)
-
-pub part-size : (v : List ℕ) (i : ℕ) → length (doubled (drop i v)) ≡ length (doubled (take (i + 16 - i) (drop i v))) + length (doubled (drop (i + 16) v))
-part-size v i = ap length (doubled-part v i 16) ∙ length-append (doubled (take (i + 16 - i) (drop i v))) (doubled (drop (i + 16) v))
-
 pub doubled-less : (v : List ℕ) → length v ≤ length (doubled v)
 unfolding doubled
 doubled-less [] = omega arith
@@ -171,8 +165,164 @@ sets-two out n a b v w e = rw (e, add-one (n + 1), add-one n)
 pub twice-set : (out : List ℕ) (n a m b k : ℕ) → length out ≡ k → length (set (set out n a) m b) ≡ k
 twice-set out n a m b k e = length-set (set out n a) m b ∙ length-set out n a ∙ e
 
--- ---- the row
+-- ---- from quote to quote
 
+pub sets-pair : (out : List ℕ) (n a b : ℕ) (v w : List ℕ) → v ≡ a ∷ b ∷ w → sets out n v ≡ sets (set (set out n a) (n + 1) b) (n + 2) w
+sets-pair out n a b v w e = let m : n + 2 ≡ n + 1 + 1 = omega arith in rw m (sets-two out n a b v w e)
+
+set-early : (o : List ℕ) (k m c : ℕ) (b : List ℕ) → k < m → set (sets o m b) k c ≡ sets (set o k c) m b
+set-early o k m c [] h = refl
+set-early o k m c (x ∷ b) h = set-early (set o m x) k (suc m) c b (omega arith) ∙ ap (λ (l : List ℕ). sets l (suc m) b) (set-comm o m k x c (λ e. omega arith))
+
+-- what is written over is as if it had not been written
+sets-over : (o : List ℕ) (k : ℕ) (b c : List ℕ) → length b ≤ length c → sets (sets o k b) k c ≡ sets o k c
+sets-over o k [] c h = refl
+sets-over o k (x ∷ b) [] h = absurd (omega arith)
+sets-over o k (x ∷ b) (y ∷ c) h =
+    let e : set (sets (set o k x) (suc k) b) k y ≡ sets (set o k y) (suc k) b = set-early (set o k x) k (suc k) y b (omega arith) ∙ ap (λ (l : List ℕ). sets l (suc k) b) (set-set o k x y) in
+    ap (λ (l : List ℕ). sets l (suc k) c) e ∙ sets-over (set o k y) (suc k) b c (omega arith)
+
+pub sets-all : (o v : List ℕ) → length o ≡ length v → sets o 0 v ≡ v
+sets-all o v h =
+    let m : length o ≤ 0 + length v = omega arith in
+    sets-eq v o 0 (omega arith) ∙ ap (λ (l : List ℕ). v ++ l) (drop-of-length-le o m) ∙ append-nil v
+
+plain-doubled : (n : ℕ) (x : List ℕ) → n ≤ length x → ((j : ℕ) → j < n → getD x j 0 ≡ 34 → ⊥) → doubled x ≡ take n x ++ doubled (drop n x)
+unfolding doubled
+plain-doubled zero x h q = refl
+plain-doubled (suc n) [] h q = absurd (omega arith)
+plain-doubled (suc n) (b ∷ x) h q = simp (ne-eqb b 34 (q 0 (omega arith))) (ap (λ (l : List ℕ). b ∷ l) (plain-doubled n x (omega arith) (λ j k. q (suc j) (omega arith))))
+
+-- r bytes without a quote, of k that are written
+module _ (v : List ℕ) (i r k : ℕ) (h : r ≤ k) (g : k ≤ length v - i) (q : (j : ℕ) → j < r → getD (drop i v) j 0 ≡ 34 → ⊥) where
+  run-doubled : doubled (drop i v) ≡ take r (drop i v) ++ doubled (drop (i + r) v)
+  run-doubled = plain-doubled r (drop i v) (omega (arith, length-drop i v)) q ∙ rw (drop-drop r i v)
+
+  run-length : length (take r (drop i v)) ≡ r
+  run-length = omega (arith, length-take r (drop i v), length-drop i v)
+
+  run-size : length (doubled (drop i v)) ≡ r + length (doubled (drop (i + r) v))
+  run-size = ap length run-doubled ∙ length-append (take r (drop i v)) (doubled (drop (i + r) v)) ∙ rw run-length
+
+  run-sets : (out : List ℕ) (n : ℕ) → sets out n (doubled (drop i v)) ≡ sets (sets out n (take k (drop i v))) (n + r) (doubled (drop (i + r) v))
+  run-sets out n =
+      let a = take r (drop i v) in
+      let b = take (k - r) (drop r (drop i v)) in
+      let c = doubled (drop (i + r) v) in
+      let m : r + (k - r) ≡ k = omega arith in
+      let w : take k (drop i v) ≡ a ++ b = ap (λ (z : ℕ). take z (drop i v)) (sym m) ∙ take-add r (k - r) (drop i v) in
+      let s : length b ≤ length c = omega (arith, length-take (k - r) (drop r (drop i v)), ap length (drop-drop r i v), length-drop (i + r) v, doubled-less (drop (i + r) v)) in
+      let p : n + length a ≡ n + r = ap (λ (z : ℕ). n + z) run-length in
+      let t : sets out n (take k (drop i v)) ≡ sets (sets out n a) (n + r) b = ap (sets out n) w ∙ sets-append out n a b ∙ ap (λ (z : ℕ). sets (sets out n a) z b) p in
+      ap (sets out n) run-doubled ∙ sets-append out n a c ∙ ap (λ (z : ℕ). sets (sets out n a) z c) p ∙ sym (sets-over (sets out n a) (n + r) b c s) ∙ ap (λ (l : List ℕ). sets l (n + r) c) (sym t)
+
+-- what a run does: o is what out becomes, r how far it goes
+pub record Ran (v out o : List ℕ) (i n r : ℕ) : Type 0 where
+  pub inside : i + r ≤ length v
+  pub size : length (doubled (drop i v)) ≡ r + length (doubled (drop (i + r) v))
+  pub room : length o ≡ length out
+  pub is : sets out n (doubled (drop i v)) ≡ sets o (n + r) (doubled (drop (i + r) v))
+  pub quote : r < 64 → (length (doubled (drop i v)) ≡ length v - i → ⊥) → (i + r < length v) × (getD v (i + r) 0 ≡ 34)
+
+module _ (v out o : List ℕ) (i n r : ℕ) (h : i ≤ length v) where
+  far : 64 ≤ length v - i → FirstQuote (take 64 (drop i v)) r → o ≡ sets out n (take 64 (drop i v)) → Ran v out o i n r
+  far g f e =
+      let l : length (take 64 (drop i v)) ≡ 64 = omega (arith, length-take 64 (drop i v), length-drop i v) in
+      let m : r ≤ 64 = omega (arith, l, f .0) in
+      let q : (j : ℕ) → j < r → getD (drop i v) j 0 ≡ 34 → ⊥ = λ j k z. f .1 j k (getD-take 64 (drop i v) j 0 (omega arith) ∙ z) in
+      record {
+        inside = omega arith;
+        size = run-size v i r 64 m g q;
+        room = ap length e ∙ length-sets out n (take 64 (drop i v));
+        is = run-sets v i r 64 m g q out n ∙ rw e;
+        quote = λ s d. (omega arith, sym (getD-drop i v r 0) ∙ sym (getD-take 64 (drop i v) r 0 s) ∙ f .2 (omega (arith, l)));
+      }
+
+  close : length v - i < 64 → FirstQuote (drop i v) r → o ≡ sets out n (take r (drop i v)) → Ran v out o i n r
+  close g f e =
+      let l = length-drop i v in
+      let m : r ≤ length v - i = omega (arith, l, f .0) in
+      let z = run-size v i r r (omega arith) m (f .1) in
+      let less : (length (doubled (drop i v)) ≡ length v - i → ⊥) → r < length (drop i v) = λ d. go (decLt r (length (drop i v))) d in
+      record {
+        inside = omega arith;
+        size = z;
+        room = ap length e ∙ length-sets out n (take r (drop i v));
+        is = run-sets v i r r (omega arith) m (f .1) out n ∙ rw e;
+        quote = λ s d. (omega (arith, l, less d), sym (getD-drop i v r 0) ∙ f .2 (less d));
+      }
+    where
+      out-of : length v ≤ i + r → length (doubled (drop (i + r) v)) ≡ 0
+      out-of k = ap length (doubled-out v (i + r) k)
+
+      go : Dec (r < length (drop i v)) → (length (doubled (drop i v)) ≡ length v - i → ⊥) → r < length (drop i v)
+      go (yes p) d = p
+      go (no p) d = absurd (d (omega (arith, f .0, length-drop i v, run-size v i r r (omega arith) (omega (arith, length-drop i v, f .0)) (f .1), out-of (omega (arith, length-drop i v)))))
+
+  pub ran : FirstQuote (take 64 (take (length v - i) (drop i v))) r → o ≡ sets out n (take (pick (leb 64 (length (take (length v - i) (drop i v)))) 64 r) (take (length v - i) (drop i v))) → Ran v out o i n r
+  ran f e =
+      let f' : FirstQuote (take 64 (drop i v)) r = rw (rest-is v i) at f in
+      let e' : o ≡ sets out n (take (pick (leb 64 (length (drop i v))) 64 r) (drop i v)) = rw (rest-is v i) at e in
+      go (decLt (length v - i) 64) f' e'
+    where
+      go : Dec (length v - i < 64) → FirstQuote (take 64 (drop i v)) r → o ≡ sets out n (take (pick (leb 64 (length (drop i v))) 64 r) (drop i v)) → Ran v out o i n r
+      go (yes p) f e =
+          let s : length (drop i v) < 64 = omega (arith, length-drop i v) in
+          let f' : FirstQuote (drop i v) r = rw (take-all 64 (drop i v) (omega arith)) at f in
+          let e' : o ≡ sets out n (take r (drop i v)) = rw (lt-leb 64 (length (drop i v)) s) at e in
+          close p f' e'
+      go (no p) f e =
+          let s : 64 ≤ length (drop i v) = omega (arith, length-drop i v) in
+          let e' : o ≡ sets out n (take 64 (drop i v)) = rw (le-leb 64 (length (drop i v)) s) at e in
+          far (omega arith) f e'
+
+pub run-quote : (v out o : List ℕ) (i n r : ℕ) → Ran v out o i n r → r < 64 → (length (doubled (drop i v)) ≡ length v - i → ⊥) → (i + r < length v) × (doubled (drop (i + r) v) ≡ 34 ∷ 34 ∷ doubled (drop (i + r + 1) v))
+run-quote v out o i n r x h d =
+    let q = x .quote h d in
+    (q .0, doubled-quote v (i + r) (q .0) (q .1) ∙ ap (λ (b : ℕ). 34 ∷ b ∷ doubled (drop (i + r + 1) v)) (q .1))
+
+pub run-close : (v out o : List ℕ) (to r : ℕ) → length v < 64 → FirstQuote v r → o ≡ sets out to (take (r - 0) v) → FirstQuote (take 64 v) r × (o ≡ sets out to (take (pick (leb 64 (length v)) 64 r) v))
+run-close v out o to r h f e =
+    let z : r - 0 ≡ r = omega arith in
+    (rw (take-all 64 v (omega arith)) f, rw (lt-leb 64 (length v) h) (e ∙ ap (λ (m : ℕ). sets out to (take m v)) z))
+
+pub run-far : (v out o : List ℕ) (to r : ℕ) → 64 ≤ length v → FirstQuote (take 64 v) r → o ≡ sets out to (take 64 v) → FirstQuote (take 64 v) r × (o ≡ sets out to (take (pick (leb 64 (length v)) 64 r) v))
+run-far v out o to r h f e = (f, rw (le-leb 64 (length v) h) e)
+
+-- n is the least place of a quote before i, the length for none
+abbrev pub Least : List ℕ → ℕ → ℕ → Type 0
+Least v i n = (n ≤ length v) × ((j : ℕ) → j < n → j < i → getD v j 0 ≡ 34 → ⊥) × (n < length v → (n < i) × (getD v n 0 ≡ 34))
+
+pub least-start : (v : List ℕ) → Least v 0 (length v)
+least-start v = (omega arith, λ j a b e. omega arith, λ h. absurd (omega arith))
+
+pub least-turn : (v : List ℕ) (i n m : ℕ) → i < length v → m ≡ min (pick (eqb (getD v i 0) 34) i (length v)) n → Least v i n → Least v (i + 1) m
+least-turn v i n m h e l = go (eqb (getD v i 0) 34) refl (decLt n (length v)) e
+  where
+    go : (q : Bool) → eqb (getD v i 0) 34 ≡ q → Dec (n < length v) → m ≡ min (pick q i (length v)) n → Least v (i + 1) m
+    go true s (yes d) e =
+        let p = l .2 d in
+        let z : m ≡ n = omega (arith, p .0) in
+        rw z (l .0, λ j a b. l .1 j a (omega (arith, p .0)), λ k. (omega (arith, p .0), p .1))
+    go true s (no d) e =
+        let z : m ≡ i = omega (arith, l .0) in
+        rw z (omega arith, λ j a b. l .1 j (omega (arith, l .0)) a, λ k. (omega arith, eqb-true (getD v i 0) 34 s))
+    go false s d e =
+        let z : m ≡ n = omega (arith, l .0) in
+        rw z (l .0, λ j a b w. not-there j a b w (decLt j i), λ k. let p = l .2 k in (omega (arith, p .0), p .1))
+      where
+        not-there : (j : ℕ) → j < n → j < i + 1 → getD v j 0 ≡ 34 → Dec (j < i) → ⊥
+        not-there j a b w (yes y) = l .1 j a y w
+        not-there j a b w (no y) =
+            let x : j ≡ i = omega arith in
+            let u : getD v i 0 ≡ 34 = rw x at w in
+            let t : _≡_ {A = Bool} true false = sym (eq-eqb (getD v i 0) 34 u) ∙ s in
+            absurd (let z : _≡_ {A = ℕ} 0 1 = cc in omega arith)
+
+pub least-end : (v : List ℕ) (i n : ℕ) → length v ≤ i → Least v i n → FirstQuote v n
+least-end v i n h l = (l .0, λ j a. l .1 j a (omega (arith, l .0)), λ k. l .2 k .1)
+
+-- ---- the row
 pub field-less : (v : List ℕ) → length v ≤ length (fieldOf v)
 unfolding fieldOf
 field-less v = go (anySpecial v)

@@ -1,5 +1,5 @@
 -- What the private functions promise each other. Nothing here says what a row is.
-use Prim.Native.Nat.{ℕ, _+_}
+use Prim.Native.Nat.{ℕ, _+_, _≤_, _<_}
 use mathlib.Core.Path.{_≡_}
 use mathlib.Core.List.{List, [], _∷_, _++_}
 use lib.ListN.{length, getD}
@@ -18,3 +18,7 @@ allLines = lines columns
 abbrev pub Sizes : List ℕ → ℕ → List (List ℕ) → Type 0
 Sizes sizes k [] = Unit {0}
 Sizes sizes k (v ∷ vs) = (getD sizes k 0 ≡ length (fieldOf v)) × Sizes sizes (k + 1) vs
+
+-- n is the place of the first quote, or the length for none
+abbrev pub FirstQuote : List ℕ → ℕ → Type 0
+FirstQuote v n = (n ≤ length v) × ((j : ℕ) → j < n → getD v j 0 ≡ 34 → ⊥) × (n < length v → getD v n 0 ≡ 34)

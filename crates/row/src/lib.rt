@@ -1,14 +1,14 @@
 // The lines of a table as they are written: its column names, and a row. Every public function answers whatever it is given.
 ghost use mathlib.Core.Path.{_≡_};
-ghost use Prim.Native.Nat.{_+_, _≤_, _<_, min};
-ghost use lib.Dec.{eqb};
-ghost use lib.ListN.{length, drop};
+ghost use Prim.Native.Nat.{_+_, _-_, _≤_, _<_, min};
+ghost use lib.Dec.{eqb, leb};
+ghost use lib.ListN.{length, take, drop};
 ghost use lib.Seq.{sets};
 ghost use Rattle.number.specs.Number.{pick};
 ghost use Rattle.csv.specs.Write.{special, anySpecial, doubled, fieldOf, rowOf};
 ghost use Rattle.row.specs.Columns.{columnCount, namesLine};
 ghost use Rattle.row.specs.Write.{handed, within, after, namesAnswer, rowAnswer};
-ghost use Rattle.row.specs.Steps.{allLines, Sizes};
+ghost use Rattle.row.specs.Steps.{allLines, Sizes, FirstQuote};
 use refusal::Refusal;
 
 pub enum RowAnswer {
@@ -82,17 +82,23 @@ fn is_special(b: u8) -> bool
     (b == 34) | ((b == 44) | ((b == 13) | (b == 10)))
 }
 
-// Whether there is one; all bytes are gone through, so that many are tested at once.
+// Whether there is one among a few bytes; they are counted, so that many are tested at once.
 fn some_special(v: &[u8]) -> bool
+    requires { ⌜ length (now v) ≤ 64 ⌝ }
     ensures { λ r. ⌜ r ≡ anySpecial (now (v .entry)) ⌝ }
 {
-    let mut found = false;
+    let mut n: u8 = 0;
     let mut i: usize = 0;
     while i < v.len() {
-        found = found | is_special(v[i]);
+        if is_special(v[i]) {
+            n += 1;
+        }
         i += 1;
     }
-    found
+    if n == 0 {
+        return false;
+    }
+    true
 }
 
 // Whether there is one from a place on.
@@ -110,19 +116,30 @@ fn special_from(v: &[u8], from: usize) -> bool
     false
 }
 
+// Where the bytes end that are tested at once from a place on.
+fn near(len: usize, i: usize) -> usize
+    requires { ⌜ i ≤ len ⌝ }
+    ensures { λ r. ⌜ r ≡ i + min 32 (len - i) ⌝ }
+{
+    if len - i < 32 { len } else { i + 32 }
+}
+
 // Whether a value is quoted.
 fn any_special(v: &[u8]) -> bool
     ensures { λ r. ⌜ r ≡ anySpecial (now (v .entry)) ⌝ }
 {
+    if v.len() < 16 {
+        return special_from(v, 0);
+    }
     let mut i: usize = 0;
-    while 16 <= v.len() - i {
-        let end = i + 16;
+    while i < v.len() {
+        let end = near(v.len(), i);
         if some_special(&v[i..end]) {
             return true;
         }
         i = end;
     }
-    special_from(v, i)
+    false
 }
 
 // How many quotes there are among a few bytes: what they grow by when these are doubled.
@@ -176,34 +193,80 @@ fn put_each(v: &[u8], out: &mut [u8], to: usize) -> usize
     n
 }
 
-// The same for a few bytes, copied where there is no quote among them.
-fn put_few(v: &[u8], out: &mut [u8], to: usize) -> usize
-    requires { ⌜ (length (now v) ≤ 64) × (to + length (doubled (now v)) ≤ length (now out)) ⌝ }
-    ensures { λ r. ⌜ (r ≡ to + length (doubled (now (v .entry)))) × (now (out .exit) ≡ sets (now (out .entry)) to (doubled (now (v .entry)))) ⌝ }
+fn quote_place(byte: u8, i: u8, none: u8) -> u8
+    ensures { λ r. ⌜ r ≡ pick (eqb byte 34) i none ⌝ }
 {
-    if quotes(v) == 0 {
-        copy(v, out, to);
-        return to + v.len();
-    }
-    put_each(v, out, to)
+    if byte == 34 { i } else { none }
 }
 
-// A value with its quotes doubled, into out from a place on.
-fn put_doubled(v: &[u8], out: &mut [u8], to: usize)
-    requires { ⌜ to + length (doubled (now v)) ≤ length (now out) ⌝ }
+fn least(a: u8, b: u8) -> u8
+    ensures { λ r. ⌜ r ≡ min a b ⌝ }
+{
+    if a < b { a } else { b }
+}
+
+// Where the first quote stands among a few bytes, or their end: the least place, which is found for many bytes at once.
+fn first_quote(v: &[u8]) -> u8
+    requires { ⌜ length (now v) ≤ 64 ⌝ }
+    ensures { λ r. ⌜ FirstQuote (now (v .entry)) r ⌝ }
+{
+    let none = v.len() as u8;
+    let mut n = none;
+    let mut i: usize = 0;
+    while i < v.len() {
+        n = least(quote_place(v[i], i as u8, none), n);
+        i += 1;
+    }
+    n
+}
+
+// 64 bytes into out from a place on, by way of an array, which is copied whole.
+fn block(v: &[u8], out: &mut [u8], to: usize)
+    requires { ⌜ (length (now v) ≡ 64) × (to + 64 ≤ length (now out)) ⌝ }
+    ensures { λ _. ⌜ now (out .exit) ≡ sets (now (out .entry)) to (now (v .entry)) ⌝ }
+{
+    let mut b: [u8; 64] = [0; 64];
+    copy(v, &mut b, 0);
+    copy(&b, out, to);
+}
+
+// How many bytes stand before the first quote, at most 64. They are put into out; of 64 bytes, all, for those behind are written over.
+fn put_run(v: &[u8], out: &mut [u8], to: usize) -> usize
+    requires { ⌜ to + length (now v) ≤ length (now out) ⌝ }
+    ensures { λ r. ⌜ FirstQuote (take 64 (now (v .entry))) r × (now (out .exit) ≡ sets (now (out .entry)) to (take (pick (leb 64 (length (now (v .entry)))) 64 r) (now (v .entry)))) ⌝ }
+{
+    if v.len() < 64 {
+        let n = first_quote(v) as usize;
+        copy(&v[0..n], out, to);
+        return n;
+    }
+    let part = &v[0..64];
+    block(part, out, to);
+    first_quote(part) as usize
+}
+
+// A value with its quotes doubled, which takes size bytes, into out from a place on: from quote to quote.
+fn put_runs(v: &[u8], size: usize, out: &mut [u8], to: usize)
+    requires { ⌜ (size ≡ length (doubled (now v))) × (to + size ≤ length (now out)) ⌝ }
     ensures { λ _. ⌜ now (out .exit) ≡ sets (now (out .entry)) to (doubled (now (v .entry))) ⌝ }
 {
     let mut n = to;
     let mut i: usize = 0;
-    while 16 <= v.len() - i {
-        let end = i + 16;
-        n = put_few(&v[i..end], out, n);
-        i = end;
+    while to + size - n != v.len() - i {
+        let run = put_run(&v[i..v.len()], out, n);
+        n += run;
+        i += run;
+        if run < 64 {
+            out[n] = 34;
+            out[n + 1] = 34;
+            n += 2;
+            i += 1;
+        }
     }
-    put_each(&v[i..v.len()], out, n);
+    copy(&v[i..v.len()], out, n);
 }
 
-// The same, with how many bytes it takes: a value without quotes is copied as it is.
+// The same: a value without quotes is copied as it is, one with many goes byte by byte.
 fn put_inner(v: &[u8], size: usize, out: &mut [u8], to: usize)
     requires { ⌜ (size ≡ length (doubled (now v))) × (to + size ≤ length (now out)) ⌝ }
     ensures { λ _. ⌜ now (out .exit) ≡ sets (now (out .entry)) to (doubled (now (v .entry))) ⌝ }
@@ -212,7 +275,11 @@ fn put_inner(v: &[u8], size: usize, out: &mut [u8], to: usize)
         copy(v, out, to);
         return;
     }
-    put_doubled(v, out, to);
+    if size - v.len() < v.len() / 16 {
+        put_runs(v, size, out, to);
+        return;
+    }
+    put_each(v, out, to);
 }
 
 // How many bytes a value has whose length is n: at most what is left.

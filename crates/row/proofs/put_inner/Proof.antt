@@ -1,13 +1,15 @@
 use mathlib.Core.Path.{sym, ap, _∙_}
+use native.Mathlib.Omega.{arith}
 use lib.Seq.{sets}
-use Rattle.row.proofs.Laws.{doubled-same}
+use Rattle.row.proofs.Laws.{doubled-less, doubled-same}
 use borrow.Author.Needs.{needs}
 use Rattle.row.proofs.put_inner.Statement.{statement}
 use Rattle.row.proofs.put_inner.Tie as tie
 use Rattle.row.proofs.put_inner.Reads as reads
 use Rattle.row.proofs.put_inner.Lts as lts
 use Rattle.row.proofs.copy.Reads as copy-reads
-use Rattle.row.proofs.put_doubled.Reads as put-doubled-reads
+use Rattle.row.proofs.put_each.Reads as put-each-reads
+use Rattle.row.proofs.put_runs.Reads as put-runs-reads
 
 copy-requires : tie.Need-copy-requires
 copy-requires c κs = search needs
@@ -20,8 +22,11 @@ returns c =
     let a = c .before .before .before .before .before .before .before .args in
     c .before .before .copy .ensures ∙ ap (sets (a .out .now) (a .to)) (sym (doubled-same (a .v .now) (sym (c .before .before .before .before .before .before .before .pre .0) ∙ c .before .before .before .before .if1 .taken)))
 
-put-doubled-requires : tie.Need-put-doubled-requires
-put-doubled-requires c κs = search needs
+sub-if2 : tie.Need-sub-if2
+sub-if2 c = omega (arith, c .before .before .before .pre .0, doubled-less (c .before .before .before .args .v .now))
+
+put-runs-requires : tie.Need-put-runs-requires
+put-runs-requires c κs = search needs
 
 same-length-2 : tie.Need-same-length-2
 same-length-2 c = search needs
@@ -29,7 +34,26 @@ same-length-2 c = search needs
 returns-2 : tie.Need-returns-2
 returns-2 c = search needs
 
+put-each-requires : tie.Need-put-each-requires
+put-each-requires c κs = search needs
+
+same-length-3 : tie.Need-same-length-3
+same-length-3 c = search needs
+
+returns-3 : tie.Need-returns-3
+returns-3 c = search needs
+
 pub put-inner-spec : {M : Type 1} → statement M
 put-inner-spec =
     tie.close
-    (tie.spec copy-requires same-length returns put-doubled-requires same-length-2 returns-2)
+    (tie.spec
+    copy-requires
+    same-length
+    returns
+    sub-if2
+    put-runs-requires
+    same-length-2
+    returns-2
+    put-each-requires
+    same-length-3
+    returns-3)

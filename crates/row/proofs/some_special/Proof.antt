@@ -1,28 +1,30 @@
-use mathlib.Core.Bool.{_||_}
-use mathlib.Core.Path.{_≡_, refl, _∙_}
+use mathlib.Core.Path.{_≡_, sym, _∙_}
+use mathlib.Core.Logic.{⊎-elim}
 use Prim.Native.Nat.{_≤_, _-_}
 use native.Mathlib.Omega.{arith}
-use lib.ListN.{length, drop}
-use Rattle.csv.specs.Write.{anySpecial}
-use Rattle.row.proofs.Laws.{some-turn, some-out}
+use lib.ListN.{length}
+use Rattle.row.proofs.Laws.{any-out, Counted, counted-start, counted-yes, counted-no}
 use borrow.Author.Needs.{needs}
 use Rattle.row.proofs.some_special.Statement.{statement}
 use Rattle.row.proofs.some_special.Tie as tie
 
 abbrev Inv-loop : tie.InvT-loop
-Inv-loop v found₀ i₀ found i = (i ≤ length v) × (found || anySpecial (drop i v) ≡ anySpecial v)
+Inv-loop v n₀ i₀ n i = (i ≤ length v) × (n ≤ i) × Counted v i n
 
 abbrev μ-loop : tie.MeasureT-loop
-μ-loop v found₀ i₀ found i = length v - i
+μ-loop v n₀ i₀ n i = length v - i
 
 loop-holds : tie.Need-loop-holds Inv-loop μ-loop
-loop-holds c = (omega arith, refl)
+loop-holds c = (omega arith, omega arith, counted-start _)
 
 shared-slice-read-is-special : tie.Need-shared-slice-read-is-special Inv-loop μ-loop
 shared-slice-read-is-special c = search needs
 
 is-special-requires : tie.Need-is-special-requires Inv-loop μ-loop
 is-special-requires c κs = search needs
+
+add-n : tie.Need-add-n Inv-loop μ-loop
+add-n c = search needs
 
 add-i : tie.Need-add-i Inv-loop μ-loop
 add-i c = search needs
@@ -32,14 +34,21 @@ loop-less c = search needs
 
 loop-again : tie.Need-loop-again Inv-loop μ-loop
 loop-again c =
-    let l = c .before .before .before .loop in
-    let v = c .before .before .before .before .before .args .v .now in
-    (omega arith, rw (c .is-special .ensures) (some-turn v (l .i) (l .found) (search needs) ∙ l .inv .1))
+    let l = c .before .before .before .before .loop in
+    let v = c .before .before .before .before .before .before .args .v .now in
+    let e = sym (c .before .is-special .ensures) in
+    ⊎-elim
+    (λ w. rw (w .1) (omega arith, omega arith, counted-yes v (l .i) (l .n) (omega arith) (e ∙ w .0 .taken) (l .inv .2)))
+    (λ w. rw (w .1) (omega arith, omega arith, counted-no v (l .i) (l .n) (omega arith) (e ∙ w .0 .left) (l .inv .2)))
+    (c .if1 .came)
 
 returns : tie.Need-returns Inv-loop μ-loop
 returns c =
-    let l = c .before .loop in
-    some-out (c .before .before .before .args .v .now) (l .i) (l .found) (search needs) ∙ l .inv .1
+    let l = c .before .before .loop in
+    any-out (c .before .before .before .before .args .v .now) (l .i) (search needs) ∙ l .inv .2 .0 (c .if2 .taken)
+
+returns-2 : tie.Need-returns-2 Inv-loop μ-loop
+returns-2 c = c .before .before .loop .inv .2 .1 (c .if2 .left)
 
 pub some-special-spec : {M : Type 1} → statement M
 some-special-spec =
@@ -50,7 +59,9 @@ some-special-spec =
     loop-holds
     shared-slice-read-is-special
     is-special-requires
+    add-n
     add-i
     loop-less
     loop-again
-    returns)
+    returns
+    returns-2)
