@@ -4,7 +4,7 @@ ghost use Prim.Native.Nat.{_+_, _≤_};
 ghost use lib.ListN.{length};
 ghost use lib.Seq.{sets};
 ghost use Rattle.lower.specs.Lower as Lower;
-use leaf::crc::crc32;
+use crcs::crc32_both;
 use lower::may_take;
 use lower::room;
 use refusal::Refusal;
@@ -40,15 +40,13 @@ fn with_bytes(w: Writer, bytes: &[u8]) -> Writer
     let b = w.beginning;
     let old = w.tail;
     let tail = tail_with(old, t.fill as usize, bytes);
+    let crcs = crc32_both(t.crc, x.crc, bytes);
     let taken = Taken {
         fill: t.fill + bytes.len() as u32,
-        crc: crc32(t.crc, bytes),
+        crc: crcs.a,
         ..t
     };
-    let tables = Tables {
-        crc: crc32(x.crc, bytes),
-        ..x
-    };
+    let tables = Tables { crc: crcs.b, ..x };
     let stage = stage_of(b.comparing, taken);
     Writer {
         stage,
