@@ -1,7 +1,7 @@
 -- The tail as written, where an operation lies, and the call's cases.
 use mathlib.Core.Path.{_≡_, refl, sym, ap, _∙_}
 use mathlib.Core.Bool.{Bool, true, false, not, _&&_, _||_}
-use mathlib.Core.List.{List, [], _∷_, _++_}
+use mathlib.Core.List.{List, [], _∷_, _++_, append-nil}
 use mathlib.Core.Logic.{_⊎_, inl, inr}
 use Prim.Native.Nat.{ℕ, _+_, _-_, _/_, _%_, _≤_}
 use native.Mathlib.Omega.{arith}
@@ -54,6 +54,13 @@ padded-is tail n m l h e k =
     ∙ take-append-add (take n tail) (fill 255 (256 - n)) p
     ∙ ap (λ (t : List ℕ). take n tail ++ t) (take-fill 255 p (256 - n) (omega arith))
     ∙ ap (λ (j : ℕ). take n tail ++ fill 255 ((4 - j % 4) % 4)) (sym x)
+
+-- nothing is padded where the length is a multiple of 4
+pub padded-whole : (tail : List ℕ) (n : ℕ) → length tail ≡ 256 → n ≤ 256 → n % 4 ≡ 0 → take n tail ≡ padded (take n tail)
+unfolding padded fill
+padded-whole tail n l h e =
+    let x : length (take n tail) ≡ n = length-take-le n tail (omega arith) in
+    sym (ap (λ (j : ℕ). take n tail ++ fill 255 ((4 - j % 4) % 4)) x ∙ ap (λ (j : ℕ). take n tail ++ fill 255 ((4 - j) % 4)) e ∙ append-nil (take n tail))
 
 pub length-padded : (xs : List ℕ) → length xs ≤ 256 → length (padded xs) ≤ 256
 unfolding padded

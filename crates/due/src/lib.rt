@@ -61,8 +61,13 @@ fn write_tail(region: &mut [u8], bank: u32, tail: [u8; 256], a: u32, n: u32)
     requires { ⌜ n ≤ 256 ⌝ }
     ensures { λ _. ⌜ now (region .exit) ≡ writtenIn (now (region .entry)) bank (4096 + a) (Due.padded (take n tail)) ⌝ }
 {
-    let t = filled(tail, n as usize);
-    let m = padded_length(n as usize);
+    let e = n as usize;
+    if e % 4 == 0 {
+        write(region, bank, 4096 + a as usize, &tail[0..e]);
+        return;
+    }
+    let t = filled(tail, e);
+    let m = padded_length(e);
     let bytes = &t[0..m];
     write(region, bank, 4096 + a as usize, bytes);
 }
