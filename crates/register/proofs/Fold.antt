@@ -148,6 +148,33 @@ module _ (a b c w : ℕ) (ha : a < 2 ^ 64) (hb : b < 2 ^ 64) (hc : c < 2 ^ 64) (
       ∙ ap (λ (z : ℕ). bitXor z (bitXor (steps 192 b) (steps 128 c))) (sym (near met met-lt))
       ∙ sym (ap (steps 256) (add-low a (c * 2 ^ 64 + b) w ha hw) ∙ steps-three 128 met b c met-lt hb)
 
+-- the same under further pending words, which stand above the three
+module _ (a b c w h : ℕ) (ha : a < 2 ^ 64) (hb : b < 2 ^ 64) (hc : c < 2 ^ 64) (hw : w < 2 ^ 64) where
+  above : steps 256 (bitXor (three a b (h * 2 ^ 64 + c)) w) ≡ bitXor (steps 256 (bitXor (three a b c) w)) (steps 64 h)
+  above =
+      let m = bitXor a w in
+      let hm : m < 2 ^ 64 = xor-lt 64 a w ha hw in
+      ap (steps 256) (add-low a ((h * 2 ^ 64 + c) * 2 ^ 64 + b) w ha hw)
+      ∙ steps-three 128 m b (h * 2 ^ 64 + c) hm hb
+      ∙ ap (λ (z : ℕ). bitXor (steps 256 m) (bitXor (steps 192 b) z)) (steps-two 64 c h hc)
+      ∙ same (steps 256 m ∷ steps 192 b ∷ steps 128 c ∷ steps 64 h ∷ [])
+      (plus (term 0) (plus (term 1) (plus (term 2) (term 3))))
+      (plus (plus (term 0) (plus (term 1) (term 2))) (term 3))
+      refl
+      ∙ ap (λ (z : ℕ). bitXor z (steps 64 h)) (sym (ap (steps 256) (add-low a (c * 2 ^ 64 + b) w ha hw) ∙ steps-three 128 m b c hm hb))
+
+  pub near-under : (p q r : ℕ) → p < 2 ^ 64 → q < 2 ^ 64 → steps 192 (three p q r) ≡ steps 256 (bitXor (three a b c) w)
+      → steps 192 (three p q (bitXor r h)) ≡ steps 256 (bitXor (three a b (h * 2 ^ 64 + c)) w)
+  near-under p q r hp hq e =
+      steps-three 64 p q (bitXor r h) hp hq
+      ∙ ap (λ (z : ℕ). bitXor (steps 192 p) (bitXor (steps 128 q) z)) (steps-xor 64 r h)
+      ∙ same (steps 192 p ∷ steps 128 q ∷ steps 64 r ∷ steps 64 h ∷ [])
+      (plus (term 0) (plus (term 1) (plus (term 2) (term 3))))
+      (plus (plus (term 0) (plus (term 1) (term 2))) (term 3))
+      refl
+      ∙ ap (λ (z : ℕ). bitXor z (steps 64 h)) (sym (steps-three 64 p q r hp hq) ∙ e)
+      ∙ sym above
+
 -- ---- the last fold: into the last two words, by x^120 + x^56 + x^40 + x^33 + x^15 + x^9 + x^8 + x + 1
 
 last-multiple : Multiple 120 (56 ∷ 40 ∷ 33 ∷ 15 ∷ 9 ∷ 8 ∷ 1 ∷ 0 ∷ [])
@@ -380,12 +407,6 @@ pending-at a q r i s h l e =
     w : ℕ
     w = little (take 8 (drop i s))
 
--- the register that was left, added to the lowest of the words above it
-pub onto : (r b q : ℕ) (s : List ℕ) → r < 2 ^ 64 → b < 2 ^ 64 → run (q * 2 ^ 64 + bitXor r b) s ≡ run (bitXor r (q * 2 ^ 64 + b)) s
-onto r b q s hr hb =
-    ap (λ (z : ℕ). run z s)
-    (sym (xor-comm r (q * 2 ^ 64 + b) ∙ add-low b q r hb hr ∙ ap (λ (z : ℕ). q * 2 ^ 64 + z) (xor-comm b r)))
-
 -- the last pending words, one after the other
 module _ (s : List ℕ) (at : ℕ) where
   next : (r n : ℕ) → run r (drop (at + n + 8) s) ≡ run r (drop (at + (n + 8)) s)
@@ -395,14 +416,11 @@ module _ (s : List ℕ) (at : ℕ) where
       → run r (drop (at + (n + 8)) s) ≡ run v (drop (at + n) s)
   last-of v r w n h e d = sym (next r n) ∙ taken-at v r w (at + n) s h e d
 
-  pub first-of : (a q r : ℕ) → at + 8 ≤ length s → a < 2 ^ 64 → r ≡ steps 64 (bitXor a (little (take 8 (drop at s))))
-      → run (bitXor r q) (drop (at + 8) s) ≡ run (q * 2 ^ 64 + a) (drop at s)
-  first-of a q r h l e = pending-at a q r at s h l e
-
   pub next-after : (a q r n : ℕ) → at + n + 8 ≤ length s → a < 2 ^ 64 → r ≡ steps 64 (bitXor a (little (take 8 (drop (at + n) s))))
       → run (bitXor r q) (drop (at + (n + 8)) s) ≡ run (q * 2 ^ 64 + a) (drop (at + n) s)
   next-after a q r n h l e = sym (next (bitXor r q) n) ∙ pending-at a q r (at + n) s h l e
 
-  pub next-of : (u b q r n : ℕ) → at + n + 8 ≤ length s → u < 2 ^ 64 → b < 2 ^ 64 → r ≡ steps 64 (bitXor (bitXor u b) (little (take 8 (drop (at + n) s))))
-      → run (bitXor r q) (drop (at + (n + 8)) s) ≡ run (bitXor u (q * 2 ^ 64 + b)) (drop (at + n) s)
-  next-of u b q r n h hu hb e = next-after (bitXor u b) q r n h (xor64 hu hb) e ∙ onto u b q (drop (at + n) s) hu hb
+-- a word that a fold left, with the words pending above it
+pub above-low : (r d e : ℕ) → r < 2 ^ 64 → d < 2 ^ 64 → bitXor r (e * 2 ^ 64 + d) ≡ e * 2 ^ 64 + bitXor r d
+above-low r d e hr hd =
+    xor-comm r (e * 2 ^ 64 + d) ∙ add-low d e r hd hr ∙ ap (λ (z : ℕ). e * 2 ^ 64 + z) (xor-comm d r)

@@ -473,17 +473,36 @@ fn close_near(t: &[u32; 128], p: ThreeAt, s: &[u8]) -> u32
     pair(t, (v ^ q.b) ^ load(s, at + 16))
 }
 
+// The last five words: two near folds, and the three that are left.
 fn close_far(t: &[u32; 128], p: FiveAt, s: &[u8]) -> u32
     requires { ⌜ Nibbles (now t) ⌝ }
     requires { ⌜ p .at + 40 ≤ length (now s) ⌝ }
     ensures { λ r. ⌜ run r (drop (p .at + 40) (now (s .entry))) ≡ run (five (p .a) (p .b) (p .c) (p .d) (p .e)) (drop (p .at) (now (s .entry))) ⌝ }
 {
     let at = p.at;
-    let v = one(t, p.a, s, at);
-    let w = one(t, v ^ p.b, s, at + 8);
-    let x = one(t, w ^ p.c, s, at + 16);
-    let y = one(t, x ^ p.d, s, at + 24);
-    pair(t, (y ^ p.e) ^ load(s, at + 32))
+    let q = fold_near(
+        Three {
+            a: p.a,
+            b: p.b,
+            c: p.c,
+        },
+        load(s, at),
+    );
+    let r = fold_near(
+        Three {
+            a: q.a,
+            b: q.b,
+            c: q.c ^ p.d,
+        },
+        load(s, at + 8),
+    );
+    let l = ThreeAt {
+        a: r.a,
+        b: r.b,
+        c: r.c ^ p.e,
+        at: at + 16,
+    };
+    close_near(t, l, s)
 }
 
 fn feed_near(t: &[u32; 128], crc: u32, s: &[u8]) -> u32
@@ -508,6 +527,9 @@ fn feed_far(t: &[u32; 128], crc: u32, s: &[u8]) -> u32
     let p = far_all(crc, s);
     let at = p.at;
     let c = close_far(t, p, s);
+    if s.len() == at + 40 {
+        return c;
+    }
     rest(t, c, s, at + 40)
 }
 
@@ -519,7 +541,7 @@ pub fn feed(crc: u32, bytes: &[u8]) -> u32
         return short(crc, bytes);
     }
     let t = TABLE;
-    if bytes.len() < 512 {
+    if bytes.len() < 128 {
         return feed_near(&t, crc, bytes);
     }
     feed_far(&t, crc, bytes)
