@@ -26,7 +26,7 @@ pub fn layout(version: u32) -> (usize, usize) {
     }
 }
 
-#[derive(Clone)]
+#[derive(Clone, PartialEq, Eq)]
 pub struct Record {
     pub start: u32,
     pub end: u32,
@@ -56,7 +56,7 @@ impl Record {
     }
 }
 
-#[derive(Clone)]
+#[derive(Clone, PartialEq, Eq)]
 pub struct Made {
     pub magic: [u8; 4],
     pub version: u32,

@@ -1,10 +1,11 @@
 //! Random calls with cuts, beside demand 3's history: after each, load's answer,
 //! the held bank's records, its bytes and its data.
 use crate::{
-    Case, Plan, Tally,
-    forged::by_number,
     keys::Selection,
     rows::columns,
+    run::{Case, Tally},
+    shrink::{Input, Moves, each, fewer},
+    stores::Found,
     update::{
         any::{any, row},
         calls::Call,
@@ -25,28 +26,6 @@ use common::{
     made::{BANK, SECTOR},
     picks::picks,
 };
-
-/// What has happened, for the note.
-#[derive(Default)]
-struct Counts {
-    calls: usize,
-    begun: usize,
-    committed: usize,
-    uppers: usize,
-    /// Cuts; those in upper calls with operations done; those of a commit word's
-    /// call before and after its write.
-    cuts: usize,
-    within: usize,
-    before_word: usize,
-    after_word: usize,
-    refusals: [usize; 15],
-}
-
-impl Counts {
-    fn refused(&mut self, answer: Answer) {
-        self.refusals[answer.refusal as usize % 15] += 1;
-    }
-}
 
 /// What the calls so far allow, so that most updates come to their end.
 #[derive(Clone, Default)]
@@ -166,12 +145,76 @@ impl Turn {
     }
 }
 
+/// A beginning: lower, or with the key of a selection. One that is cut has a number
+/// that its k is drawn from.
+#[derive(Clone)]
+struct Begin {
+    comparing: bool,
+    now: i64,
+    key: Option<Selection>,
+    cut: Option<u64>,
+}
+
+/// What happens to the board. A cut call has a number that its k is drawn from.
+#[derive(Clone)]
+enum Event {
+    Begin(Begin),
+    Call(Call),
+    Cut(Call, u64),
+}
+
+impl Begin {
+    fn random(random: &mut Random) -> Self {
+        let now = if random.once_in(30) { 0 } else { NOW + random.below(9) as i64 };
+        let comparing = random.once_in(12);
+        let cut = random.once_in(30).then(|| random.u64());
+        let key = random.once_in(2).then(|| {
+            let long = if random.once_in(20) { 65_536 } else { 2 };
+            let size = random.pick(&[0, 1, 20, 300, 1000, long]);
+            let count = if random.once_in(20) { 17 } else { random.below(6) };
+            Selection::of(&random.bytes(size), &picks(random, count, true))
+        });
+        Self { comparing, now, key, cut }
+    }
+    fn smaller(&self) -> Moves<'_, Self> {
+        let keys = self.key.iter().flat_map(Selection::smaller);
+        let keys = keys.map(|key| Self { key: Some(key), ..self.clone() });
+        let whole = self.cut.map(|_| Self { cut: None, ..self.clone() });
+        let writing = self.comparing.then(|| Self { comparing: false, ..self.clone() });
+        Box::new(whole.into_iter().chain(writing).chain(keys))
+    }
+    fn show(&self) -> String {
+        let Self { comparing, now, .. } = self;
+        let key = self.key.as_ref().map_or("".into(), |key| format!(", key of {}", key.show()));
+        let cut = self.cut.map_or("".into(), |k| format!(", cut by {k}"));
+        format!("begin, comparing {comparing}, now {now}{key}{cut}")
+    }
+}
+
+impl Event {
+    fn smaller(&self) -> Moves<'_, Self> {
+        match self {
+            Self::Begin(begin) => Box::new(begin.smaller().map(Self::Begin)),
+            Self::Call(call) => Box::new(call.smaller().map(Self::Call)),
+            Self::Cut(call, k) => {
+                let whole = std::iter::once(Self::Call(call.clone()));
+                Box::new(whole.chain(call.smaller().map(|call| Self::Cut(call, *k))))
+            }
+        }
+    }
+    fn show(&self) -> String {
+        match self {
+            Self::Begin(begin) => begin.show(),
+            Self::Call(call) => call.show(),
+            Self::Cut(call, k) => format!("{}, cut by {k}", call.show()),
+        }
+    }
+}
+
 /// The board, and the history beside it.
-struct Board<'a> {
-    case: &'a Case,
+struct Board {
     region: Vec<u8>,
     state: Option<State>,
-    turn: Turn,
     history: History,
     /// The held bank's bytes, as found or as the commit word left them.
     image: Vec<u8>,
@@ -198,134 +241,112 @@ fn records(region: &[u8], held: &BankAnswer) -> Vec<[u8; 384]> {
     (0..held.count).map(record).collect()
 }
 
-impl<'a> Board<'a> {
-    fn new(case: &'a Case, region: Vec<u8>) -> Self {
-        let held = banks::load(&region);
-        let history = History::new(held, records(&region, &held));
-        let image = bank_of(&region, &held);
-        let (state, turn, apart) = (None, Turn::default(), None);
-        Self { case, region, state, turn, history, image, events: 0, strayed: false, apart }
+/// After how many of so many operations a call is cut.
+fn after_how_many(k: u64, operations: usize) -> usize {
+    (k % (operations as u64 + 1)) as usize
+}
+
+impl Board {
+    fn new(region: &[u8]) -> Self {
+        let held = banks::load(region);
+        let history = History::new(held, records(region, &held));
+        let image = bank_of(region, &held);
+        let region = region.to_vec();
+        Self { region, state: None, history, image, events: 0, strayed: false, apart: None }
     }
-    fn begin(&mut self, random: &mut Random, counts: &mut Counts) {
-        let now = if random.once_in(30) { 0 } else { NOW + random.below(9) as i64 };
-        let comparing = random.once_in(12);
-        let cut = random.once_in(30);
-        if random.once_in(2) {
-            return self.begin_with_key(random, (comparing, now, cut), counts);
+    /// A beginning; how many bytes it took, where it is answered.
+    fn begin(&mut self, tally: &mut Tally, begin: &Begin) -> Option<usize> {
+        let Begin { comparing, now, key, cut } = begin;
+        if let Some(selection) = key {
+            return self.begin_with_key(tally, begin, selection);
         }
-        if cut {
-            return self.lose(None, 0, counts);
+        if cut.is_some() {
+            self.lose(tally, None, 0);
+            return None;
         }
-        let (state, answer) = State::new(&self.region, comparing, now);
-        self.history.begin(now, &[], answer);
-        self.begun(random, (state, comparing, 0), counts);
+        let (state, answer) = State::new(&self.region, *comparing, *now);
+        self.history.begin(*now, &[], answer);
+        self.state = Some(state);
+        tally.count("updates begun", 1);
+        Some(0)
     }
     fn begin_with_key(
         &mut self,
-        random: &mut Random,
-        (comparing, now, cut): (bool, i64, bool),
-        counts: &mut Counts,
-    ) {
-        let long = if random.once_in(20) { 65_536 } else { 2 };
-        let size = random.pick(&[0, 1, 20, 300, 1000, long]);
-        let count = if random.once_in(20) { 17 } else { random.below(6) };
-        let selection = Selection::of(&random.bytes(size), &picks(random, count, true));
-        let (upper, answer) = Upper::begin(&self.region, (comparing, now), &selection, usize::MAX);
+        tally: &mut Tally,
+        begin: &Begin,
+        selection: &Selection,
+    ) -> Option<usize> {
+        let Begin { comparing, now, cut, .. } = begin;
+        let (upper, answer) = Upper::begin(&self.region, (*comparing, *now), selection, usize::MAX);
         self.apart = self.apart.take().or(upper.apart);
-        if cut {
-            let k = random.below(upper.run.operations.len() + 1);
+        if let Some(k) = cut {
+            let k = after_how_many(*k, upper.run.operations.len());
             self.region = performed(self.region.clone(), &upper.run.operations[..k]);
-            return self.lose(None, k, counts);
+            self.lose(tally, None, k);
+            return None;
         }
         self.region = upper.region;
         let key = selection.key().unwrap_or_default();
-        self.history.begin(now, &key, answer);
-        counts.refused(answer);
-        if answer.refusal == 0 {
-            self.begun(random, (upper.state, comparing, key.len()), counts);
+        self.history.begin(*now, &key, answer);
+        tally.refused(answer.refusal);
+        if answer.refusal != 0 {
+            return None;
         }
-    }
-    fn begun(
-        &mut self,
-        random: &mut Random,
-        (state, comparing, taken): (State, bool, usize),
-        counts: &mut Counts,
-    ) {
-        self.state = Some(state);
-        self.turn = Turn { taken, ..Turn::new(random, comparing) };
-        counts.begun += 1;
+        self.state = Some(upper.state);
+        tally.count("updates begun", 1);
+        Some(key.len())
     }
     /// The power goes in a call that has done k operations.
-    fn lose(&mut self, call: Option<&Call>, k: usize, counts: &mut Counts) {
+    fn lose(&mut self, tally: &mut Tally, call: Option<&Call>, k: usize) {
         self.state = None;
         self.history.cut(call, k);
-        counts.cuts += 1;
-        counts.within += usize::from(k > 0 && call.is_none_or(Call::is_upper));
+        tally.count("cuts", 1);
+        let within = k > 0 && call.is_none_or(Call::is_upper);
+        tally.count("cuts inside an upper call", usize::from(within));
     }
     /// A call, whole; an upper one beside its run.
-    fn call(&mut self, call: &Call, counts: &mut Counts) {
-        let Some(state) = &mut self.state else { return };
+    fn call(&mut self, tally: &mut Tally, call: &Call) -> Option<Answer> {
+        let state = self.state.as_mut()?;
         let answer = if call.is_upper() {
             let mut upper = Upper::of(*state, &self.region);
             let answer = upper.call(call);
             self.apart = self.apart.take().or(upper.apart);
             (*state, self.region) = (upper.state, upper.region);
-            counts.uppers += 1;
+            tally.count("upper calls", 1);
             answer
         } else {
             call.make(state, &mut self.region)
         };
         self.history.call(call, answer);
-        self.turn.after(call, answer);
-        counts.refused(answer);
+        tally.refused(answer.refusal);
         if matches!(call, Call::Word) && answer.refusal == 0 {
-            counts.committed += 1;
+            tally.count("updates committed", 1);
             self.image = bank_of(&self.region, &self.history.held);
         }
+        Some(answer)
     }
     /// A call that is cut with its first k operations done.
-    fn cut(&mut self, call: &Call, random: &mut Random, counts: &mut Counts) {
+    fn cut(&mut self, tally: &mut Tally, call: &Call, k: u64) {
         let Some(state) = self.state.take() else { return };
         let mut upper = Upper::of(state, &self.region);
         upper.call(call);
         self.apart = self.apart.take().or(upper.apart);
         self.strayed |= upper.run.region != upper.run.shadow;
         let operations = upper.run.operations;
-        let k = random.below(operations.len() + 1);
+        let k = after_how_many(k, operations.len());
         self.region = performed(std::mem::take(&mut self.region), &operations[..k]);
-        self.lose(Some(call), k, counts);
+        self.lose(tally, Some(call), k);
         if matches!(call, Call::Word) && !operations.is_empty() {
-            *[&mut counts.before_word, &mut counts.after_word][k] += 1;
+            tally.count(["cuts just before a commit word", "cuts just after one"][k], 1);
             if k > 0 {
                 self.image = bank_of(&self.region, &self.history.held);
             }
         }
     }
-    fn event(&mut self, random: &mut Random, counts: &mut Counts) -> String {
-        self.events += 1;
-        let over =
-            self.state.is_none() || self.turn.over && random.once_in(3) || random.once_in(400);
-        if over {
-            self.begin(random, counts);
-            return "a beginning".into();
-        }
-        let mut call = if random.once_in(16) { any(random) } else { self.turn.next(random) };
-        if self.turn.rows && !random.once_in(4) {
-            call = self.turn.upper(random, call);
-        }
-        let near = self.turn.headed && !self.turn.over;
-        let often = if near { 8 } else { 90 };
-        if random.once_in(if call.is_upper() { 25 } else { often }) {
-            self.cut(&call, random, counts);
-            return format!("a cut of {}", shown(&call));
-        }
-        self.call(&call, counts);
-        shown(&call)
-    }
-    fn check(&self, tally: &mut Tally, event: &str) {
+    fn check(&self, tally: &mut Tally, event: &Event) {
         let about = |what: &str| {
-            let text = format!("{what} after event {}, {event}", self.events);
-            self.case.about(self.events, text)
+            let shown: String = event.show().chars().take(60).collect();
+            (vec![self.events as u64], format!("{what} after event {}, {shown}", self.events))
         };
         tally.same(self.strayed, false, || about("another operation than the one due"));
         tally.same(self.apart.as_deref(), None, || about("an upper call that isn't its run"));
@@ -343,32 +364,93 @@ impl<'a> Board<'a> {
             tally.same(first_other(data, given), None, || about("the data"));
         }
     }
+    /// One event, and what it leaves.
+    fn event(&mut self, tally: &mut Tally, event: &Event) -> After {
+        self.events += 1;
+        tally.count("calls", 1);
+        let after = match event {
+            Event::Begin(begin) => After::Begun(self.begin(tally, begin)),
+            Event::Call(call) => After::Answered(self.call(tally, call)),
+            Event::Cut(call, k) => {
+                self.cut(tally, call, *k);
+                After::Answered(None)
+            }
+        };
+        self.check(tally, event);
+        after
+    }
 }
 
-fn shown(call: &Call) -> String {
-    format!("{call:?}").chars().take(50).collect()
+/// What an event came to: a beginning that took so many bytes, or a call's answer.
+enum After {
+    Begun(Option<usize>),
+    Answered(Option<Answer>),
+}
+
+/// Draws the next event, by what the calls so far allow.
+fn draw(random: &mut Random, board: &Board, turn: &Turn) -> Event {
+    let over = board.state.is_none() || turn.over && random.once_in(3) || random.once_in(400);
+    if over {
+        return Event::Begin(Begin::random(random));
+    }
+    let mut call = if random.once_in(16) { any(random) } else { turn.next(random) };
+    if turn.rows && !random.once_in(4) {
+        call = turn.upper(random, call);
+    }
+    let near = turn.headed && !turn.over;
+    let often = if near { 8 } else { 90 };
+    match random.once_in(if call.is_upper() { 25 } else { often }) {
+        true => Event::Cut(call, random.u64()),
+        false => Event::Call(call),
+    }
 }
 
 /// How many calls a case has.
 const CALLS: usize = 500;
 
-pub fn history(plan: &Plan, tally: &mut Tally) {
-    let mut counts = Counts::default();
-    for case in plan.cases(36) {
-        let mut random = case.random();
-        let mut board = Board::new(&case, found(&mut random));
-        for _ in 0..CALLS {
-            let event = board.event(&mut random, &mut counts);
-            counts.calls += 1;
-            board.check(tally, &event);
+/// A list of calls and cuts, on a region that is found.
+#[derive(Clone)]
+pub struct Events {
+    found: Found,
+    list: Vec<Event>,
+}
+
+impl Input for Events {
+    fn make(case: &Case) -> Self {
+        Self::tried(case, &mut Tally::default())
+    }
+    fn compare(&self, tally: &mut Tally) {
+        let mut board = Board::new(&self.found.0);
+        for event in &self.list {
+            board.event(tally, event);
         }
     }
-    let Counts { calls, uppers, begun, committed, cuts, within, .. } = counts;
-    let Counts { before_word, after_word, refusals, .. } = counts;
-    tally.note = format!(
-        "{calls} calls, {uppers} of them upper: {begun} updates begun, {committed} committed, {cuts} \
-         cuts ({within} inside an upper call, {before_word} just before a commit word, {after_word} \
-         just after), refused {}",
-        by_number(&refusals)
-    );
+    fn smaller(&self) -> Moves<'_, Self> {
+        let found = self.found.smaller().map(|found| Self { found, ..self.clone() });
+        let lists = fewer(&self.list).chain(each(&self.list, Event::smaller));
+        Box::new(lists.map(|list| Self { list, ..self.clone() }).chain(found))
+    }
+    fn show(&self) -> Vec<String> {
+        let mut lines = self.found.show();
+        lines.extend(self.list.iter().map(Event::show));
+        lines
+    }
+    fn tried(case: &Case, tally: &mut Tally) -> Self {
+        let mut random = case.random();
+        let found = Found::new(found(&mut random));
+        let (mut board, mut turn) = (Board::new(&found.0), Turn::default());
+        let mut list = Vec::new();
+        for _ in 0..CALLS {
+            let event = draw(&mut random, &board, &turn);
+            match (&event, board.event(tally, &event)) {
+                (Event::Begin(begin), After::Begun(Some(taken))) => {
+                    turn = Turn { taken, ..Turn::new(&mut random, begin.comparing) };
+                }
+                (Event::Call(call), After::Answered(Some(answer))) => turn.after(call, answer),
+                _ => {}
+            }
+            list.push(event);
+        }
+        Self { found, list }
+    }
 }

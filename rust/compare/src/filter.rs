@@ -1,5 +1,10 @@
 //! The trip filter: queries and insertions, the whole filter after each.
-use crate::{Plan, Tally};
+use crate::{
+    rows::text,
+    run::{Case, Plan, Tally, hex},
+    shrink::{Input, Moves, bytes, each, fewer},
+    wrong::{Wrong, tried},
+};
 use bankcore::rows::{self, FilterAnswer};
 use common::Random;
 use lifted::cache::door;
@@ -50,12 +55,14 @@ struct Pair {
     rust: Vec<u8>,
 }
 
+const ANSWERS: [&str; 3] = ["answers absent", "answers present", "refused by 2"];
+
 impl Pair {
-    fn ask(&mut self, tally: &mut Tally, id: &[u8], seen: &mut [usize; 3]) {
+    fn ask(&mut self, tally: &mut Tally, id: &[u8]) {
         let size = self.core.len();
         let input = |what: &str| {
-            let shown = id[..id.len().min(40)].escape_ascii();
-            (vec![size as u64, id.len() as u64], format!("{what} {shown} in {size} bytes"))
+            let order = vec![size as u64, id.len() as u64];
+            (order, format!("{what} {} in {size} bytes", text(id)))
         };
         for insert in [false, true, false] {
             let rust = reference(&mut self.rust, id, insert);
@@ -63,56 +70,75 @@ impl Pair {
                 true => (rows::insert(&mut self.core, id), "insert"),
                 false => (rows::query(&self.core, id), "query"),
             };
-            seen[if rust.refusal > 0 { 2 } else { rust.present as usize }] += 1;
+            if tried(Wrong::Filter) && insert && id.ends_with(b"Z") && size > 0 {
+                self.core[size - 1] ^= 128;
+            }
+            tally.count(ANSWERS[if rust.refusal > 0 { 2 } else { rust.present as usize }], 1);
             tally.same(core, rust, || input(what));
             tally.same(self.core == self.rust, true, || input("the filter after it"));
         }
     }
 }
 
+/// Bytes of a filter with no bit set, some, or nearly all.
+fn bits(random: &mut Random, size: usize, full: usize) -> Vec<u8> {
+    (0..size).map(|_| (0..full).fold(0, |bits, _| bits | 1 << random.below(8))).collect()
+}
+
+/// A filter, and ids that are asked for, inserted and asked for again.
+#[derive(Clone)]
+pub struct Filter {
+    bits: Vec<u8>,
+    ids: Vec<Vec<u8>>,
+}
+
+impl Input for Filter {
+    fn make(case: &Case) -> Self {
+        let mut random = case.random();
+        let size = SIZES[case.number as usize % SIZES.len()];
+        let full = random.pick(&[0, 0, 0, 1, 8]);
+        let bits = bits(&mut random, size, full);
+        // small filters are soon full, and those over 65,536 bytes are refused
+        let count = 3 + if size > 65_536 { 20 } else { size.min(200) };
+        let mut ids: Vec<Vec<u8>> = Vec::new();
+        for _ in 0..count {
+            let old = random.once_in(5) && !ids.is_empty();
+            ids.push(if old { ids[random.below(ids.len())].clone() } else { id(&mut random) });
+        }
+        Self { bits, ids }
+    }
+    fn compare(&self, tally: &mut Tally) {
+        let mut pair = Pair { rust: self.bits.clone(), core: self.bits.clone() };
+        self.ids.iter().for_each(|id| pair.ask(tally, id));
+    }
+    fn smaller(&self) -> Moves<'_, Self> {
+        let ids = fewer(&self.ids).chain(each(&self.ids, |id| bytes(id)));
+        let ids = ids.map(|ids| Self { ids, ..self.clone() });
+        Box::new(ids.chain(bytes(&self.bits).map(|bits| Self { bits, ..self.clone() })))
+    }
+    fn show(&self) -> Vec<String> {
+        let filter = format!("filter of {} bytes: {}", self.bits.len(), hex(&self.bits));
+        let id = |id: &Vec<u8>| format!("query, insert and query {}", text(id));
+        std::iter::once(filter).chain(self.ids.iter().map(id)).collect()
+    }
+}
+
+/// Every id of up to one byte, and of two on small filters.
 pub fn filter(plan: &Plan, tally: &mut Tally) {
-    let mut random = Random::new(plan.seed);
-    let mut seen = [0; 3];
+    let mut random = Random::new(1);
     for size in SIZES {
         for full in [0, 1, 8] {
-            // filters with no bit set, some, or nearly all
-            let bits: Vec<u8> = (0..size)
-                .map(|_| (0..full).fold(0, |bits, _| bits | 1 << random.below(8)))
-                .collect();
+            let bits = bits(&mut random, size, full);
             let mut pair = Pair { rust: bits.clone(), core: bits };
-            // every id of up to one byte, and of two on small filters
-            pair.ask(tally, &[], &mut seen);
+            pair.ask(tally, &[]);
             for a in 0..=255 {
-                pair.ask(tally, &[a], &mut seen);
+                pair.ask(tally, &[a]);
             }
             if !plan.quick && (1..=100).contains(&size) {
                 for n in 0..=u16::MAX {
-                    pair.ask(tally, &n.to_be_bytes(), &mut seen);
+                    pair.ask(tally, &n.to_be_bytes());
                 }
-            }
-            let rounds = if plan.quick { 200 } else { 10_000 };
-            let mut old: Vec<Vec<u8>> = Vec::new();
-            for round in 0..rounds {
-                // small filters are soon full: begin again
-                if round % (size.min(1000) + 3) == 0 {
-                    pair.core.iter_mut().for_each(|b| *b = 0);
-                    pair.rust.iter_mut().for_each(|b| *b = 0);
-                }
-                let new = if random.once_in(5) && !old.is_empty() {
-                    old[random.below(old.len())].clone()
-                } else {
-                    id(&mut random)
-                };
-                pair.ask(tally, &new, &mut seen);
-                old.push(new);
             }
         }
     }
-    tally.note = format!(
-        "{} sizes of a filter ({} answers absent, {} present, {} by 2)",
-        SIZES.len(),
-        seen[0],
-        seen[1],
-        seen[2]
-    );
 }

@@ -1,7 +1,9 @@
 //! Calls on forged states: the answer, the state and the whole region after each,
 //! beside the definitions.
 use crate::{
-    Case, Plan, Tally,
+    run::{Case, Tally},
+    shrink::{Input, Moves, each, fewer},
+    stores::Found,
     update::{
         any::{any, apt, record, time},
         calls::Call,
@@ -11,7 +13,10 @@ use crate::{
         steps::Model,
     },
 };
-use bankcore::{banks::Picks, update::State};
+use bankcore::{
+    banks::Picks,
+    update::{Answer, State},
+};
 use common::{
     Random,
     made::{self, BANK, CAPACITY, REGION, SECTOR},
@@ -137,12 +142,45 @@ fn matching(random: &mut Random, f: &mut Fields, region: &[u8]) {
     f.numbers[KEY] = get(&f.sources[0], 84).saturating_sub(8);
 }
 
-/// How many calls were answered, and refused by which number.
-#[derive(Default)]
-struct Counts {
-    within: usize,
-    answers: [usize; 5],
-    refusals: [usize; 15],
+const ANSWERS: [&str; 5] =
+    ["calls done", "calls took", "calls none due", "calls same", "calls different"];
+
+/// What is done to a state and its region.
+#[derive(Clone)]
+enum Step {
+    /// A beginning, comparing or not.
+    Begin(bool),
+    /// The state is made this one.
+    Put(Box<Fields>),
+    Call(Call),
+    /// Calls on the state and a region of so many bytes.
+    Short(usize, Vec<Call>),
+}
+
+impl Step {
+    fn smaller(&self) -> Moves<'_, Self> {
+        match self {
+            Self::Begin(true) => Box::new([Self::Begin(false)].into_iter()),
+            Self::Begin(false) => Box::new(std::iter::empty()),
+            Self::Put(fields) => Box::new(fields.smaller().map(|f| Self::Put(Box::new(f)))),
+            Self::Call(call) => Box::new(call.smaller().map(Self::Call)),
+            Self::Short(size, calls) => {
+                let calls = fewer(calls).chain(each(calls, Call::smaller));
+                Box::new(calls.map(|calls| Self::Short(*size, calls)))
+            }
+        }
+    }
+    fn show(&self) -> String {
+        match self {
+            Self::Begin(comparing) => format!("begin, comparing {comparing}"),
+            Self::Put(fields) => format!("state: {}", fields.show()),
+            Self::Call(call) => call.show(),
+            Self::Short(size, calls) => {
+                let calls: Vec<String> = calls.iter().map(Call::show).collect();
+                format!("on a region of {size} bytes: two beginnings, {}", calls.join(", "))
+            }
+        }
+    }
 }
 
 struct Forged {
@@ -152,17 +190,36 @@ struct Forged {
 }
 
 impl Forged {
+    fn of(state: State, region: Vec<u8>) -> Self {
+        let model = Model { fields: Fields::of(&state), region: region.clone() };
+        Self { state, region, model }
+    }
+    fn step(&mut self, tally: &mut Tally, step: &Step) {
+        match step {
+            Step::Begin(comparing) => {
+                let (state, _) = State::new(&self.region, *comparing, NOW);
+                self.set(Fields::of(&state));
+            }
+            Step::Put(fields) => self.set((**fields).clone()),
+            Step::Call(call) => {
+                let answer = self.call(tally, call);
+                match answer.refusal {
+                    0 => tally.count(ANSWERS[answer.answer as usize % 5], 1),
+                    refusal => tally.refused(refusal),
+                }
+            }
+            Step::Short(size, calls) => self.short_region(tally, *size, calls),
+        }
+    }
     /// One call on both.
-    fn call(&mut self, tally: &mut Tally, case: &Case, call: &Call, counts: &mut Counts) {
+    fn call(&mut self, tally: &mut Tally, call: &Call) -> Answer {
         let before = (self.state, self.model.fields.clone());
         let answer = call.make(&mut self.state, &mut self.region);
         let model = self.model.call(call);
         let about = |what: &str| {
-            let shown = format!("{call:?}").chars().take(60).collect::<String>();
-            case.about(
-                0,
-                format!("{what} of {shown} on {:?}, now {}", before.1.numbers, before.1.now),
-            )
+            let shown = call.show().chars().take(60).collect::<String>();
+            let (numbers, now) = (&before.1.numbers, before.1.now);
+            (vec![0], format!("{what} of {shown} on {numbers:?}, now {now}"))
         };
         tally.same(answer, model, || about("the answer"));
         if answer.refusal != 0 {
@@ -175,126 +232,144 @@ impl Forged {
         }
         let other = first_other(&self.region, &self.model.region);
         tally.same(other, None, || about("the region"));
-        match answer.refusal {
-            0 => counts.answers[answer.answer as usize % 5] += 1,
-            refusal => counts.refusals[refusal as usize % 15] += 1,
-        }
+        answer
     }
     fn set(&mut self, fields: Fields) {
         self.state = fields.state();
         self.model.fields = fields;
     }
-    fn alter(&mut self, random: &mut Random) {
-        let mut fields = self.model.fields.clone();
-        alter(random, &mut fields);
-        self.set(fields);
-    }
-    /// A beginning and some calls.
-    fn reach(
-        &mut self,
-        tally: &mut Tally,
-        (case, random): (&Case, &mut Random),
-        counts: &mut Counts,
-    ) {
-        let (state, _) = State::new(&self.region, random.once_in(3), NOW);
-        self.set(Fields::of(&state));
-        for _ in 0..random.below(30) {
-            let call = apt(random, &self.model.fields);
-            self.call(tally, case, &call, counts);
+    /// The region's length is wrong: 1 before all, and nothing changes.
+    fn short_region(&self, tally: &mut Tally, size: usize, calls: &[Call]) {
+        let (mut begun, mut region) = (self.state, vec![85; size]);
+        let picks = Picks { texts: &[], lengths: &[] };
+        let lower = begun.begin(&region, false, 0).refusal;
+        let upper = begun.upper_begin(&mut region, false, 0, &[], picks).refusal;
+        let stays = begun == self.state && region == vec![85; size];
+        let about = || (vec![0], format!("a beginning on a region of {size} bytes"));
+        tally.same((lower, upper, stays), (1, 1, true), about);
+        let mut forged = Self::of(self.state, vec![85; size]);
+        for call in calls {
+            forged.call(tally, call);
         }
     }
-    fn forge(&mut self, random: &mut Random) {
+}
+
+/// Draws steps, and does each as it is drawn.
+struct Drawing<'a> {
+    random: Random,
+    forged: Forged,
+    steps: Vec<Step>,
+    tally: &'a mut Tally,
+}
+
+impl Drawing<'_> {
+    fn step(&mut self, step: Step) {
+        self.forged.step(self.tally, &step);
+        self.steps.push(step);
+    }
+    fn alter(&mut self) {
+        let mut fields = self.forged.model.fields.clone();
+        alter(&mut self.random, &mut fields);
+        self.step(Step::Put(Box::new(fields)));
+    }
+    /// A beginning and some calls.
+    fn reach(&mut self) {
+        let comparing = self.random.once_in(3);
+        self.step(Step::Begin(comparing));
+        for _ in 0..self.random.below(30) {
+            let call = apt(&mut self.random, &self.forged.model.fields);
+            self.step(Step::Call(call));
+        }
+        self.alter();
+    }
+    fn forge(&mut self) {
+        let random = &mut self.random;
         let mut fields = match random.below(12) {
             0 => Fields::random(random),
             _ => within(random),
         };
         if fields.is(COMPARING) && random.once_in(2) {
-            matching(random, &mut fields, &self.region);
+            matching(random, &mut fields, &self.forged.region);
         }
         if random.once_in(3) {
             alter(random, &mut fields);
         }
-        self.set(fields);
+        self.step(Step::Put(Box::new(fields)));
     }
-}
-
-/// The region's length is wrong: 1 before all, and nothing changes.
-fn short_region(tally: &mut Tally, case: &Case, random: &mut Random, state: &State) {
-    let size = random.pick(&[0, 1, SECTOR, REGION - 1, REGION + 1]);
-    let (mut begun, mut region) = (*state, vec![85; size]);
-    let picks = Picks { texts: &[], lengths: &[] };
-    let lower = begun.begin(&region, false, 0).refusal;
-    let upper = begun.upper_begin(&mut region, false, 0, &[], picks).refusal;
-    let stays = begun == *state && region == vec![85; size];
-    let about = || case.about(0, format!("a beginning on a region of {size} bytes"));
-    tally.same((lower, upper, stays), (1, 1, true), about);
-    let mut forged = Forged {
-        state: *state,
-        region: vec![85; size],
-        model: Model { fields: Fields::of(state), region: vec![85; size] },
-    };
-    for _ in 0..4 {
-        forged.call(tally, case, &any(random), &mut Counts::default());
-    }
-}
-
-/// Forges a state, and makes some calls on it.
-fn round(
-    tally: &mut Tally,
-    (case, random): (&Case, &mut Random),
-    forged: &mut Forged,
-    counts: &mut Counts,
-) {
-    if random.once_in(4) {
-        forged.reach(tally, (case, random), counts);
-        forged.alter(random);
-    } else {
-        forged.forge(random);
-    }
-    counts.within += usize::from(forged.model.fields.in_range());
-    for _ in 0..1 + random.below(8) {
-        let call = match random.below(3) {
-            0 => any(random),
-            _ => apt(random, &forged.model.fields),
-        };
-        forged.call(tally, case, &call, counts);
-        if random.once_in(12) {
-            forged.alter(random);
+    /// Forges a state, and makes some calls on it.
+    fn round(&mut self) {
+        if self.random.once_in(4) {
+            self.reach();
+        } else {
+            self.forge();
         }
-    }
-    if random.once_in(10) {
-        short_region(tally, case, random, &forged.state);
+        let inside = self.forged.model.fields.in_range();
+        self.tally.count("forged states", 1);
+        self.tally.count("within their ranges", usize::from(inside));
+        for _ in 0..1 + self.random.below(8) {
+            let call = match self.random.below(3) {
+                0 => any(&mut self.random),
+                _ => apt(&mut self.random, &self.forged.model.fields),
+            };
+            self.step(Step::Call(call));
+            if self.random.once_in(12) {
+                self.alter();
+            }
+        }
+        if self.random.once_in(10) {
+            let size = self.random.pick(&[0, 1, SECTOR, REGION - 1, REGION + 1]);
+            let calls = (0..4).map(|_| any(&mut self.random)).collect();
+            self.step(Step::Short(size, calls));
+        }
     }
 }
 
 /// How many states a case forges.
 const STATES: usize = 40;
 
-pub fn forged(plan: &Plan, tally: &mut Tally) {
-    let mut counts = Counts::default();
-    let mut states = 0;
-    for case in plan.cases(60) {
-        let mut random = case.random();
-        let region = leftovers(&mut random);
-        let (state, _) = State::new(&region, random.once_in(3), time(&mut random));
-        let model = Model { fields: Fields::of(&state), region: region.clone() };
-        let mut forged = Forged { state, region, model };
-        for _ in 0..STATES {
-            round(tally, (&case, &mut random), &mut forged, &mut counts);
-            states += 1;
-        }
-    }
-    let [done, took, none, same, different] = counts.answers;
-    tally.note = format!(
-        "{states} forged states, {} within their ranges; calls: {done} done, {took} took, {none} \
-         none due, {same} same, {different} different, refused {}",
-        counts.within,
-        by_number(&counts.refusals)
-    );
+/// Steps on a state that has begun on a region.
+#[derive(Clone)]
+pub struct Steps {
+    found: Found,
+    comparing: bool,
+    now: i64,
+    list: Vec<Step>,
 }
 
-/// How many calls were refused, number by number.
-pub fn by_number(refusals: &[usize; 15]) -> String {
-    let one = |i: usize| format!("{} by {i}", refusals[i]);
-    (1..15).filter(|i| refusals[*i] > 0).map(one).collect::<Vec<_>>().join(", ")
+impl Input for Steps {
+    fn make(case: &Case) -> Self {
+        Self::tried(case, &mut Tally::default())
+    }
+    fn compare(&self, tally: &mut Tally) {
+        let (state, _) = State::new(&self.found.0, self.comparing, self.now);
+        let mut forged = Forged::of(state, self.found.0.to_vec());
+        self.list.iter().for_each(|step| forged.step(tally, step));
+    }
+    fn smaller(&self) -> Moves<'_, Self> {
+        let found = self.found.smaller().map(|found| Self { found, ..self.clone() });
+        let lists = fewer(&self.list).chain(each(&self.list, Step::smaller));
+        let lists = lists.map(|list| Self { list, ..self.clone() });
+        let plain = self.comparing || self.now != 0;
+        let plain = plain.then(|| Self { comparing: false, now: 0, ..self.clone() });
+        Box::new(found.chain(plain).chain(lists))
+    }
+    fn show(&self) -> Vec<String> {
+        let mut lines = self.found.show();
+        lines.push(format!("begin, comparing {}, now {}", self.comparing, self.now));
+        lines.extend(self.list.iter().map(Step::show));
+        lines
+    }
+    fn tried(case: &Case, tally: &mut Tally) -> Self {
+        let mut random = case.random();
+        let region = leftovers(&mut random);
+        let found = Found::new(region.clone());
+        let (comparing, now) = (random.once_in(3), time(&mut random));
+        let (state, _) = State::new(&region, comparing, now);
+        let forged = Forged::of(state, region);
+        let mut drawing = Drawing { random, forged, steps: Vec::new(), tally };
+        for _ in 0..STATES {
+            drawing.round();
+        }
+        Self { found, comparing, now, list: drawing.steps }
+    }
 }

@@ -1,6 +1,6 @@
 //! Updates that fill the bank, and what doesn't fit any more.
 use crate::{
-    Case, Tally,
+    run::Tally,
     update::{
         calls::Call,
         content::{Content, Key, LONGEST, Piece, names_line, row_line},
@@ -8,7 +8,7 @@ use crate::{
         lifted::{COMMITTED, Lifted, Outcome},
         upper::{Upper, row},
     },
-    updates::{Beside, Counts},
+    updates::{Beside, count},
 };
 use common::{Random, made::CAPACITY};
 
@@ -22,19 +22,14 @@ fn one_table(random: &mut Random, rows: bool) -> Content {
 
 /// An update that doesn't fit. The Rust writes what fits, and fails; the core
 /// refuses the bytes offered, all together, and then the first too many.
-pub fn bytes(
-    tally: &mut Tally,
-    (case, random): (&Case, &mut Random),
-    region: &[u8],
-    counts: &mut Counts,
-) {
+pub fn bytes(tally: &mut Tally, random: &mut Random, region: &[u8]) {
     let over = random.pick(&[1, 2, 255, 256, 4096]);
     let mut content = one_table(random, false);
     content.key = Key::Bytes(random.bytes(9));
     let before = content.length();
     content.stretch(random, CAPACITY + over);
     let rust = Lifted::write(region, &content, COMMITTED);
-    let beside = Beside { case, length: CAPACITY + over };
+    let beside = Beside { length: CAPACITY + over };
     tally.same(rust.outcome, Outcome::Full, || beside.about("the Rust's end"));
 
     let Some(Piece::Bytes(rest)) = content.sources[0].tables[0].1.pop() else { return };
@@ -57,8 +52,7 @@ pub fn bytes(
     }
     beside.operations(tally, &core, &rust.operations, &rust.region);
     tally.same(rust.operations.len(), 2024, || beside.about("how many operations"));
-    counts.operations += rust.operations.len();
-    counts.ended[Outcome::Full as usize] += 1;
+    count(tally, Outcome::Full, false, rust.operations.len());
 }
 
 /// The first table of the first source, begun and left open.
@@ -77,16 +71,11 @@ fn open(core: &mut Core, random: &mut Random, content: &Content) {
 
 /// By the upper calls: a row of one byte too many is refused whole; the row that
 /// fills the bank isn't, and then every row is.
-pub fn rows(
-    tally: &mut Tally,
-    (case, random): (&Case, &mut Random),
-    region: &[u8],
-    counts: &mut Counts,
-) {
+pub fn rows(tally: &mut Tally, random: &mut Random, region: &[u8]) {
     let mut content = one_table(random, true);
     content.stretch(random, CAPACITY);
     let rust = Lifted::write(region, &content, COMMITTED);
-    let beside = Beside { case, length: CAPACITY };
+    let beside = Beside { length: CAPACITY };
     let mut begun = content.clone();
     let Some(last) = begun.sources[0].tables[0].1.pop() else { return };
     let Piece::Row(mut long) = last.clone() else { return };
@@ -113,7 +102,5 @@ pub fn rows(
         beside.operations(tally, &upper.run, &rust.operations, &rust.region);
         tally.same(rust.operations.len(), 2026, || beside.about("how many operations"));
     }
-    counts.upper += 1;
-    counts.operations += rust.operations.len();
-    counts.ended[rust.outcome as usize] += 1;
+    count(tally, rust.outcome, true, rust.operations.len());
 }

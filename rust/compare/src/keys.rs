@@ -1,5 +1,9 @@
 //! Keys: `key`, from identity and picks.
-use crate::{Plan, Tally};
+use crate::{
+    run::{Case, Plan, Tally, drawn, hex},
+    shrink::{Moves, Question, bytes, each, fewer, number},
+    wrong::{Wrong, tried},
+};
 use bankcore::{answers::KeyAnswer, banks::Picks};
 use common::{
     Random,
@@ -45,22 +49,63 @@ impl Selection {
         })
     }
     pub fn describe(&self) -> (Vec<u64>, String) {
-        let fields = self.fields();
-        let shown: Vec<String> = fields
-            .iter()
-            .map(|p| p.map(|f| String::from_utf8_lossy(f).into_owned()).join("|"))
-            .collect();
-        let identity = &self.identity[..self.identity.len().min(20)];
-        (
-            vec![(self.identity.len() + self.texts.len() + self.lengths.len()) as u64],
-            format!(
-                "identity of {} bytes {identity:02x?}, {} lengths {:?}, picks {shown:?}",
-                self.identity.len(),
-                self.lengths.len(),
-                self.lengths
-            ),
-        )
+        let size = self.identity.len() + self.texts.len() + self.lengths.len();
+        (vec![size as u64], self.show())
     }
+    pub fn show(&self) -> String {
+        let shown = |pick: [&[u8]; 5]| pick.map(|f| f.escape_ascii().to_string()).join("|");
+        let picks: Vec<String> = self.fields().into_iter().map(shown).collect();
+        let Self { identity, lengths, .. } = self;
+        let (n, identity, count) = (identity.len(), hex(identity), lengths.len());
+        let odd =
+            if self.plain() { String::new() } else { format!(", {count} lengths {lengths:?}") };
+        format!("identity of {n} bytes ({identity}), picks {picks:?}{odd}")
+    }
+    /// Whether the lengths are those of the texts, five to a pick.
+    fn plain(&self) -> bool {
+        let sum: u64 = self.lengths.iter().map(|n| u64::from(*n)).sum();
+        sum == self.texts.len() as u64 && self.lengths.len().is_multiple_of(5)
+    }
+    fn owned(&self) -> Vec<[String; 5]> {
+        let text = |f: &[u8]| String::from_utf8_lossy(f).into_owned();
+        self.fields().into_iter().map(|pick| pick.map(text)).collect()
+    }
+    fn is_text(&self) -> bool {
+        self.fields().iter().flatten().all(|f| str::from_utf8(f).is_ok())
+    }
+    /// Fewer picks and shorter fields; first the lengths are made the texts'.
+    fn smaller_picks(&self) -> Moves<'_, Self> {
+        let identity = &self.identity;
+        if self.plain() {
+            let picks = self.owned();
+            let fewer: Vec<_> = fewer(&picks).chain(each(&picks, smaller_pick)).collect();
+            return Box::new(fewer.into_iter().map(|picks| Self::of(identity, &picks)));
+        }
+        let plain = std::iter::once(Self::of(identity, &self.owned()));
+        let lengths = fewer(&self.lengths).map(|lengths| Self { lengths, ..self.clone() });
+        let texts = fewer(&self.texts).map(|texts| Self { texts, ..self.clone() });
+        Box::new(plain.chain(lengths).chain(texts).filter(Self::is_text))
+    }
+    pub fn smaller(&self) -> Moves<'_, Self> {
+        let identities = bytes(&self.identity).map(|identity| Self { identity, ..self.clone() });
+        Box::new(self.smaller_picks().chain(identities))
+    }
+}
+
+/// A pick with letters left out, or with a field of as many bytes, all a.
+fn smaller_pick(pick: &[String; 5]) -> Moves<'_, [String; 5]> {
+    Box::new((0..5).flat_map(move |k| {
+        let letters: Vec<char> = pick[k].chars().collect();
+        let mut all: Vec<Vec<char>> = fewer(&letters).collect();
+        if letters.iter().any(|c| *c != 'a') {
+            all.push(vec!['a'; pick[k].len()]);
+        }
+        all.into_iter().map(move |letters| {
+            let mut pick = pick.clone();
+            pick[k] = letters.into_iter().collect();
+            pick
+        })
+    }))
 }
 
 pub fn identity(random: &mut Random) -> Vec<u8> {
@@ -125,34 +170,65 @@ fn selection(random: &mut Random) -> Selection {
     made
 }
 
-fn one(tally: &mut Tally, selection: &Selection, room: usize, pattern: u8) {
-    let expected = selection.key();
-    let before: Vec<u8> = (0..room).map(|i| pattern.wrapping_add(i as u8)).collect();
-    let mut out = before.clone();
-    let core = bankcore::banks::key(&selection.identity, selection.picks(), &mut out);
-    let mut after = before;
-    let answer = match expected {
-        Err(refusal) => KeyAnswer { refusal, length: 0 },
-        Ok(key) if key.len() > room => KeyAnswer { refusal: 9, length: 0 },
-        Ok(key) => {
-            after[..key.len()].copy_from_slice(&key);
-            KeyAnswer { refusal: 0, length: key.len() }
-        }
-    };
-    let input = || {
-        let (order, text) = selection.describe();
-        (order, format!("key into {room} bytes, {text}"))
-    };
-    tally.same(core, answer, input);
-    tally.same(out == after, true, || {
-        let (order, text) = input();
-        (order, format!("{text}, bytes as the Rust's"))
-    });
+/// A selection, an output of so many bytes, and what is in it before.
+#[derive(Clone)]
+pub struct Asked {
+    selection: Selection,
+    room: usize,
+    pattern: u8,
 }
 
-pub fn key(plan: &Plan, tally: &mut Tally) {
-    let mut random = Random::new(plan.seed);
-    // document 01's worked examples, then the longest key
+impl Question for Asked {
+    fn list(case: &Case) -> Vec<Self> {
+        drawn(case, 250, |random| {
+            let selection = selection(random);
+            let length = selection.key().map_or(0, |key| key.len());
+            let room = match random.below(8) {
+                0 => length.saturating_sub(1),
+                1 => length,
+                2 => random.below(length + 1),
+                3 => 0,
+                _ => length + random.below(5),
+            };
+            Self { selection, room, pattern: random.u32() as u8 }
+        })
+    }
+    fn ask(&self, tally: &mut Tally) {
+        let Self { selection, room, pattern } = self;
+        let before: Vec<u8> = (0..*room).map(|i| pattern.wrapping_add(i as u8)).collect();
+        let mut out = before.clone();
+        let core = bankcore::banks::key(&selection.identity, selection.picks(), &mut out);
+        if tried(Wrong::Key) && core.refusal == 0 {
+            let long = selection.fields().iter().any(|pick| pick[3].len() > 1);
+            out[core.length - 1] ^= u8::from(long);
+        }
+        let mut after = before;
+        let answer = match selection.key() {
+            Err(refusal) => KeyAnswer { refusal, length: 0 },
+            Ok(key) if key.len() > *room => KeyAnswer { refusal: 9, length: 0 },
+            Ok(key) => {
+                after[..key.len()].copy_from_slice(&key);
+                KeyAnswer { refusal: 0, length: key.len() }
+            }
+        };
+        let input = |what: &str| (selection.describe().0, format!("{what} of {}", self.show()));
+        tally.same(core, answer, || input("the answer"));
+        tally.same(out == after, true, || input("whether the bytes are the Rust's,"));
+    }
+    fn smaller(&self) -> Moves<'_, Self> {
+        let selections =
+            self.selection.smaller().map(|selection| Self { selection, ..self.clone() });
+        let rooms = number(self.room as u64).map(|n| Self { room: n as usize, ..self.clone() });
+        let pattern = (self.pattern != 0).then(|| Self { pattern: 0, ..self.clone() });
+        Box::new(selections.chain(rooms).chain(pattern))
+    }
+    fn show(&self) -> String {
+        format!("key into {} bytes from {}, {}", self.room, self.pattern, self.selection.show())
+    }
+}
+
+/// Document 01's worked examples, then the longest key.
+pub fn key(_: &Plan, tally: &mut Tally) {
     let pick = |fields: [&str; 5]| fields.map(String::from);
     let named = pick(["7", "r", "", "s", "n"]);
     let coded = pick(["7", "r", "c", "s", "n"]);
@@ -169,23 +245,10 @@ pub fn key(plan: &Plan, tally: &mut Tally) {
     ] {
         tally.same(selection.key(), Ok(key.to_vec()), || selection.describe());
         for room in 0..key.len() + 3 {
-            one(tally, &selection, room, 100);
+            Asked { selection: selection.clone(), room, pattern: 100 }.ask(tally);
         }
     }
     for room in [LONGEST_KEY - 1, LONGEST_KEY, LONGEST_KEY + 1] {
-        one(tally, &longest, room, 100);
+        Asked { selection: longest.clone(), room, pattern: 100 }.ask(tally);
     }
-    for _ in 0..if plan.quick { 5_000 } else { 300_000 } {
-        let selection = selection(&mut random);
-        let length = selection.key().map_or(0, |key| key.len());
-        let room = match random.below(8) {
-            0 => length.saturating_sub(1),
-            1 => length,
-            2 => random.below(length + 1),
-            3 => 0,
-            _ => length + random.below(5),
-        };
-        one(tally, &selection, room, random.u32() as u8);
-    }
-    tally.note = format!("{} keys", tally.compared / 2);
 }

@@ -1,7 +1,10 @@
 //! Refusals that are true at once: for each call every set of causes that can
 //! stand together, so every pair; the earliest is the answer, and what was lent
 //! stays as it was.
-use crate::{Plan, Tally, keys::Selection};
+use crate::{
+    keys::Selection,
+    run::{Plan, Tally},
+};
 use bankcore::{
     answers::{
         BankAnswer, BankRowAnswer, FreshAnswer, KeyAnswer, SameKeyAnswer, TurnAnswer, UNKNOWN,
@@ -260,9 +263,7 @@ impl<'a> Case<'a> {
 
 pub fn pairs(plan: &Plan, tally: &mut Tally) {
     let mut random = Random::new(plan.seed);
-    let (mut pairs, mut sets, mut matrix) = (0, 0, Vec::new());
     for (call, causes) in CALLS {
-        let before = pairs;
         for bits in 0..1_u32 << causes.len() {
             let set: Vec<Cause> =
                 (0..causes.len()).filter(|i| bits >> i & 1 == 1).map(|i| causes[i]).collect();
@@ -272,8 +273,9 @@ pub fn pairs(plan: &Plan, tally: &mut Tally) {
             if plan.quick && set.len() > 2 {
                 continue;
             }
-            sets += 1;
-            pairs += usize::from(set.len() == 2 && number(&set[..1]) != number(&set[1..]));
+            let pair = set.len() == 2 && number(&set[..1]) != number(&set[1..]);
+            tally.count("sets of causes", 1);
+            tally.count("pairs", usize::from(pair));
             for way in 0..3 {
                 let case = Case::new(&mut random, &set, way);
                 tally.same(case.ask(call), case.refusal.into(), || {
@@ -281,7 +283,5 @@ pub fn pairs(plan: &Plan, tally: &mut Tally) {
                 });
             }
         }
-        matrix.push(format!("{call} {}", pairs - before));
     }
-    tally.note = format!("{sets} sets of causes, {pairs} pairs ({})", matrix.join(", "));
 }

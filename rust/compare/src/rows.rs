@@ -1,5 +1,10 @@
 //! Rows: names lines and columns, rows as they are written, and read back.
-use crate::{Plan, Tally};
+use crate::{
+    run::{Case, Plan, Tally, hex},
+    shrink::{Input, Moves, bytes, each, fewer, number},
+    update::content::row_line,
+    wrong::{Wrong, tried},
+};
 use bankcore::rows::{self, RowAnswer, Values};
 use common::Random;
 use lifted::{
@@ -157,7 +162,10 @@ fn ask(
     with: u8,
 ) {
     let mut out = lent(room, with);
-    let core = rows::row(table, Values { texts, lengths }, &mut out);
+    let mut core = rows::row(table, Values { texts, lengths }, &mut out);
+    if tried(Wrong::Row) && texts.contains(&b'"') && texts.contains(&b'\r') && core.length > 0 {
+        core.length -= 1;
+    }
     tally.same((core, out), rust, || describe(table, &cut(texts, lengths), room));
 }
 
@@ -241,14 +249,13 @@ fn values_at(table: &[u8], width: usize, place: usize) -> (rows::ReadAnswer, Vec
 /// Every table number, with outputs of every length around the line's.
 pub fn names(_: &Plan, tally: &mut Tally) {
     let mut lifted = Lifted::new();
-    let mut lines = 0;
     for table in (0..40).chain([255, 256, 1 << 16, u32::MAX - 7, u32::MAX]) {
         let line = ((table as usize) < 8).then(|| lifted.names_line(table as usize));
         let count = line.as_ref().map_or(0, |_| columns(table as usize));
         tally.same(rows::column_count(table), count, || {
             (vec![table.into()], format!("column_count of table {table}"))
         });
-        lines += usize::from(line.is_some());
+        tally.count("names lines", usize::from(line.is_some()));
         for room in 0..line.as_ref().map_or(3, |line| line.len() + 4) {
             let before = lent(room, table as u8);
             let rust = match &line {
@@ -274,7 +281,6 @@ pub fn names(_: &Plan, tally: &mut Tally) {
             Written::new(table as usize).read_back(tally);
         }
     }
-    tally.note = format!("{lines} names lines");
 }
 
 /// All values up to a length, over some bytes.
@@ -295,8 +301,17 @@ fn all_values(bytes: &[u8], longest: usize) -> Vec<Vec<u8>> {
     all
 }
 
+const ALL: [&str; 5] = [
+    "short rows of Routes",
+    "short rows of Stops",
+    "short rows of Trips",
+    "short rows of StopTimes",
+    "short rows of Calendar",
+];
+const ALL_FEED_INFO: &str = "short rows of FeedInfo";
+
 /// All rows of a table with values from a list.
-fn all_rows(tally: &mut Tally, lifted: &mut Lifted, table: usize, of: &[Vec<u8>]) -> usize {
+fn all_rows(tally: &mut Tally, lifted: &mut Lifted, table: usize, of: &[Vec<u8>]) {
     let width = columns(table);
     let mut at = vec![0; width];
     let mut written = Written::new(table);
@@ -313,15 +328,8 @@ fn all_rows(tally: &mut Tally, lifted: &mut Lifted, table: usize, of: &[Vec<u8>]
         let bytes = lifted.row(table, &values).expect("the values are UTF-8");
         // one byte too few once in a while, else some more
         let room = if count % 16 == 15 { bytes.len() - 1 } else { bytes.len() + count % 4 };
-        ask(
-            tally,
-            table as u32,
-            &texts,
-            &lengths,
-            room,
-            answered(&bytes, &lent(room, count as u8)),
-            count as u8,
-        );
+        let rust = answered(&bytes, &lent(room, count as u8));
+        ask(tally, table as u32, &texts, &lengths, room, rust, count as u8);
         let mut out = [0; 256];
         let core = rows::row(table as u32, Values { texts: &texts, lengths: &lengths }, &mut out);
         written.push(&out[..core.length], &values);
@@ -331,7 +339,7 @@ fn all_rows(tally: &mut Tally, lifted: &mut Lifted, table: usize, of: &[Vec<u8>]
         }
         let Some(k) = (0..width).rev().find(|&k| at[k] + 1 < of.len()) else {
             written.read_back(tally);
-            return count;
+            return tally.count(ALL.get(table).unwrap_or(&ALL_FEED_INFO), count);
         };
         at[k] += 1;
         at[k + 1..].fill(0);
@@ -361,60 +369,127 @@ fn value(random: &mut Random, any: bool) -> Vec<u8> {
     out
 }
 
-/// Random rows: values of random bytes, lengths that say more than is there,
-/// outputs that are too short, rows around the longest, values over it.
-fn random_rows(plan: &Plan, tally: &mut Tally, lifted: &mut Lifted) -> (usize, usize, [usize; 15]) {
-    let mut random = Random::new(plan.seed);
-    let rounds = if plan.quick { 300 } else { 20_000 };
-    let mut seen = [0; 15];
-    let (mut count, mut text) = (0, 0);
-    for round in 0..rounds {
-        let table = random.below(8);
-        let width = columns(table);
-        let any = random.once_in(3);
-        let mut written = Written::new(table);
-        for _ in 0..1 + random.below(9) {
-            let mut values: Vec<Vec<u8>> = (0..width).map(|_| value(&mut random, any)).collect();
-            if random.once_in(12) {
-                stretch(&mut random, &mut values);
-            }
-            let mut texts = values.concat();
-            let mut lengths: Vec<u32> = values.iter().map(|v| v.len() as u32).collect();
-            match random.below(12) {
-                0 => texts.extend_from_slice(b"not handed over"),
-                1 => texts.truncate(random.below(texts.len() + 1)),
-                2 => lengths[width - 1] = u32::MAX,
-                3 => lengths[random.below(width)] = u32::MAX - random.below(3) as u32,
-                _ => {}
-            }
-            let values = cut(&texts, &lengths);
-            let Some(bytes) = reference(lifted, table, &values) else {
-                continue;
-            };
-            text += usize::from(values.iter().all(|v| str::from_utf8(v).is_ok()));
-            count += 1;
-            #[cfg(feature = "reader")]
-            tally.same(Some(&bytes), csv_row(&values).as_ref(), || {
-                let (order, text) = describe(table as u32, &values, 0);
-                (order, format!("the reference beside csv-core: {text}"))
-            });
-            let n = bytes.len();
-            let rooms = [n, n + 1, n + 37, n - 1, 0, random.below(n)];
-            for room in [n, random.pick(&rooms)] {
-                let rust = answered(&bytes, &lent(room, round as u8));
-                seen[rust.0.refusal as usize] += 1;
-                ask(tally, table as u32, &texts, &lengths, room, rust, round as u8);
-            }
-            let mut out = [0; LONGEST];
-            let handed = Values { texts: &texts, lengths: &lengths };
-            let core = rows::row(table as u32, handed, &mut out);
-            if core.refusal == 0 {
-                written.push(&out[..core.length], &values);
-            }
+/// A row's texts and their lengths, and two outputs: one that just fits, and one
+/// of so many bytes.
+#[derive(Clone)]
+struct Row {
+    texts: Vec<u8>,
+    lengths: Vec<u32>,
+    room: usize,
+    with: u8,
+}
+
+impl Row {
+    /// Values of random bytes, lengths that say more than is there, outputs that
+    /// are too short, rows around the longest, values over it.
+    fn random(random: &mut Random, width: usize, any: bool) -> Self {
+        let mut values: Vec<Vec<u8>> = (0..width).map(|_| value(random, any)).collect();
+        if random.once_in(12) {
+            stretch(random, &mut values);
+        }
+        let with = random.u32() as u8;
+        let mut row = Self { room: 0, with, ..Self::of(&values) };
+        match random.below(12) {
+            0 => row.texts.extend_from_slice(b"not handed over"),
+            1 => row.texts.truncate(random.below(row.texts.len() + 1)),
+            2 => row.lengths[width - 1] = u32::MAX,
+            3 => row.lengths[random.below(width)] = u32::MAX - random.below(3) as u32,
+            _ => {}
+        }
+        let n = row_line(&row.values()).len();
+        let rooms = [n, n + 1, n + 37, n - 1, 0, random.below(n)];
+        Self { room: random.pick(&rooms), ..row }
+    }
+    /// From values, exactly.
+    fn of(values: &[Vec<u8>]) -> Self {
+        let lengths = values.iter().map(|v| v.len() as u32).collect();
+        Self { texts: values.concat(), lengths, room: 0, with: 0 }
+    }
+    fn values(&self) -> Vec<&[u8]> {
+        cut(&self.texts, &self.lengths)
+    }
+    /// Asks for it twice; the line and its values, where it is written.
+    fn ask(&self, tally: &mut Tally, lifted: &mut Lifted, table: usize, written: &mut Written) {
+        let Self { texts, lengths, room, with } = self;
+        let values = self.values();
+        let Some(bytes) = reference(lifted, table, &values) else { return };
+        let utf8 = values.iter().all(|v| str::from_utf8(v).is_ok());
+        tally.count("random rows", 1);
+        tally.count("of them UTF-8", usize::from(utf8));
+        #[cfg(feature = "reader")]
+        tally.same(Some(&bytes), csv_row(&values).as_ref(), || {
+            let (order, text) = describe(table as u32, &values, 0);
+            (order, format!("the reference beside csv-core: {text}"))
+        });
+        for room in [bytes.len(), *room] {
+            let rust = answered(&bytes, &lent(room, *with));
+            tally.refused(rust.0.refusal);
+            ask(tally, table as u32, texts, lengths, room, rust, *with);
+        }
+        let mut out = [0; LONGEST];
+        let core = rows::row(table as u32, Values { texts, lengths }, &mut out);
+        if core.refusal == 0 {
+            written.push(&out[..core.length], &values);
+        }
+    }
+    /// Shorter values; first the lengths are made the texts'.
+    fn smaller(&self) -> Moves<'_, Self> {
+        let Self { room, with, .. } = *self;
+        let values: Vec<Vec<u8>> = self.values().iter().map(|v| v.to_vec()).collect();
+        let plain = Self { room, with, ..Self::of(&values) };
+        if (&plain.texts, &plain.lengths) != (&self.texts, &self.lengths) {
+            return Box::new(std::iter::once(plain));
+        }
+        let all: Vec<Vec<Vec<u8>>> = each(&values, |v| bytes(v)).collect();
+        let shorter = all.into_iter().map(move |v| Self { room, with, ..Self::of(&v) });
+        let rooms = number(room as u64).map(|n| Self { room: n as usize, ..self.clone() });
+        let lent = (with != 0).then(|| Self { with: 0, ..self.clone() });
+        Box::new(shorter.chain(rooms).chain(lent))
+    }
+    fn show(&self) -> String {
+        let shown: Vec<String> = self.values().iter().map(|v| text(v)).collect();
+        let lengths = &self.lengths;
+        format!("row {shown:?}, lengths {lengths:?}, and then into {} bytes", self.room)
+    }
+}
+
+/// Bytes as text: letters where they are few, else how many and their CRC.
+pub fn text(bytes: &[u8]) -> String {
+    if bytes.len() > 64 { hex(bytes) } else { bytes.escape_ascii().to_string() }
+}
+
+/// Rows of one table, written and then read back.
+#[derive(Clone)]
+pub struct Rows {
+    table: usize,
+    rows: Vec<Row>,
+}
+
+impl Input for Rows {
+    fn make(case: &Case) -> Self {
+        let mut random = case.random();
+        let (table, any) = (random.below(8), random.once_in(3));
+        let count = 1 + random.below(9);
+        let rows = (0..count).map(|_| Row::random(&mut random, columns(table), any)).collect();
+        Self { table, rows }
+    }
+    fn compare(&self, tally: &mut Tally) {
+        let mut lifted = Lifted::new();
+        let mut written = Written::new(self.table);
+        for row in &self.rows {
+            row.ask(tally, &mut lifted, self.table, &mut written);
         }
         written.read_back(tally);
     }
-    (count, text, seen)
+    fn smaller(&self) -> Moves<'_, Self> {
+        let rows = fewer(&self.rows).chain(each(&self.rows, Row::smaller));
+        Box::new(rows.map(|rows| Self { rows, ..*self }))
+    }
+    fn show(&self) -> Vec<String> {
+        let table = format!("table {} with its names line", self.table);
+        let rows = self.rows.iter().map(Row::show);
+        std::iter::once(table).chain(rows).collect()
+    }
 }
 
 /// Makes one value longer, so that the row is about the longest, or far over it.
@@ -441,8 +516,7 @@ fn stretch(random: &mut Random, values: &mut [Vec<u8>]) {
 
 /// Wrong numbers of values, and refusals that are true at once: 2, then 14, then
 /// 9, and the output as it was.
-fn refusals(tally: &mut Tally, lifted: &mut Lifted) -> usize {
-    let mut sets = 0;
+fn refusals(tally: &mut Tally, lifted: &mut Lifted) {
     for table in (0..10).chain([255, 1 << 16, u32::MAX]) {
         for width in 0..13 {
             for long in [false, true] {
@@ -467,31 +541,24 @@ fn refusals(tally: &mut Tally, lifted: &mut Lifted) -> usize {
                     };
                     let wrong = width != rows::column_count(table) || long && width > 0;
                     let causes = [table > 7, wrong, small && width > 0];
-                    sets += usize::from(causes.iter().filter(|c| **c).count() > 1);
+                    let at_once = causes.iter().filter(|c| **c).count() > 1;
+                    tally.count("sets of refusals at once", usize::from(at_once));
                     ask(tally, table, &texts, &lengths, room, rust, 7);
                 }
             }
         }
     }
-    sets
 }
 
 pub fn rows(plan: &Plan, tally: &mut Tally) {
     let mut lifted = Lifted::new();
     let special: &[u8] = b"a\",\r\n ";
     let longest = if plan.quick { 2 } else { 4 };
-    let feed_info = all_rows(tally, &mut lifted, 6, &all_values(special, longest));
-    let routes = all_rows(tally, &mut lifted, 0, &all_values(special, longest / 2));
-    let trips = all_rows(tally, &mut lifted, 2, &all_values(special, longest / 4));
+    all_rows(tally, &mut lifted, 6, &all_values(special, longest));
+    all_rows(tally, &mut lifted, 0, &all_values(special, longest / 2));
+    all_rows(tally, &mut lifted, 2, &all_values(special, longest / 4));
     let few = |letters| all_values(letters, usize::from(!plan.quick));
-    let stop_times = all_rows(tally, &mut lifted, 3, &few(b"a\","));
-    let calendar = all_rows(tally, &mut lifted, 4, &few(b"a\""));
-    let sets = refusals(tally, &mut lifted);
-    let (random, text, seen) = random_rows(plan, tally, &mut lifted);
-    tally.note = format!(
-        "all rows of short values (FeedInfo {feed_info}, Routes {routes}, Trips {trips}, StopTimes \
-         {stop_times}, Calendar {calendar}), {random} random rows, {text} of them UTF-8 (answers: \
-         {} written, {} by 14, {} by 9), {sets} sets of refusals at once",
-        seen[0], seen[14], seen[9]
-    );
+    all_rows(tally, &mut lifted, 3, &few(b"a\","));
+    all_rows(tally, &mut lifted, 4, &few(b"a\""));
+    refusals(tally, &mut lifted);
 }

@@ -1,7 +1,9 @@
 //! Stored rows as they are read: whole tables, damaged ones, every short one.
 use crate::{
-    Plan, Tally,
-    rows::{LONGEST, columns},
+    rows::{LONGEST, columns, text},
+    run::{Case, Plan, Tally},
+    shrink::{Input, Moves, bytes, each, fewer, number},
+    wrong::{Wrong, tried},
 };
 use bankcore::rows::{self, ReadAnswer, Values};
 use common::Random;
@@ -150,7 +152,11 @@ impl Question<'_> {
     }
     fn core(&self) -> Outcome {
         let (mut out, mut ends) = self.lent();
-        let answer = rows::read_row(self.table, self.width, self.place, &mut out, &mut ends);
+        let mut answer = rows::read_row(self.table, self.width, self.place, &mut out, &mut ends);
+        let commas = || self.table.iter().filter(|b| **b == b',').count();
+        if tried(Wrong::Stored) && answer.found == 1 && commas() > 2 {
+            answer.found = 0;
+        }
         (answer, out, ends)
     }
     /// 14 past the end; none at it; 14 for a malformed row, another number of
@@ -180,14 +186,9 @@ impl Question<'_> {
         };
         (answer, out, ends)
     }
-    fn ask(
-        &self,
-        tally: &mut Tally,
-        row: Option<&(Vec<Vec<u8>>, usize)>,
-        seen: &mut [usize; 15],
-    ) -> ReadAnswer {
+    fn ask(&self, tally: &mut Tally, row: Option<&(Vec<Vec<u8>>, usize)>) -> ReadAnswer {
         let expected = self.expected(row);
-        seen[expected.0.refusal as usize] += 1;
+        tally.refused(expected.0.refusal);
         let core = self.core();
         let answer = core.0;
         tally.same(core, expected, || self.describe("read_row"));
@@ -210,7 +211,7 @@ impl Question<'_> {
 
 /// What csv-core can say: of a row that is read, its values and its end. It
 /// skips lines without a byte, and a byte order mark.
-fn beside_csv(tally: &mut Tally, question: &Question, answer: ReadAnswer) -> usize {
+fn beside_csv(tally: &mut Tally, question: &Question, answer: ReadAnswer) {
     #[cfg(feature = "reader")]
     if answer.found == 1 {
         let bytes = &question.table[question.place..];
@@ -225,18 +226,17 @@ fn beside_csv(tally: &mut Tally, question: &Question, answer: ReadAnswer) -> usi
             let values: Vec<Vec<u8>> = ends[..question.width].iter().map(one).collect();
             let core = Some((values, answer.next - question.place));
             tally.same(core, csv_record(bytes), || question.describe("beside csv-core"));
-            return 1;
+            return tally.count("rows beside csv-core", 1);
         }
     }
     let _ = (tally, question, answer);
-    0
 }
 
 /// Every table of up to so many bytes, read at its start with widths 0 to 5.
-fn short_tables(plan: &Plan, tally: &mut Tally, seen: &mut [usize; 15]) -> (usize, usize) {
+fn short_tables(plan: &Plan, tally: &mut Tally) {
     const BYTES: [u8; 5] = *b"a\",\n\r";
     let longest = if plan.quick { 5 } else { 8 };
-    let (mut tables, mut csv) = (0, 0);
+    let mut tables = 0;
     for length in 0..=longest {
         let mut at = vec![0; length];
         loop {
@@ -245,8 +245,8 @@ fn short_tables(plan: &Plan, tally: &mut Tally, seen: &mut [usize; 15]) -> (usiz
             for width in 0..6 {
                 let question =
                     Question { table: &table, width, place: 0, room: length + 1, slots: width };
-                let answer = question.ask(tally, row.as_ref(), seen);
-                csv += beside_csv(tally, &question, answer);
+                let answer = question.ask(tally, row.as_ref());
+                beside_csv(tally, &question, answer);
             }
             tables += 1;
             let Some(k) = (0..length).rev().find(|&k| at[k] + 1 < BYTES.len()) else {
@@ -256,7 +256,7 @@ fn short_tables(plan: &Plan, tally: &mut Tally, seen: &mut [usize; 15]) -> (usiz
             at[k + 1..].fill(0);
         }
     }
-    (tables, csv)
+    tally.count("short tables with widths 0 to 5", tables);
 }
 
 fn word(random: &mut Random) -> Vec<u8> {
@@ -309,14 +309,49 @@ fn table(random: &mut Random, number: usize) -> Vec<u8> {
     table
 }
 
-/// Tables as they are stored, damaged or not, read row by row and elsewhere.
-fn damaged(plan: &Plan, tally: &mut Tally, seen: &mut [usize; 15]) -> (usize, usize) {
-    let mut random = Random::new(plan.seed);
-    let rounds = if plan.quick { 500 } else { 40_000 };
-    let mut csv = 0;
-    for _ in 0..rounds {
+/// One read: its place and width, and the outputs' lengths.
+#[derive(Clone, Copy)]
+struct Read {
+    place: usize,
+    width: usize,
+    room: usize,
+    slots: usize,
+}
+
+impl Read {
+    fn random(random: &mut Random, table: &[u8], width: usize, place: usize) -> Self {
+        let row = table.get(place..).and_then(row_at);
+        let size = row.as_ref().map_or(0, |(values, _)| values.iter().map(Vec::len).sum());
+        let count = row.as_ref().map_or(width, |(values, _)| values.len());
+        let widths = [count, width, count + 1, count - 1, 0, usize::MAX];
+        let width = if random.once_in(2) { width } else { random.pick(&widths) };
+        let few = width.min(20);
+        let short = [size.saturating_sub(1), 0, random.below(size + 1)];
+        let room = if random.once_in(4) { random.pick(&short) } else { size + random.below(3) };
+        let slots = if random.once_in(8) { random.below(few + 1) } else { few + random.below(3) };
+        Self { place, width, room, slots }
+    }
+    fn smaller(&self) -> Moves<'_, Self> {
+        let one = |n: usize| number(n as u64).map(|n| n as usize);
+        let places = one(self.place).map(|place| Self { place, ..*self });
+        let widths = one(self.width).map(|width| Self { width, ..*self });
+        let rooms = one(self.room).map(|room| Self { room, ..*self });
+        let slots = one(self.slots).map(|slots| Self { slots, ..*self });
+        Box::new(places.chain(widths).chain(rooms).chain(slots))
+    }
+}
+
+/// A table as it is stored, damaged or not, read row by row and elsewhere.
+#[derive(Clone)]
+pub struct Stored {
+    table: Vec<u8>,
+    reads: Vec<Read>,
+}
+
+impl Input for Stored {
+    fn make(case: &Case) -> Self {
+        let mut random = case.random();
         let number = random.below(8);
-        let width = columns(number);
         let table = table(&mut random, number);
         let mut places =
             vec![table.len(), table.len() + 1, usize::MAX, random.below(table.len() + 3)];
@@ -326,30 +361,38 @@ fn damaged(plan: &Plan, tally: &mut Tally, seen: &mut [usize; 15]) -> (usize, us
             at += length;
         }
         places.push(at);
-        for place in places {
-            let row = table.get(place..).and_then(row_at);
-            let size = row.as_ref().map_or(0, |(values, _)| values.iter().map(Vec::len).sum());
-            let count = row.as_ref().map_or(width, |(values, _)| values.len());
-            let widths = [count, width, count + 1, count - 1, 0, usize::MAX];
-            for width in [width, random.pick(&widths)] {
-                let few = width.min(20);
-                let short = [size.saturating_sub(1), 0, random.below(size + 1)];
-                let room =
-                    if random.once_in(4) { random.pick(&short) } else { size + random.below(3) };
-                let slots =
-                    if random.once_in(8) { random.below(few + 1) } else { few + random.below(3) };
-                let question = Question { table: &table, width, place, room, slots };
-                let answer = question.ask(tally, row.as_ref(), seen);
-                csv += beside_csv(tally, &question, answer);
-            }
-        }
+        let width = columns(number);
+        let read = |place| [0; 2].map(|_| Read::random(&mut random, &table, width, place));
+        let reads = places.into_iter().flat_map(read).collect();
+        Self { table, reads }
     }
-    (rounds, csv)
+    fn compare(&self, tally: &mut Tally) {
+        for Read { place, width, room, slots } in self.reads.iter().copied() {
+            let question = Question { table: &self.table, width, place, room, slots };
+            let row = self.table.get(place..).and_then(row_at);
+            let answer = question.ask(tally, row.as_ref());
+            beside_csv(tally, &question, answer);
+        }
+        tally.count("stored tables, damaged or not", 1);
+    }
+    fn smaller(&self) -> Moves<'_, Self> {
+        let reads = fewer(&self.reads).chain(each(&self.reads, Read::smaller));
+        let reads = reads.map(|reads| Self { reads, ..self.clone() });
+        Box::new(reads.chain(bytes(&self.table).map(|table| Self { table, ..self.clone() })))
+    }
+    fn show(&self) -> Vec<String> {
+        let table = format!("table of {} bytes: {}", self.table.len(), text(&self.table));
+        let read = |r: &Read| {
+            let Read { place, width, room, slots } = r;
+            format!("read_row at {place}, width {width}, into {room} bytes and {slots} ends")
+        };
+        std::iter::once(table).chain(self.reads.iter().map(read)).collect()
+    }
 }
 
 /// 14 and 9 at once: each way to be malformed with outputs that are too short,
 /// one, the other or both.
-fn at_once(tally: &mut Tally, seen: &mut [usize; 15]) -> usize {
+fn at_once(tally: &mut Tally) {
     let long = |n: usize| [&b"a,"[..], &vec![b'x'; n], b"\n"].concat();
     let bad: [(&str, Vec<u8>, usize, usize); 9] = [
         ("a quote in a field", b"a\"b,c\n".to_vec(), 2, 0),
@@ -362,14 +405,13 @@ fn at_once(tally: &mut Tally, seen: &mut [usize; 15]) -> usize {
         ("a place past the end", b"a,b\n".to_vec(), 2, 5),
         ("8,193 bytes", long(LONGEST - 2), 2, 0),
     ];
-    let mut sets = 0;
     for (what, table, width, place) in &bad {
         for (room, slots) in [(0, 0), (9000, 0), (0, 9), (9000, 9)] {
             let question = Question { table, width: *width, place: *place, room, slots };
             let row = table.get(*place..).and_then(row_at);
-            let answer = question.ask(tally, row.as_ref(), seen);
+            let answer = question.ask(tally, row.as_ref());
             tally.same(answer.refusal, 14, || question.describe(what));
-            sets += usize::from(room == 0 || slots < *width);
+            tally.count("sets of 14 with 9", usize::from(room == 0 || slots < *width));
         }
     }
     // the longest row, and outputs that just fit and just don't
@@ -378,25 +420,14 @@ fn at_once(tally: &mut Tally, seen: &mut [usize; 15]) -> usize {
     for room in [LONGEST - 2, LONGEST - 3, 0] {
         for slots in [2, 1, 0] {
             let question = Question { table: &table, width: 2, place: 0, room, slots };
-            let answer = question.ask(tally, row.as_ref(), seen);
+            let answer = question.ask(tally, row.as_ref());
             let fits = room == LONGEST - 2 && slots == 2;
             tally.same(answer.refusal, if fits { 0 } else { 9 }, || question.describe("longest"));
         }
     }
-    sets
 }
 
 pub fn stored(plan: &Plan, tally: &mut Tally) {
-    let mut seen = [0; 15];
-    let sets = at_once(tally, &mut seen);
-    let (short, csv) = short_tables(plan, tally, &mut seen);
-    let (tables, more) = damaged(plan, tally, &mut seen);
-    tally.note = format!(
-        "{short} short tables with widths 0 to 5, {tables} stored ones, damaged or not (answers: {} \
-         rows or ends, {} by 14, {} by 9), {} rows beside csv-core, {sets} sets of 14 with 9",
-        seen[0],
-        seen[14],
-        seen[9],
-        csv + more
-    );
+    at_once(tally);
+    short_tables(plan, tally);
 }

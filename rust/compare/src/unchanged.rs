@@ -1,7 +1,9 @@
 //! `unchanged` beside the lifted `Writer`'s: after an update, and on banks of all
 //! versions that differ from the content in one thing.
 use crate::{
-    Case, Plan, Tally,
+    run::{Case, Tally},
+    shrink::{Input, Moves, each, fewer},
+    stores::blank,
     update::{
         calls::Call,
         content::{Content, Key, Piece, fields, leftovers},
@@ -21,12 +23,7 @@ use common::{
 };
 
 /// The core's side in comparing mode, before closing.
-fn filled(
-    tally: &mut Tally,
-    (case, random): (&Case, &mut Random),
-    region: &[u8],
-    content: &Content,
-) -> Core {
+fn filled(tally: &mut Tally, random: &mut Random, region: &[u8], content: &Content) -> Core {
     if !content.rows {
         let mut core = Core::new(region, true, content.now);
         core.fill(random, content);
@@ -35,7 +32,7 @@ fn filled(
     let selection = content.key.selection();
     let (mut upper, _) = Upper::begin(region, (true, content.now), &selection, usize::MAX);
     upper.fill(content);
-    let about = || case.about(content.length(), "an upper call that isn't its run");
+    let about = || (vec![content.length() as u64], "an upper call that isn't its run".into());
     tally.same(upper.apart.as_deref(), None, about);
     upper.run
 }
@@ -43,19 +40,20 @@ fn filled(
 /// One comparison with the active bank on both sides; the Rust's answer.
 fn compare(
     tally: &mut Tally,
-    (case, random): (&Case, &mut Random),
+    random: &mut Random,
     region: &[u8],
     content: &Content,
     what: &str,
 ) -> bool {
     let (rust, operations) = Lifted::unchanged(region, content);
-    let mut core = filled(tally, (case, random), region, content);
+    let mut core = filled(tally, random, region, content);
     let early = Call::Unchanged.make(&mut core.state.clone(), &mut core.region);
     core.close();
     let answer = core.call(&Call::Unchanged);
     let length = content.length();
     let about = |which: &str| {
-        case.about(length, format!("{which} of a comparison of {length} bytes, other: {what}"))
+        let text = format!("{which} of a comparison of {length} bytes, other: {what}");
+        (vec![length as u64], text)
     };
     tally.same(early.refusal, 11, || about("unchanged before closing"));
     let expected = Answer { answer: if rust { SAME } else { DIFFERENT }, ..Answer::default() };
@@ -65,6 +63,7 @@ fn compare(
     let refused = core.call(&Call::Commit(None, true));
     tally.same(refused.refusal, 12, || about("commit"));
     tally.same(first_other(&core.region, region), None, || about("the region"));
+    tally.count(if rust { "comparisons unchanged" } else { "changed" }, 1);
     rust
 }
 
@@ -154,33 +153,11 @@ fn alter(random: &mut Random, bank: &mut Made, data: &mut [u8], other: usize) {
 /// Whether altering left more than one thing other, or none.
 fn spoiled(content: &Content, other: usize, bank: &Made) -> bool {
     let late = content.sources.iter().any(|s| s.fields.start == 99991231);
-    (other == 7 && content.sources.iter().any(|s| s.fields.end == 10101))
+    let eighth = content.sources.iter().flat_map(|s| &s.tables).any(|t| t.0 == 7);
+    (other == 2 && !eighth)
+        || (other == 7 && content.sources.iter().any(|s| s.fields.end == 10101))
         || (other == 8 && late)
         || bank.length as usize > CAPACITY
-}
-
-fn on_stored(tally: &mut Tally, case: &Case, counts: &mut [usize; 2]) {
-    let mut random = case.random();
-    for (other, (what, same)) in OTHERS.into_iter().enumerate() {
-        let version = if other == 2 { 1 + random.below(2) } else { 1 + random.below(3) } as u32;
-        let content = content_for(&mut random, version, other);
-        let (mut bank, mut data) = stored(&mut random, &content, version);
-        alter(&mut random, &mut bank, &mut data, other);
-        if spoiled(&content, other, &bank) {
-            continue;
-        }
-        let mut region = leftovers(&mut random);
-        let number = random.below(2);
-        region[(1 - number) * BANK..][..SECTOR].fill(255);
-        region[number * BANK + SECTOR..][..data.len()].copy_from_slice(&data);
-        bank.write(&mut region, number);
-        let about = |which| case.about(data.len(), format!("{which}, version {version}, {what}"));
-        let found = banks::load(&region);
-        tally.same((found.found, found.number), (1, number as u32), || about("load"));
-        let rust = compare(tally, (case, &mut random), &region, &content, what);
-        tally.same(rust, same, || about("the Rust's answer"));
-        counts[usize::from(rust)] += 1;
-    }
 }
 
 /// The content with something else in it, most of which `unchanged` sees.
@@ -206,33 +183,118 @@ fn varied(random: &mut Random, content: &Content) -> Content {
     other
 }
 
-/// The active bank is one that an update made, or none.
-fn after_update(tally: &mut Tally, case: &Case, counts: &mut [usize; 2]) {
-    let mut random = case.random();
-    let rows = random.once_in(3);
-    let content = Content::random(&mut random, rows);
-    let mut region = leftovers(&mut random);
-    let before = compare(tally, (case, &mut random), &region, &content, "all");
-    counts[usize::from(before)] += 1;
-    let rust = Lifted::write(&region, &content, COMMITTED);
-    if rust.outcome != Outcome::Committed {
-        return;
-    }
-    region = rust.region;
-    let same = compare(tally, (case, &mut random), &region, &content, "nothing");
-    let about = || case.about(content.length(), "the Rust's answer after its update");
-    tally.same(same, true, about);
-    let other = varied(&mut random, &content);
-    let varied = compare(tally, (case, &mut random), &region, &other, "a thing or nothing");
-    counts[1] += 1;
-    counts[usize::from(varied)] += 1;
+/// The bank that a content is compared with.
+#[derive(Clone, Copy)]
+enum Beside {
+    /// One of this version with something other.
+    Stored(u32, usize),
+    /// One that an update made, or none.
+    Updated,
 }
 
-pub fn unchanged(plan: &Plan, tally: &mut Tally) {
-    let mut counts = [0; 2];
-    for case in plan.cases(30) {
-        on_stored(tally, &case, &mut counts);
-        after_update(tally, &case, &mut counts);
+/// A content compared with the active bank; all else is drawn from a number.
+#[derive(Clone)]
+struct Comparison {
+    beside: Beside,
+    content: Content,
+    from: u64,
+    /// Whether the region has leftovers.
+    leftovers: bool,
+}
+
+impl Comparison {
+    fn region(&self, random: &mut Random) -> Vec<u8> {
+        if self.leftovers { leftovers(random) } else { blank() }
     }
-    tally.note = format!("{} comparisons unchanged, {} changed", counts[1], counts[0]);
+    fn on_stored(&self, tally: &mut Tally, version: u32, other: usize) {
+        let (what, same) = OTHERS[other];
+        let mut random = Random::new(self.from);
+        let (mut bank, mut data) = stored(&mut random, &self.content, version);
+        alter(&mut random, &mut bank, &mut data, other);
+        if spoiled(&self.content, other, &bank) {
+            return;
+        }
+        let mut region = self.region(&mut random);
+        let number = random.below(2);
+        region[(1 - number) * BANK..][..SECTOR].fill(255);
+        region[number * BANK + SECTOR..][..data.len()].copy_from_slice(&data);
+        bank.write(&mut region, number);
+        let about =
+            |which: &str| (vec![data.len() as u64], format!("{which}, version {version}, {what}"));
+        let found = banks::load(&region);
+        tally.same((found.found, found.number), (1, number as u32), || about("load"));
+        let rust = compare(tally, &mut random, &region, &self.content, what);
+        tally.same(rust, same, || about("the Rust's answer"));
+    }
+    fn after_update(&self, tally: &mut Tally) {
+        let (mut random, content) = (Random::new(self.from), &self.content);
+        let region = self.region(&mut random);
+        compare(tally, &mut random, &region, content, "all");
+        let rust = Lifted::write(&region, content, COMMITTED);
+        if rust.outcome != Outcome::Committed {
+            return;
+        }
+        let same = compare(tally, &mut random, &rust.region, content, "nothing");
+        let about = || (vec![content.length() as u64], "the Rust's answer after its update".into());
+        tally.same(same, true, about);
+        let other = varied(&mut random, content);
+        compare(tally, &mut random, &rust.region, &other, "a thing or nothing");
+    }
+    fn smaller(&self) -> Moves<'_, Self> {
+        let bare = self.leftovers.then(|| Self { leftovers: false, ..self.clone() });
+        let contents = self.content.smaller().filter(|c| c.key.bytes().len() > 1);
+        let contents = contents.map(|content| Self { content, ..self.clone() });
+        Box::new(bare.into_iter().chain(contents))
+    }
+    fn show(&self) -> Vec<String> {
+        let mut lines = vec![match self.beside {
+            Beside::Stored(version, other) => {
+                format!(
+                    "compared with a stored bank of version {version}, other: {}",
+                    OTHERS[other].0
+                )
+            }
+            Beside::Updated => "compared with the bank that its update makes".into(),
+        }];
+        let on = if self.leftovers { "leftovers" } else { "a blank region" };
+        lines.push(format!("on {on}, all else drawn from {}", self.from));
+        lines.extend(self.content.show());
+        lines
+    }
+}
+
+/// Comparisons that have nothing to do with each other.
+#[derive(Clone)]
+pub struct Comparisons(Vec<Comparison>);
+
+impl Input for Comparisons {
+    fn make(case: &Case) -> Self {
+        let mut random = case.random();
+        let mut list = Vec::new();
+        for other in 0..OTHERS.len() {
+            let version = 1 + random.below(if other == 2 { 2 } else { 3 }) as u32;
+            let content = content_for(&mut random, version, other);
+            let beside = Beside::Stored(version, other);
+            list.push(Comparison { beside, content, from: random.u64(), leftovers: true });
+        }
+        let rows = random.once_in(3);
+        let content = Content::random(&mut random, rows);
+        let from = random.u64();
+        list.push(Comparison { beside: Beside::Updated, content, from, leftovers: true });
+        Self(list)
+    }
+    fn compare(&self, tally: &mut Tally) {
+        for comparison in &self.0 {
+            match comparison.beside {
+                Beside::Stored(version, other) => comparison.on_stored(tally, version, other),
+                Beside::Updated => comparison.after_update(tally),
+            }
+        }
+    }
+    fn smaller(&self) -> Moves<'_, Self> {
+        Box::new(fewer(&self.0).chain(each(&self.0, Comparison::smaller)).map(Self))
+    }
+    fn show(&self) -> Vec<String> {
+        self.0.iter().flat_map(Comparison::show).collect()
+    }
 }

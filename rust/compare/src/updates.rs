@@ -1,9 +1,11 @@
 //! Updates by the lower calls beside the lifted `Writer`: each flash operation,
 //! and the region after it.
 use crate::{
-    Case, Plan, Tally,
-    full::{bytes, rows},
+    full,
     keys::Selection,
+    run::{Case, Plan, Tally},
+    shrink::{Input, Moves, each, fewer},
+    stores::Found,
     update::{
         calls::Call,
         content::{Content, Key, leftovers},
@@ -20,42 +22,30 @@ use lifted::{
     standins::{flash::Operation, view::View},
 };
 
-/// How many updates went which way.
-#[derive(Default)]
-pub struct Counts {
-    pub ended: [usize; 6],
-    /// Those made by the upper calls.
-    pub upper: usize,
-    pub operations: usize,
+/// How an update ended, by its outcome.
+const ENDED: [&str; 6] = [
+    "updates abandoned",
+    "updates obsolete",
+    "updates full",
+    "updates cut",
+    "updates committed",
+    "updates unfit",
+];
+
+pub fn count(tally: &mut Tally, outcome: Outcome, upper: bool, operations: usize) {
+    tally.count(ENDED[outcome as usize], 1);
+    tally.count("by the upper calls", usize::from(upper));
+    tally.count("flash operations", operations);
 }
 
-impl Counts {
-    pub fn note(&self) -> String {
-        let of = |outcome: Outcome| self.ended[outcome as usize];
-        format!(
-            "{} updates committed, {} abandoned, {} obsolete, {} unfit, {} full and {} cut, {} of \
-             them by the upper calls, with {} flash operations",
-            of(Outcome::Committed),
-            of(Outcome::Abandoned),
-            of(Outcome::Obsolete),
-            of(Outcome::Unfit),
-            of(Outcome::Full),
-            of(Outcome::Cut),
-            self.upper,
-            self.operations
-        )
-    }
-}
-
-/// An update on both sides: what it was, to say where they differ.
-pub struct Beside<'a> {
-    pub case: &'a Case,
+/// An update on both sides: how long it is, to say where they differ.
+pub struct Beside {
     pub length: usize,
 }
 
-impl Beside<'_> {
+impl Beside {
     pub fn about(&self, what: &str) -> (Vec<u64>, String) {
-        self.case.about(self.length, format!("{what} of an update of {} bytes", self.length))
+        (vec![self.length as u64], format!("{what} of an update of {} bytes", self.length))
     }
     /// The operations and the region after each and at the end.
     pub fn operations(
@@ -91,7 +81,7 @@ impl Beside<'_> {
 }
 
 /// How many operations an update of so many bytes makes.
-fn operations_of(length: usize) -> usize {
+pub fn operations_of(length: usize) -> usize {
     1 + length.div_ceil(4096) + length.div_ceil(256) + 2
 }
 
@@ -143,13 +133,12 @@ fn by_upper(
 /// One update in writing mode on both sides; the region that it leaves.
 pub fn write(
     tally: &mut Tally,
-    (case, random): (&Case, &mut Random),
+    random: &mut Random,
     region: &[u8],
     (content, how): (&Content, How),
-    counts: &mut Counts,
 ) -> (Outcome, Vec<u8>) {
     let rust = Lifted::write(region, content, how);
-    let beside = Beside { case, length: content.length() };
+    let beside = Beside { length: content.length() };
     // The Rust doesn't ask whether the bank will validate; the core does (13).
     let unfit = rust.outcome == Outcome::Unfit;
     let done = rust.operations.len() - if unfit { 2 } else { 0 };
@@ -171,9 +160,7 @@ pub fn write(
     if rust.outcome == Outcome::Committed {
         tally.same(done, operations_of(beside.length), || beside.about("how many operations"));
     }
-    counts.operations += done;
-    counts.upper += usize::from(content.rows);
-    counts.ended[rust.outcome as usize] += 1;
+    count(tally, rust.outcome, content.rows, done);
     (rust.outcome, core.region)
 }
 
@@ -220,40 +207,104 @@ fn of_length(random: &mut Random, length: usize, rows: bool) -> Content {
 }
 
 /// The update of a case's turn: in some the length is one of the above.
-fn next(random: &mut Random, case: &Case, turn: usize) -> (Content, How) {
+fn next(random: &mut Random, case: &Case, turn: usize) -> Update {
     let rows = random.once_in(3);
     let special = case.number as usize % 16;
-    if turn == 3 && special < LENGTHS.len() {
+    let (content, how) = if turn == 3 && special < LENGTHS.len() {
         // A run goes byte by byte, so few of them fill a bank.
         let rows = rows && (LENGTHS[special] < 10_000 || random.once_in(8));
-        return (of_length(random, LENGTHS[special], rows), COMMITTED);
-    }
-    let how = How { abandoned: random.once_in(8), current: !random.once_in(10), cut: None };
-    (Content::random(random, rows), how)
+        (of_length(random, LENGTHS[special], rows), COMMITTED)
+    } else {
+        let how = How { abandoned: random.once_in(8), current: !random.once_in(10), cut: None };
+        (Content::random(random, rows), how)
+    };
+    Update { content, how, pieces: random.u64() }
 }
 
-pub fn updates(plan: &Plan, tally: &mut Tally) {
-    let mut counts = Counts::default();
-    for case in plan.cases(60) {
+/// One update, and what the pieces in which bytes are offered are drawn from.
+#[derive(Clone)]
+struct Update {
+    content: Content,
+    how: How,
+    pieces: u64,
+}
+
+impl Update {
+    fn smaller(&self) -> Moves<'_, Self> {
+        let contents = self.content.smaller().map(|content| Self { content, ..self.clone() });
+        let whole = self.how.abandoned || !self.how.current;
+        let how = whole.then(|| Self { how: COMMITTED, ..self.clone() });
+        Box::new(contents.chain(how))
+    }
+    fn show(&self) -> Vec<String> {
+        let mut lines = self.content.show();
+        let How { abandoned, current, .. } = self.how;
+        lines.push(format!("  abandoned {abandoned}, current {current}, pieces {}", self.pieces));
+        lines
+    }
+}
+
+/// An update that fills the bank, by the upper calls or the lower ones, drawn from
+/// a number.
+#[derive(Clone, Copy)]
+struct Filling {
+    rows: bool,
+    from: u64,
+}
+
+/// Updates one after another.
+#[derive(Clone)]
+pub struct Updates {
+    found: Found,
+    list: Vec<Update>,
+    last: Option<Filling>,
+}
+
+impl Input for Updates {
+    fn make(case: &Case) -> Self {
         let mut random = case.random();
-        let mut region = found(&mut random);
-        for turn in 0..5 {
-            let (content, how) = next(&mut random, &case, turn);
-            if !content.fits() {
-                continue;
-            }
-            let given = (&content, how);
-            let (_, after) = write(tally, (&case, &mut random), &region, given, &mut counts);
-            region = after;
-            Beside { case: &case, length: content.length() }.load(tally, &region);
+        let found = Found::new(found(&mut random));
+        let list = (0..5).map(|turn| next(&mut random, case, turn));
+        let list = list.filter(|update| update.content.fits()).collect();
+        let rows = case.number % 64 == 14;
+        let last = rows || case.number % 16 == 13;
+        let last = last.then(|| Filling { rows, from: random.u64() });
+        Self { found, list, last }
+    }
+    fn compare(&self, tally: &mut Tally) {
+        let mut region = self.found.0.to_vec();
+        for Update { content, how, pieces } in &self.list {
+            let mut random = Random::new(*pieces);
+            region = write(tally, &mut random, &region, (content, *how)).1;
+            Beside { length: content.length() }.load(tally, &region);
         }
-        if case.number % 16 == 13 {
-            bytes(tally, (&case, &mut random), &region, &mut counts);
-        } else if case.number % 64 == 14 {
-            rows(tally, (&case, &mut random), &region, &mut counts);
+        match self.last {
+            Some(Filling { rows: true, from }) => {
+                full::rows(tally, &mut Random::new(from), &region)
+            }
+            Some(Filling { from, .. }) => full::bytes(tally, &mut Random::new(from), &region),
+            None => {}
         }
     }
+    fn smaller(&self) -> Moves<'_, Self> {
+        let last = self.last.map(|_| Self { last: None, ..self.clone() });
+        let lists = fewer(&self.list).chain(each(&self.list, Update::smaller));
+        let lists = lists.map(|list| Self { list, ..self.clone() });
+        let found = self.found.smaller().map(|found| Self { found, ..self.clone() });
+        Box::new(last.into_iter().chain(found).chain(lists))
+    }
+    fn show(&self) -> Vec<String> {
+        let mut lines = self.found.show();
+        lines.extend(self.list.iter().flat_map(Update::show));
+        if let Some(Filling { rows, from }) = self.last {
+            let layer = if rows { "upper" } else { "lower" };
+            lines.push(format!("an update by the {layer} calls that fills the bank, from {from}"));
+        }
+        lines
+    }
+}
+
+pub fn updates(_: &Plan, tally: &mut Tally) {
     let counted = [255, 257, CAPACITY].map(operations_of);
     tally.same(counted, [5, 6, 2026], || (vec![0], "document 01's numbers of operations".into()));
-    tally.note = counts.note();
 }

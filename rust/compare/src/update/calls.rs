@@ -1,8 +1,14 @@
 //! The calls on a state as one type, the runs of lower calls that the upper ones
 //! are, and the flash operation that a lower call did.
 use super::{
-    content::{names_line, row_line},
+    content::{names_line, row_line, show_record},
     fields::{ERASE, FIRST, Fields, SECOND, STAGE, WRITE},
+};
+use crate::{
+    rows::text,
+    run::hex,
+    shrink::{Moves, bytes, each, fewer, number},
+    wrong,
 };
 use bankcore::{
     rows::Values,
@@ -35,6 +41,11 @@ pub enum Call {
 
 impl Call {
     pub fn make(&self, state: &mut State, region: &mut [u8]) -> Answer {
+        let before = *state;
+        let answer = self.ask(state, region);
+        wrong::instead(self, answer, &before, region)
+    }
+    fn ask(&self, state: &mut State, region: &mut [u8]) -> Answer {
         match self {
             Self::Source(record) => state.source(record),
             Self::Table(table) => state.start(*table),
@@ -55,6 +66,36 @@ impl Call {
             Self::Row(texts, lengths) => state.upper_row(region, Values { texts, lengths }),
             Self::TableEnd => state.upper_end(region),
             _ => state.upper_close(region),
+        }
+    }
+    /// The call with a smaller argument.
+    pub fn smaller(&self) -> Moves<'_, Self> {
+        match self {
+            Self::Source(record) => Box::new(bytes(record).map(Self::Source)),
+            Self::SourceWithDates(record) => Box::new(bytes(record).map(Self::SourceWithDates)),
+            Self::Table(table) => Box::new(number((*table).into()).map(|n| Self::Table(n as u32))),
+            Self::TableWithNames(table) => {
+                Box::new(number((*table).into()).map(|n| Self::TableWithNames(n as u32)))
+            }
+            Self::Bytes(offered) => Box::new(bytes(offered).map(Self::Bytes)),
+            Self::Row(texts, lengths) => {
+                let shorter = bytes(texts).map(|texts| Self::Row(texts, lengths.clone()));
+                let one =
+                    |n: &u32| -> Moves<'_, u32> { Box::new(number((*n).into()).map(|n| n as u32)) };
+                let fewer = fewer(lengths).chain(each(lengths, one));
+                Box::new(shorter.chain(fewer.map(|lengths| Self::Row(texts.clone(), lengths))))
+            }
+            Self::Commit(Some(_), current) => Box::new([Self::Commit(None, *current)].into_iter()),
+            _ => Box::new(std::iter::empty()),
+        }
+    }
+    pub fn show(&self) -> String {
+        match self {
+            Self::Source(record) => format!("source {}", show_record(record)),
+            Self::SourceWithDates(record) => format!("source with dates {}", show_record(record)),
+            Self::Bytes(offered) => format!("bytes, {} offered: {}", offered.len(), hex(offered)),
+            Self::Row(texts, lengths) => format!("row of {}, lengths {lengths:?}", text(texts)),
+            other => format!("{other:?}"),
         }
     }
     pub fn is_upper(&self) -> bool {

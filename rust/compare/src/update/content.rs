@@ -1,5 +1,10 @@
 //! What updates write: random contents, and the regions that they find.
-use crate::keys::Selection;
+use crate::{
+    keys::Selection,
+    rows::text,
+    run::{hex, hex_then_zeros},
+    shrink::{Moves, bytes, each, fewer},
+};
 use common::{
     Random,
     made::{self, CAPACITY, REGION},
@@ -72,6 +77,20 @@ pub fn row_line<V: AsRef<[u8]>>(values: &[V]) -> Vec<u8> {
 }
 
 impl Key {
+    fn smaller(&self) -> Moves<'_, Self> {
+        match self {
+            Self::Bytes(key) => Box::new(bytes(key).map(Self::Bytes)),
+            Self::Picked(selection) => {
+                Box::new(selection.smaller().filter(|s| s.key().is_ok()).map(Self::Picked))
+            }
+        }
+    }
+    fn show(&self) -> String {
+        match self {
+            Self::Bytes(key) => format!("key {}", hex(key)),
+            Self::Picked(selection) => format!("key of {}", selection.show()),
+        }
+    }
     /// The selection that it is of.
     pub fn selection(&self) -> Selection {
         match self {
@@ -88,12 +107,34 @@ impl Key {
 }
 
 impl Piece {
+    fn smaller(&self) -> Moves<'_, Self> {
+        match self {
+            Self::Bytes(piece) => Box::new(bytes(piece).map(Self::Bytes)),
+            Self::Row(values) => Box::new(each(values, shorter).map(Self::Row)),
+        }
+    }
+    fn show(&self) -> String {
+        match self {
+            Self::Bytes(piece) => format!("    bytes {}", hex(piece)),
+            Self::Row(values) => {
+                let shown: Vec<String> = values.iter().map(|v| text(v.as_bytes())).collect();
+                format!("    row {shown:?}")
+            }
+        }
+    }
     pub fn bytes(&self) -> Vec<u8> {
         match self {
             Self::Bytes(bytes) => bytes.clone(),
             Self::Row(values) => row_line(values),
         }
     }
+}
+
+/// A text with letters left out.
+fn shorter(value: &String) -> Moves<'_, String> {
+    let letters: Vec<char> = value.chars().collect();
+    let all: Vec<String> = fewer(&letters).map(String::from_iter).collect();
+    Box::new(all.into_iter())
 }
 
 pub fn fields(random: &mut Random) -> SourceFields {
@@ -175,6 +216,29 @@ impl Content {
             unfit(random, &mut content.sources[which].fields);
         }
         content
+    }
+    /// Fewer and shorter things; Routes stays the first table of the first source.
+    pub fn smaller(&self) -> Moves<'_, Self> {
+        let sources = fewer(&self.sources).chain(each(&self.sources, Source::smaller));
+        let routes_first = |sources: &Vec<Source>| {
+            sources.first().and_then(|s| s.tables.first()).is_some_and(|t| t.0 == 0)
+        };
+        let sources = sources.filter(routes_first);
+        let sources = sources.map(|sources| Self { sources, ..self.clone() });
+        let keys = self.key.smaller().map(|key| Self { key, ..self.clone() });
+        let stamp = self.stamp.map(|_| Self { stamp: None, ..self.clone() });
+        Box::new(sources.chain(keys).chain(stamp))
+    }
+    pub fn show(&self) -> Vec<String> {
+        let layer = if self.rows { "upper" } else { "lower" };
+        let (now, length) = (self.now, self.length());
+        let mut lines = vec![
+            format!("update by the {layer} calls, {length} bytes, now {now}"),
+            format!("  {}", self.key.show()),
+        ];
+        lines.extend(self.sources.iter().flat_map(Source::show));
+        lines.push(format!("  closing, stamp {:?}", self.stamp));
+        lines
     }
     pub fn length(&self) -> usize {
         self.data().0.len()
@@ -270,12 +334,41 @@ impl Source {
         let tables = tables.into_iter().map(|t| table(random, t, longest, rows)).collect();
         Self { fields: fields(random), tables }
     }
+    fn smaller(&self) -> Moves<'_, Self> {
+        let tables = fewer(&self.tables).chain(each(&self.tables, |(number, pieces)| {
+            let pieces = fewer(pieces).chain(each(pieces, Piece::smaller));
+            Box::new(pieces.map(|pieces| (*number, pieces)))
+        }));
+        let tables = tables.map(|tables| Self { tables, ..self.clone() });
+        let plain = SourceFields { start: 20260101, end: 20260101, ..SourceFields::default() };
+        let plain = (self.fields != plain).then(|| Self { fields: plain, ..self.clone() });
+        Box::new(tables.chain(plain))
+    }
+    fn show(&self) -> Vec<String> {
+        let mut lines = vec![format!("  source {}", show_record(&self.record()))];
+        for (number, pieces) in &self.tables {
+            lines.push(format!("    table {number}"));
+            lines.extend(pieces.iter().map(Piece::show));
+            lines.push("    table end".into());
+        }
+        lines
+    }
     /// Its record, 384 bytes.
     pub fn record(&self) -> [u8; 384] {
         let mut record = [0; 384];
         self.fields.encode(&mut record);
         record
     }
+}
+
+/// A source's record in words.
+pub fn show_record(record: &[u8]) -> String {
+    let word = |at: usize| {
+        let byte = |i: usize| record.get(at + i).copied().unwrap_or(0);
+        u32::from_le_bytes([byte(0), byte(1), byte(2), byte(3)])
+    };
+    let (start, end, present) = (word(0), word(4), word(8));
+    format!("{start} to {end}, present {present}, record {}", hex_then_zeros(record))
 }
 
 /// A region with leftovers: blank, random bytes or one byte, with banks of any

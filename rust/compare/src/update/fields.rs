@@ -1,4 +1,8 @@
 //! A state's numbers, read and put: the one place here that knows its form.
+use crate::{
+    run::hex_then_zeros,
+    shrink::{Moves, each, number, zeros},
+};
 use bankcore::update::State;
 use common::Random;
 
@@ -87,6 +91,30 @@ impl Fields {
         self.sources.iter().for_each(|source| bytes.extend(&source[..RECORD]));
         bytes.extend(self.tail);
         State::from_bytes(bytes.try_into().expect("a state's bytes"))
+    }
+    /// With a number or bytes that are smaller.
+    pub fn smaller(&self) -> Moves<'_, Self> {
+        let one = |n: &u32| -> Moves<'_, u32> { Box::new(number((*n).into()).map(|n| n as u32)) };
+        let numbers = each(&self.numbers, one);
+        let numbers = numbers.map(|n| Self { numbers: n.try_into().unwrap(), ..self.clone() });
+        let record = |bytes: &[u8; 384]| -> Vec<[u8; 384]> {
+            zeros(bytes).map(|b| b.try_into().unwrap()).collect()
+        };
+        let sources = each(&self.sources, move |s| Box::new(record(s).into_iter()));
+        let sources = sources.map(|s| Self { sources: s.try_into().unwrap(), ..self.clone() });
+        let tails = zeros(&self.tail).map(|t| Self { tail: t.try_into().unwrap(), ..self.clone() });
+        let times = (self.now, self.checked) != (0, 0);
+        let times = times.then(|| Self { now: 0, checked: 0, ..self.clone() });
+        Box::new(sources.chain(tails).chain(times).chain(numbers))
+    }
+    pub fn show(&self) -> String {
+        let Self { numbers, checked, now, sources, tail } = self;
+        let sources: Vec<String> = sources.iter().map(|s| hex_then_zeros(s)).collect();
+        format!(
+            "numbers {numbers:?}, checked {checked}, now {now}, sources {}, tail {}",
+            sources.join(" / "),
+            hex_then_zeros(tail)
+        )
     }
     /// Where the written bank starts in the region.
     pub fn target(&self) -> usize {
