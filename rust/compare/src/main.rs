@@ -14,6 +14,8 @@ mod run;
 mod shrink;
 mod stored;
 mod stores;
+#[cfg(test)]
+mod tests;
 mod unchanged;
 mod update;
 mod updates;
