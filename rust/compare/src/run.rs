@@ -13,8 +13,8 @@ use std::{
 
 /// How many differing inputs are shown, smallest first.
 const SHOWN: usize = 5;
-/// How long the smallest form of a part's case is looked for.
-const SEARCH: Duration = Duration::from_secs(20);
+/// How long the smallest form of a part's case is looked for; a test waits for it.
+const SEARCH: Duration = Duration::from_secs(if cfg!(test) { 600 } else { 20 });
 
 /// What is asked for.
 #[derive(Clone, Default)]
