@@ -1,6 +1,6 @@
 //! Keys and banks: the core beside the lifted Rust, built with crc32fast's table
 //! path and with SIMD.
-use crate::measure::{Times, measure};
+use crate::line::Line;
 use bankcore::banks::Picks;
 use common::{
     Random,
@@ -155,45 +155,33 @@ fn picks(count: usize) -> Vec<[String; 5]> {
         .collect()
 }
 
-pub fn banks(rounds: usize) {
-    println!("Keys and banks, one run on one machine, release builds, warm buffers.");
-    println!("core: this library. table: the lifted Rust over crc32fast's table path.");
-    println!("SIMD: the lifted Rust over crc32fast as it is. Each is handed its picks in");
-    println!("its own form. The core's key match tests the bank's header again, CRC and");
-    println!("records; the Rust's takes a bank already validated. `both test`: the Rust");
-    println!("validates the bank first, whose data are the key and a byte.");
-    println!();
+/// Both must answer the same, and not nothing.
+fn line(name: &str, mark: Option<f64>, runs: Runs, case: Case, rounds: usize) -> Line {
+    let line = Line::new(name, "Rust", mark);
+    let answers = runs.map(|run| run(&case));
+    if answers.iter().any(|a| *a != answers[1] || *a == 0) {
+        return line;
+    }
+    let rounds = if name.contains("full") { rounds / 10 } else { rounds };
+    line.timed(runs, &case, rounds, 1)
+}
+
+pub fn lines(rounds: usize) -> Vec<Line> {
     let full = |spoilt| Case::new(CAPACITY, 20, &picks(16), spoilt);
     let small = |identity, count| Case::new(0, identity, &picks(count), false);
-    let cases: [(&str, Runs, Case); 11] = [
-        ("load, two full banks", LOAD, full(false)),
-        ("load, two full banks, the newer bad", LOAD, full(true)),
-        ("validate, one full bank", VALIDATE, full(false)),
-        ("key, 1 pick", KEY, small(20, 1)),
-        ("key, 16 picks", KEY, small(20, 16)),
-        ("key, 16 picks, identity of 65535", KEY, small(LONGEST, 16)),
-        ("key match, 1 pick", SAME_KEY, small(20, 1)),
-        ("key match, 16 picks", SAME_KEY, small(20, 16)),
-        ("key match, 16 picks, identity of 65535", SAME_KEY, small(LONGEST, 16)),
-        ("key match, 1 pick, both test", TESTED_SAME_KEY, small(20, 1)),
-        ("key match, 16 picks, both test", TESTED_SAME_KEY, small(20, 16)),
+    let mark = Some(1.0);
+    let cases = [
+        ("load, two full banks", mark, LOAD, full(false)),
+        ("load, two full banks, the newer bad", mark, LOAD, full(true)),
+        ("validate, one full bank", mark, VALIDATE, full(false)),
+        ("key, 1 pick", None, KEY, small(20, 1)),
+        ("key, 16 picks", None, KEY, small(20, 16)),
+        ("key, 16 picks, identity of 65,535", None, KEY, small(LONGEST, 16)),
+        ("key match, 1 pick", None, SAME_KEY, small(20, 1)),
+        ("key match, 16 picks", mark, SAME_KEY, small(20, 16)),
+        ("key match, 16 picks, identity of 65,535", mark, SAME_KEY, small(LONGEST, 16)),
+        ("key match, 1 pick, both test", mark, TESTED_SAME_KEY, small(20, 1)),
+        ("key match, 16 picks, both test", mark, TESTED_SAME_KEY, small(20, 16)),
     ];
-    println!("Lower decile of the batches");
-    print!("{:>40}", "");
-    println!("{:>33}{:>24}", "nanoseconds a call", "table's as 1");
-    print!("{:>40}", "");
-    println!("{:>11}{:>11}{:>11}{:>12}{:>12}", "core", "table", "SIMD", "core", "SIMD");
-    for (name, runs, case) in &cases {
-        let answers = runs.map(|run| run(case));
-        if answers.iter().any(|a| *a != answers[1] || *a == 0) {
-            println!("{name:<40} the answers differ: {answers:?}");
-            continue;
-        }
-        let rounds = if name.contains("full") { rounds / 10 } else { rounds };
-        let times: [Times; 3] = measure(*runs, case, rounds);
-        print!("{name:<40}");
-        times.iter().for_each(|t| print!("{:>11.1}", t.decile));
-        print!("{:>12.2}", times[1].decile / times[0].decile);
-        println!("{:>12.2}", times[1].decile / times[2].decile);
-    }
+    cases.map(|(name, mark, runs, case)| line(name, mark, runs, case, rounds)).into()
 }

@@ -4,12 +4,6 @@ use std::{hint::black_box, time::Instant};
 /// About how long a batch lasts, in nanoseconds.
 const BATCH: f64 = 20_000.0;
 
-#[derive(Clone, Copy)]
-pub struct Times {
-    pub decile: f64,
-    pub median: f64,
-}
-
 fn batch<I: ?Sized, R>(run: fn(&I) -> R, input: &I, times: usize) -> f64 {
     let start = Instant::now();
     for _ in 0..times {
@@ -18,11 +12,12 @@ fn batch<I: ?Sized, R>(run: fn(&I) -> R, input: &I, times: usize) -> f64 {
     start.elapsed().as_nanos() as f64 / times as f64
 }
 
+/// Nanoseconds a call of each, the lower decile of its batches.
 pub fn measure<I: ?Sized, R, const N: usize>(
     runs: [fn(&I) -> R; N],
     input: &I,
     rounds: usize,
-) -> [Times; N] {
+) -> [f64; N] {
     let repeats = runs.map(|run| {
         let warm = (0..5).map(|_| batch(run, input, 4)).fold(f64::MAX, f64::min);
         ((BATCH / warm.max(1.0)) as usize).clamp(1, 4000)
@@ -36,6 +31,6 @@ pub fn measure<I: ?Sized, R, const N: usize>(
     }
     samples.map(|mut times| {
         times.sort_unstable_by(f64::total_cmp);
-        Times { decile: times[times.len() / 10], median: times[times.len() / 2] }
+        times[times.len() / 10]
     })
 }

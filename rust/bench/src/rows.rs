@@ -1,5 +1,5 @@
 //! Rows: the core beside csv-core, writing and reading.
-use crate::measure::{Times, measure};
+use crate::line::Line;
 use bankcore::rows::{self, Values};
 use common::Random;
 use csv_core::{ReadRecordResult, Reader, WriteResult, Writer};
@@ -215,62 +215,16 @@ fn cases() -> Vec<(&'static str, Case)> {
     ]
 }
 
-/// The shapes that are rows of tables; the others are made to be hard.
-const TABLES: usize = 6;
+type Run = fn(&Case) -> u64;
+const WAYS: [(&str, [Run; 2]); 2] =
+    [("written", [core::write, csv::write]), ("read", [core::read, csv::read])];
 
-/// Whether both ways reached 1.0 times csv-core on a row of each table together.
-pub fn rows(rounds: usize) -> bool {
-    println!("Rows, one run on one machine, release builds, warm buffers. core: this");
-    println!("library. csv: csv-core's writer and reader. {ROWS} rows of a shape are written");
-    println!("or read one after the other; the core takes a row's values in a call, csv-core");
-    println!("a value. The core reads a row whole before it hands out any of it.");
-    println!();
-    println!("Lower decile of the batches");
-    println!("{:>26}{:>8}{:>34}{:>34}", "", "bytes", "writing, ns a row", "reading, ns a row");
-    print!("{:>26}{:>8}", "", "a row");
-    for _ in 0..2 {
-        print!("{:>12}{:>11}{:>11}", "core", "csv", "csv/core");
-    }
-    println!();
-    let mut reached = true;
-    let mut low = Vec::new();
-    let mut sums = [[0.0; 2]; 2];
-    for (k, (name, case)) in cases().iter().enumerate() {
-        if !same(case) {
-            println!("{name:<26} the answers differ");
-            reached = false;
-            continue;
-        }
-        print!("{name:<26}{:>8.1}", case.table.len() as f64 / ROWS as f64);
-        for (sum, (way, runs)) in sums.iter_mut().zip([
-            ("writing", [core::write as fn(&Case) -> u64, csv::write]),
-            ("reading", [core::read, csv::read]),
-        ]) {
-            let [a, b]: [Times; 2] = measure(runs, case, rounds);
-            let ratio = b.decile / a.decile;
-            let each = |t: Times| t.decile / ROWS as f64;
-            print!("{:>12.1}{:>11.1}{ratio:>11.2}", each(a), each(b));
-            if k < TABLES {
-                sum[0] += each(a);
-                sum[1] += each(b);
-            }
-            if ratio < 1.0 {
-                low.push(format!("{way} {name} {ratio:.2}"));
-            }
-        }
-        println!();
-    }
-    print!("{:<26}{:>8}", "a row of each table", "");
-    for [core, csv] in sums {
-        print!("{core:>12.1}{csv:>11.1}{:>11.2}", csv / core);
-        reached &= csv >= core;
-    }
-    println!();
-    println!();
-    let said = if reached { "yes" } else { "no" };
-    println!("reach: rows: at least 1.0 both ways, a row of each table together: {said}");
-    println!("shapes below 1.0: {}", if low.is_empty() { "none" } else { "" });
-    low.iter().for_each(|text| println!("  {text}"));
-    println!();
-    reached
+pub fn lines(rounds: usize) -> Vec<Line> {
+    let cases = cases();
+    let all = WAYS.iter().flat_map(|way| cases.iter().map(move |case| (way, case)));
+    let line = |((way, runs), (name, case)): (&(&str, [Run; 2]), &(&str, Case))| {
+        let line = Line::new(format!("row {way}: {name}"), "csv-core", Some(1.0));
+        if same(case) { line.timed(*runs, case, rounds, ROWS) } else { line }
+    };
+    all.map(line).collect()
 }

@@ -1,9 +1,9 @@
 //! A full update, by bytes and by rows: the core's calls beside the lifted
 //! `Writer`, built with crc32fast's table path and with SIMD.
-use crate::measure::{Times, measure};
+use crate::{line::Line, table::grouped};
 use bankcore::{
     rows::{self, Values},
-    update::{Answer, NONE_DUE, State},
+    update::{NONE_DUE, State},
 };
 use common::Random;
 use lifted::cache::door::SourceFields;
@@ -12,8 +12,8 @@ use std::cell::RefCell;
 const REGION: usize = 983_040;
 const BANK: usize = 491_520;
 const CAPACITY: usize = 487_424;
-const NOW: i64 = 1_790_000_000;
-const DATES: [u32; 2] = [20_260_101, 20_261_231];
+pub const NOW: i64 = 1_790_000_000;
+pub const DATES: [u32; 2] = [20_260_101, 20_261_231];
 const PIECES: [usize; 3] = [256, 1500, 4096];
 /// About how many bytes the tables' rows have; the last takes what is left.
 const SHARES: [(u32, usize); 8] = [
@@ -27,26 +27,26 @@ const SHARES: [(u32, usize); 8] = [
     (3, CAPACITY),
 ];
 
-struct Row {
-    texts: Vec<u8>,
-    lengths: Vec<u32>,
+pub struct Row {
+    pub texts: Vec<u8>,
+    pub lengths: Vec<u32>,
     values: Vec<String>,
 }
 
-struct Table {
+pub struct Table {
     number: u32,
     names: Vec<u8>,
-    rows: Vec<Row>,
+    pub rows: Vec<Row>,
     /// The rows as they are stored.
     text: Vec<u8>,
 }
 
-struct Case {
+pub struct Case {
     key: Vec<u8>,
-    record: [u8; 384],
-    tables: Vec<Table>,
+    pub record: [u8; 384],
+    pub tables: Vec<Table>,
     piece: usize,
-    region: RefCell<Vec<u8>>,
+    pub region: RefCell<Vec<u8>>,
 }
 
 fn texts<const N: usize>(values: [&str; N]) -> Vec<String> {
@@ -113,7 +113,7 @@ impl Table {
 }
 
 impl Case {
-    fn new() -> Self {
+    pub fn new() -> Self {
         let mut random = Random::new(1);
         let key = random.bytes(300);
         let mut record = [0; 384];
@@ -125,14 +125,7 @@ impl Case {
             room -= table.names.len() + table.text.len();
             tables.push(table);
         }
-        Self { key, record, tables, piece: 0, region: RefCell::new(vec![0; REGION]) }
-    }
-    fn length(&self) -> usize {
-        let tables = self.tables.iter().map(|t| t.names.len() + t.text.len());
-        self.key.len() + 8 + tables.sum::<usize>()
-    }
-    fn row_count(&self) -> usize {
-        self.tables.iter().map(|t| t.rows.len()).sum()
+        Self { key, record, tables, piece: 4096, region: RefCell::new(vec![0; REGION]) }
     }
     /// No bank is good any more, so that every run does the same.
     fn forget(&self) {
@@ -146,7 +139,7 @@ fn fields() -> SourceFields {
     SourceFields { start: DATES[0], end: DATES[1], ..SourceFields::default() }
 }
 
-mod core {
+pub mod core {
     use super::*;
 
     /// Offers a piece until all of it is taken.
@@ -161,19 +154,14 @@ mod core {
         }
     }
     /// Begins, and feeds the key.
-    fn begin(case: &Case, region: &mut [u8]) -> State {
-        let (mut state, _) = State::new(region, false, NOW);
+    pub fn begin(case: &Case, region: &mut [u8], comparing: bool) -> State {
+        let (mut state, _) = State::new(region, comparing, NOW);
         offer(&mut state, region, &case.key);
         state
     }
-    fn commit(state: &mut State, region: &mut [u8]) -> u32 {
-        let header = state.commit(region, None, true).refusal;
-        header + state.commit_word(region).refusal
-    }
-    pub fn by_bytes(case: &Case) -> u32 {
-        case.forget();
-        let region = &mut case.region.borrow_mut()[..];
-        let mut state = begin(case, region);
+    /// Feeds all by bytes, and closes.
+    pub fn fed(case: &Case, region: &mut [u8], comparing: bool) -> State {
+        let mut state = begin(case, region, comparing);
         state.source(&case.record);
         DATES.iter().for_each(|d| offer(&mut state, region, &d.to_le_bytes()));
         for table in &case.tables {
@@ -184,12 +172,21 @@ mod core {
         }
         state.close();
         while state.due(region).answer != NONE_DUE {}
-        commit(&mut state, region)
+        state
+    }
+    fn commit(state: &mut State, region: &mut [u8]) -> u32 {
+        let header = state.commit(region, None, true).refusal;
+        header + state.commit_word(region).refusal
+    }
+    pub fn by_bytes(case: &Case) -> u32 {
+        case.forget();
+        let region = &mut case.region.borrow_mut()[..];
+        commit(&mut fed(case, region, false), region)
     }
     pub fn by_rows(case: &Case) -> u32 {
         case.forget();
         let region = &mut case.region.borrow_mut()[..];
-        let mut state = begin(case, region);
+        let mut state = begin(case, region, false);
         state.upper_source(region, &case.record);
         for table in &case.tables {
             state.upper_table(region, table.number);
@@ -201,28 +198,6 @@ mod core {
         }
         state.upper_close(region);
         commit(&mut state, region)
-    }
-    /// States before calls, one for each name in `CALLS`.
-    pub fn states(case: &Case) -> Vec<State> {
-        case.forget();
-        let region = &mut case.region.borrow_mut()[..];
-        let mut open = begin(case, region);
-        open.source(&case.record);
-        open.start(0);
-        let mut due = open;
-        while due.append(&[7; 256]).count > 0 {}
-        // past the first write, so that one write is due and no erase
-        let mut write = due;
-        while write.due(region).answer != NONE_DUE {}
-        while write.append(&[7; 256]).count > 0 {}
-        let mut ended = open;
-        ended.end();
-        let mut closed = ended;
-        closed.close();
-        while closed.due(region).answer != NONE_DUE {}
-        let mut headed = closed;
-        headed.commit(region, None, true);
-        vec![open, open, write, open, ended, closed, headed]
     }
 }
 
@@ -354,95 +329,18 @@ fn same(case: &Case, runs: Runs) -> bool {
     })
 }
 
-/// A state before a call, and what the call takes.
-struct Call {
-    state: State,
-    bytes: Vec<u8>,
-    lengths: Vec<u32>,
-    region: RefCell<Vec<u8>>,
-}
-
-impl Call {
-    /// A call on a copy of the state; its refusal.
-    fn on(&self, run: impl FnOnce(&mut State, &mut [u8]) -> Answer) -> u32 {
-        let mut state = self.state;
-        run(&mut state, &mut self.region.borrow_mut()).refusal
-    }
-}
-
-type Run = fn(&Call) -> u32;
-const CALLS: [(&str, Run); 7] = [
-    ("bytes, 256", |call| call.on(|state, _| state.append(&call.bytes))),
-    ("row", |call| {
-        let values = Values { texts: &call.bytes, lengths: &call.lengths };
-        call.on(|state, region| state.upper_row(region, values))
-    }),
-    ("due, a write", |call| call.on(|state, region| state.due(region))),
-    ("table end", |call| call.on(|state, _| state.end())),
-    ("close", |call| call.on(|state, _| state.close())),
-    ("commit", |call| call.on(|state, region| state.commit(region, None, true))),
-    ("commit word", |call| call.on(|state, region| state.commit_word(region))),
-];
-
-fn calls(case: &Case, rounds: usize) {
-    println!("Nanoseconds a call, a copy of the state included");
-    for (k, ((name, run), state)) in CALLS.iter().zip(core::states(case)).enumerate() {
-        let row = &case.tables[0].rows[0];
-        let (bytes, lengths) = match k {
-            1 => (row.texts.clone(), row.lengths.clone()),
-            _ => (vec![7; 256], Vec::new()),
-        };
-        let region = RefCell::new(case.region.borrow().clone());
-        let call = Call { state, bytes, lengths, region };
-        if run(&call) != 0 {
-            println!("{name:<16} refused");
-            continue;
-        }
-        let [time]: [Times; 1] = measure([*run], &call, rounds);
-        println!("{name:<16}{:>10.1}", time.decile);
-    }
-    println!();
-}
-
-/// Whether an update reached 0.5 times the Rust's speed, by bytes and by rows.
-pub fn updates(rounds: usize) -> bool {
+pub fn lines(rounds: usize) -> Vec<Line> {
     let mut case = Case::new();
-    let (length, rows) = (case.length(), case.row_count());
-    println!("A full update of {length} bytes, {rows} rows, one run on one machine, release");
-    println!("builds, warm buffers, the flash in memory. core: this library. table: the lifted");
-    println!("Rust over crc32fast's table path. SIMD: the lifted Rust over crc32fast as it is.");
-    println!();
-    println!("Lower decile of the batches; the Rust's time over the core's");
-    println!("{:>26}{:>33}{:>18}", "", "microseconds an update", "Rust/core");
-    print!("{:>26}", "");
-    println!("{:>11}{:>11}{:>11}{:>9}{:>9}", "core", "table", "SIMD", "table", "SIMD");
-    let ways =
-        PIECES.iter().map(|piece| (format!("by bytes, {piece} at a time"), *piece, BY_BYTES));
-    let ways = ways.chain([("by rows".into(), 0, BY_ROWS)]);
-    let mut reached = true;
-    let mut low = Vec::new();
-    for (name, piece, runs) in ways {
+    let bytes =
+        PIECES.map(|n| (format!("full update by bytes, {} at a time", grouped(n)), n, BY_BYTES));
+    let mut line = |(name, piece, runs)| {
         case.piece = piece;
-        print!("{name:<26}");
-        if !same(&case, runs) {
-            println!(" the regions differ");
-            reached = false;
-            continue;
-        }
-        let times: [Times; 3] = measure(runs, &case, rounds);
-        times.iter().for_each(|t| print!("{:>11.1}", t.decile / 1000.0));
-        let ratios = [1, 2].map(|i| times[i].decile / times[0].decile);
-        println!("{:>9.2}{:>9.2}", ratios[0], ratios[1]);
-        if ratios[0] < 0.5 {
-            low.push(format!("{name} {:.2}", ratios[0]));
-        }
-    }
-    println!();
-    calls(&case, rounds);
-    reached &= low.is_empty();
-    let said = if reached { "yes" } else { "no" };
-    println!("reach: updates: at least 0.5 times the table path, each way: {said}");
-    low.iter().for_each(|text| println!("  {text}"));
-    println!();
-    reached
+        let line = Line::new(name, "Rust", Some(0.5));
+        if same(&case, runs) { line.timed(runs, &case, rounds, 1) } else { line }
+    };
+    bytes
+        .into_iter()
+        .chain([("full update by rows".into(), 4096, BY_ROWS)])
+        .map(&mut line)
+        .collect()
 }

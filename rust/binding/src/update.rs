@@ -136,7 +136,10 @@ pub struct State {
 /// the other, little-endian.
 pub const SIZE: usize = 16 + 36 + 8 + 44 + 3 * 339 + 256;
 
-const _: () = assert!(size_of::<State>() == 1400 && size_of::<Step>() == 1416);
+/// How many bytes an answer with its state has where it crosses.
+pub const STEP: usize = size_of::<Step>();
+
+const _: () = assert!(size_of::<State>() == 1400 && STEP == 1416);
 
 /// Goes over a state's bytes in order, and copies them to or from the state.
 struct Copier<'a> {
