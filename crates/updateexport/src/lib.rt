@@ -49,13 +49,19 @@ pub extern "C" fn tt_update_table(state: State, table: u32) -> UpdateStep
     after(s, state)
 }
 
-// Takes bytes until the tail is full, and says how many; none while an operation is due.
+// Takes bytes until the tail is full, and says how many; none while an operation is due. What it leaves of the state comes from the state
+// itself, which saves copies of it.
 #[no_mangle]
 pub extern "C" fn tt_update_bytes(state: State, bytes: &[u8]) -> UpdateStep
     ensures { λ x. ⌜ x ≡ Answers.after (Lower.bytesStep (writerOf state) (now (bytes .entry))) state ⌝ }
 {
     let s = take::bytes(writer_of(state), bytes);
-    after(s, state)
+    let x = after(s, state);
+    let numbers = x.numbers;
+    let sources = state.sources;
+    let mut v = x.state;
+    v.sources = sources;
+    UpdateStep { numbers, state: v }
 }
 
 // Ends the open table.
@@ -76,14 +82,21 @@ pub extern "C" fn tt_update_close(state: State) -> UpdateStep
     after(s, state)
 }
 
-// Does the erase, write or comparison that is due, or says that none is.
+// Does the erase, write or comparison that is due, or says that none is. What it leaves of the state comes from the state itself.
 #[no_mangle]
 pub extern "C" fn tt_update_due(region: &mut [u8], state: State) -> UpdateStep
     ensures { λ x. ⌜ x ≡ Answers.after (Due.dueStep (now (region .entry)) (writerOf state)) state ⌝ }
     ensures { λ _. ⌜ now (region .exit) ≡ Due.dueRegion (now (region .entry)) (writerOf state) ⌝ }
 {
     let s = due::due(writer_of(state), region);
-    after(s, state)
+    let x = after(s, state);
+    let numbers = x.numbers;
+    let sources = state.sources;
+    let tail = state.tail;
+    let mut v = x.state;
+    v.sources = sources;
+    v.tail = tail;
+    UpdateStep { numbers, state: v }
 }
 
 // Whether the active bank is what was compared with it.
