@@ -227,13 +227,6 @@ impl State {
         *self = step.state;
         step.answer
     }
-    /// Takes what can be other than before: `due` changes numbers, `append` the
-    /// tail too, and neither a source (crates/lower/specs/Lower.antt,
-    /// crates/due/specs/Due.antt).
-    fn take_numbers(&mut self, state: &State) {
-        (self.stage, self.bank) = (state.stage, state.bank);
-        (self.now, self.numbers) = (state.now, state.numbers);
-    }
 }
 
 /// The lower layer: a call does at most one flash operation.
@@ -266,9 +259,7 @@ impl State {
     /// operation is due.
     pub fn append(&mut self, bytes: &[u8]) -> Answer {
         let step = unsafe { tt_update_bytes(*self, bytes.as_ptr(), bytes.len()) };
-        self.take_numbers(&step.state);
-        self.tail = step.state.tail;
-        step.answer
+        self.take(step)
     }
     /// Ends the open table.
     pub fn end(&mut self) -> Answer {
@@ -283,8 +274,7 @@ impl State {
     /// Does the erase, write or comparison that is due, or says that none is.
     pub fn due(&mut self, region: &mut [u8]) -> Answer {
         let step = unsafe { tt_update_due(region.as_mut_ptr(), region.len(), *self) };
-        self.take_numbers(&step.state);
-        step.answer
+        self.take(step)
     }
     /// Whether the active bank is what was compared with it.
     pub fn unchanged(&mut self, region: &[u8]) -> Answer {
@@ -370,40 +360,5 @@ impl State {
     pub fn upper_close(&mut self, region: &mut [u8]) -> Answer {
         let step = unsafe { tt_upper_close(region.as_mut_ptr(), region.len(), *self) };
         self.take(step)
-    }
-}
-
-#[cfg(test)]
-mod tests {
-    use super::*;
-
-    /// Any bytes, and states of an update: a call that is answered and one that is
-    /// refused give back the parts that the binding doesn't take as they were.
-    #[test]
-    fn append_and_due_leave_what_is_not_taken() {
-        let mut region = vec![255; 983_040];
-        let mut state = State::new(&region, false, 7).0;
-        let mut seed = 1u32;
-        for i in 0..4000 {
-            seed = seed.wrapping_mul(1_664_525).wrapping_add(1_013_904_223);
-            let (piece, n) = ([seed as u8; 300], (seed >> 23) as usize % 300);
-            let mut forged = state.to_bytes();
-            forged[(seed >> 9) as usize % SIZE] ^= 1 << (i % 8);
-            for was in [state, State::from_bytes(forged)] {
-                let bytes = unsafe { tt_update_bytes(was, piece.as_ptr(), n) };
-                assert_eq!(bytes.state.sources, was.sources);
-                let (at, was) = (region.as_mut_ptr(), bytes.state);
-                let due = unsafe { tt_update_due(at, region.len(), was) };
-                assert_eq!((due.state.sources, due.state.tail), (was.sources, was.tail));
-            }
-            state.append(&piece[..n]);
-            if i % 3 == 0 {
-                state.due(&mut region);
-            }
-            if i % 97 == 0 {
-                state.source(&[seed as u8; 384]);
-                state.start(i % 8);
-            }
-        }
     }
 }
