@@ -77,11 +77,28 @@ fn lengths(list: &str) -> Option<Vec<u32>> {
     }
 }
 
+fn key(identity: &str, texts: &str, lengths: &str) -> Option<String> {
+    let (texts, lengths) = (bytes(texts)?, self::lengths(lengths)?);
+    let mut out = vec![0; LONGEST_KEY];
+    let picks = Picks { texts: &texts, lengths: &lengths };
+    Some(match bankcore::banks::key(&bytes(identity)?, picks, &mut out) {
+        KeyAnswer { refusal: 0, length } => hex(&out[..length]),
+        KeyAnswer { refusal, .. } => format!("refusal {refusal}"),
+    })
+}
+
 fn line(answer: RowAnswer, out: &[u8]) -> String {
     match answer {
         RowAnswer { refusal: 0, length } => hex(&out[..length]),
         RowAnswer { refusal, .. } => format!("refusal {refusal}"),
     }
+}
+
+fn row(table: u32, texts: &str, lengths: &str) -> Option<String> {
+    let (texts, lengths) = (bytes(texts)?, self::lengths(lengths)?);
+    let mut out = [0; LONGEST_ROW];
+    let values = Values { texts: &texts, lengths: &lengths };
+    Some(line(rows::row(table, values, &mut out), &out))
 }
 
 fn read(table: &[u8], width: usize, place: usize) -> String {
@@ -142,26 +159,13 @@ fn answer(request: &str) -> Option<String> {
             bankcore::put_time(&mut b, i.parse().ok()?, v.parse().ok()?);
             hex(&b)
         }
-        ["key", identity, texts, lengths] => {
-            let (texts, lengths) = (bytes(texts)?, self::lengths(lengths)?);
-            let mut out = vec![0; LONGEST_KEY];
-            let picks = Picks { texts: &texts, lengths: &lengths };
-            match bankcore::banks::key(&bytes(identity)?, picks, &mut out) {
-                KeyAnswer { refusal: 0, length } => hex(&out[..length]),
-                KeyAnswer { refusal, .. } => format!("refusal {refusal}"),
-            }
-        }
+        ["key", identity, texts, lengths] => key(identity, texts, lengths)?,
         ["columns", table] => rows::column_count(table.parse().ok()?).to_string(),
         ["names", table] => {
             let mut out = [0; LONGEST_ROW];
             line(rows::names_line(table.parse().ok()?, &mut out), &out)
         }
-        ["row", table, texts, lengths] => {
-            let (texts, lengths) = (bytes(texts)?, self::lengths(lengths)?);
-            let mut out = [0; LONGEST_ROW];
-            let values = Values { texts: &texts, lengths: &lengths };
-            line(rows::row(table.parse().ok()?, values, &mut out), &out)
-        }
+        ["row", table, texts, lengths] => row(table.parse().ok()?, texts, lengths)?,
         ["read", table, width, place] => {
             read(&bytes(table)?, width.parse().ok()?, place.parse().ok()?)
         }
