@@ -151,6 +151,44 @@ fn long(random: &mut Random, length: usize, with: char, every: usize) -> String 
     (0..length).map(letter).collect()
 }
 
+fn route(random: &mut Random, i: usize) -> Vec<String> {
+    texts([&format!("R:{:07}", random.below(9_999_999)), &format!("{i}"), "700"])
+}
+
+fn stop(random: &mut Random, i: usize) -> Vec<String> {
+    let name = match random.below(6) {
+        0 => format!("Platz \"{i}\""),
+        1 => format!("Stop {i}, east"),
+        _ => format!("Main Street {i}"),
+    };
+    texts([&format!("NSR:{:06}", random.below(999_999)), &format!("4{i:04}"), &name])
+}
+
+fn trip(random: &mut Random, i: usize) -> Vec<String> {
+    let route = format!("R:{:07}", random.below(9_999_999));
+    let trip = format!("T:{:09}", random.below(999_999_999));
+    texts([&route, &format!("S{i}"), &trip, "Central Station", "1"])
+}
+
+fn stop_time(random: &mut Random, i: usize) -> Vec<String> {
+    let trip = format!("T:{:09}", random.below(999_999_999));
+    let stop = format!("NSR:{:06}", random.below(999_999));
+    let time = format!("{:02}:{:02}:00", random.below(24), random.below(60));
+    texts([&trip, &stop, &format!("{i}"), &time, &time, "0", "0", "Central"])
+}
+
+fn calendar(random: &mut Random, i: usize) -> Vec<String> {
+    let mut values = vec![format!("S{i}")];
+    values.extend((0..7).map(|_| random.below(2).to_string()));
+    values.extend(texts(["20260101", "20261231"]));
+    values
+}
+
+fn transfer(random: &mut Random, _: usize) -> Vec<String> {
+    let stops = [0; 2].map(|_| format!("NSR:{:06}", random.below(999_999)));
+    texts([&stops[0], &stops[1], "2", "180", "", "", "", ""])
+}
+
 fn cases() -> Vec<(&'static str, Case)> {
     let long_row = |with, every| {
         move |random: &mut Random, _: usize| {
@@ -158,56 +196,12 @@ fn cases() -> Vec<(&'static str, Case)> {
         }
     };
     vec![
-        (
-            "Routes",
-            Case::new(0, |random, i| {
-                texts([&format!("R:{:07}", random.below(9_999_999)), &format!("{i}"), "700"])
-            }),
-        ),
-        (
-            "Stops, a third quoted",
-            Case::new(1, |random, i| {
-                let name = match random.below(6) {
-                    0 => format!("Platz \"{i}\""),
-                    1 => format!("Stop {i}, east"),
-                    _ => format!("Main Street {i}"),
-                };
-                texts([&format!("NSR:{:06}", random.below(999_999)), &format!("4{i:04}"), &name])
-            }),
-        ),
-        (
-            "Trips",
-            Case::new(2, |random, i| {
-                let route = format!("R:{:07}", random.below(9_999_999));
-                let trip = format!("T:{:09}", random.below(999_999_999));
-                texts([&route, &format!("S{i}"), &trip, "Central Station", "1"])
-            }),
-        ),
-        (
-            "StopTimes",
-            Case::new(3, |random, i| {
-                let trip = format!("T:{:09}", random.below(999_999_999));
-                let stop = format!("NSR:{:06}", random.below(999_999));
-                let time = format!("{:02}:{:02}:00", random.below(24), random.below(60));
-                texts([&trip, &stop, &format!("{i}"), &time, &time, "0", "0", "Central"])
-            }),
-        ),
-        (
-            "Calendar",
-            Case::new(4, |random, i| {
-                let mut values = vec![format!("S{i}")];
-                values.extend((0..7).map(|_| random.below(2).to_string()));
-                values.extend(texts(["20260101", "20261231"]));
-                values
-            }),
-        ),
-        (
-            "Transfers, mostly empty",
-            Case::new(7, |random, _| {
-                let stops = [0; 2].map(|_| format!("NSR:{:06}", random.below(999_999)));
-                texts([&stops[0], &stops[1], "2", "180", "", "", "", ""])
-            }),
-        ),
+        ("Routes", Case::new(0, route)),
+        ("Stops, a third quoted", Case::new(1, stop)),
+        ("Trips", Case::new(2, trip)),
+        ("StopTimes", Case::new(3, stop_time)),
+        ("Calendar", Case::new(4, calendar)),
+        ("Transfers, mostly empty", Case::new(7, transfer)),
         ("long values, plain", Case::new(1, long_row('x', 0))),
         ("long values, commas", Case::new(1, long_row(',', 30))),
         ("long values, few quotes", Case::new(1, long_row('"', 60))),
