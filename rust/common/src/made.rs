@@ -100,6 +100,24 @@ fn block(random: &mut Random, key: u32, length: u32) -> [u32; 3] {
     [offset, size, random.u32()]
 }
 
+/// An updated time at or past its bounds.
+fn odd_time(random: &mut Random, checked: i64) -> i64 {
+    match random.below(3) {
+        0 => checked.wrapping_add(1),
+        1 => checked.wrapping_sub(1),
+        _ => random.pick(&[UNKNOWN, UNKNOWN + 1, -1, 0, 1, i64::MAX]),
+    }
+}
+
+/// A block at or past its bounds.
+fn odd_block(random: &mut Random, key: u32, length: u32) -> [u32; 3] {
+    let near = |n: u32| [n.wrapping_sub(1), n, n.wrapping_add(1)];
+    let offset = random.pick(&[&[0][..], &near(key), &near(length)].concat());
+    let over = (length as i64 + 1 - offset as i64) as u32;
+    let size = random.pick(&[0, 1, 2, over, over.wrapping_sub(1), LAST, LAST - offset]);
+    [offset, size, random.u32()]
+}
+
 /// Stamp, id and validator: what the Rust finds sensible, or nearly so, or
 /// anything.
 fn rest(random: &mut Random) -> Vec<u8> {
@@ -193,29 +211,18 @@ impl Made {
 
     /// Sets one field to something at or past its bounds.
     pub fn damage(&mut self, random: &mut Random) {
-        let (key, length, checked) = (self.key, self.length, self.checked);
+        let (key, length) = (self.key, self.length);
+        let (under, over) = (length.wrapping_sub(1), length.wrapping_add(1));
         let record = &mut self.records[random.below(3)];
         let t = random.below(8);
         match random.below(20) {
             0 => self.magic[random.below(4)] ^= 1 << random.below(8),
             1 => self.version = random.pick(&[0, 1, 2, 3, 4, 255, 256, 0x0100_0003, LAST]),
             2 => self.commit ^= 1 << random.below(32),
-            3 => {
-                self.length =
-                    random.pick(&[0, 1, key, key.wrapping_sub(1), length.wrapping_add(1), LAST])
-            }
+            3 => self.length = random.pick(&[0, 1, key, key.wrapping_sub(1), over, LAST]),
             4 => self.length = random.pick(&[0, CAPACITY as u32 + 1, 1 << 31, LAST]),
             5 => self.count = random.pick(&[0, 1, 2, 3, 4, 255, 256, 257, LAST]),
-            6 => {
-                self.key = random.pick(&[
-                    0,
-                    1,
-                    length,
-                    length.wrapping_sub(1),
-                    length.wrapping_add(1),
-                    LAST,
-                ])
-            }
+            6 => self.key = random.pick(&[0, 1, length, under, over, LAST]),
             7 => self.checked = random.pick(&[-1, 0, 1, i64::MIN, i64::MAX, -(1 << 32)]),
             8 => self.crc = Some(random.u32()),
             9 => self.seal = Some(random.u32()),
@@ -223,43 +230,25 @@ impl Made {
             11 => record.end = random.pick(&NO_DAYS),
             12 => (record.start, record.end) = (random.pick(&DAYS), random.pick(&DAYS)),
             13 => record.present = random.pick(&[0, 127, 128, 255, 256, 257, 1 << 31, LAST]),
-            14 => {
-                let near = [UNKNOWN, UNKNOWN + 1, -1, 0, 1, i64::MAX];
-                record.updated = match random.below(3) {
-                    0 => checked.wrapping_add(1),
-                    1 => checked.wrapping_sub(1),
-                    _ => random.pick(&near),
-                }
-            }
+            14 => record.updated = odd_time(random, self.checked),
             15 => {
                 record.tables[t] =
                     [random.pick(&[LAST, LAST - 1, length]), random.pick(&[0, 1, 2, LAST]), 0]
             }
-            16 => {
-                let offset = random.pick(&[
-                    0,
-                    key.wrapping_sub(1),
-                    key,
-                    key.wrapping_add(1),
-                    length.wrapping_sub(1),
-                    length,
-                    length.wrapping_add(1),
-                ]);
-                let over = (length as i64 + 1 - offset as i64) as u32;
-                let size = random.pick(&[0, 1, 2, over, over.wrapping_sub(1), LAST, LAST - offset]);
-                record.tables[t] = [offset, size, random.u32()];
-            }
-            17 => {
-                // anything in the records past the count
-                for record in &mut self.records[(self.count as usize).min(3)..] {
-                    record.start = random.u32();
-                    record.present = random.u32();
-                    record.updated = random.u64() as i64;
-                    record.tables[t] = [random.u32(), random.u32(), random.u32()];
-                }
-            }
+            16 => record.tables[t] = odd_block(random, key, length),
+            17 => self.fill_past_count(random, t),
             18 => record.rest = random.bytes(224),
             _ => (self.key, self.length) = (length, key),
+        }
+    }
+
+    /// Puts anything into the records past the count.
+    fn fill_past_count(&mut self, random: &mut Random, t: usize) {
+        for record in &mut self.records[(self.count as usize).min(3)..] {
+            record.start = random.u32();
+            record.present = random.u32();
+            record.updated = random.u64() as i64;
+            record.tables[t] = [random.u32(), random.u32(), random.u32()];
         }
     }
 }
