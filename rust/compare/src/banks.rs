@@ -111,6 +111,22 @@ impl<'a> Expected<'a> {
             _ => self.header(bank),
         }
     }
+    /// A stored table's bytes, or the refusal.
+    fn table(&self, bank: usize, source: u32, table: u32) -> Result<&'a [u8], u32> {
+        if table > 7 {
+            return Err(2);
+        }
+        let found = self.header[bank]?;
+        if source >= BankFields::from(found).count {
+            return Err(6);
+        }
+        let record = written(self.region, found, source);
+        let at = 84 + table as usize * 12;
+        let (offset, length) = (get(&record, at), get(&record, at + 4));
+        let data = &self.region[bank * BANK + SECTOR..][..CAPACITY];
+        let from = if length == 0 { 0 } else { offset as usize };
+        Ok(&data[from..][..length as usize])
+    }
     fn load(&self) -> BankAnswer {
         match door::load(&View::new(self.region)) {
             Ok(Some(found)) => answer(self.region, found),
@@ -267,6 +283,16 @@ fn ask_sources(tally: &mut Tally, expected: &Expected, round: usize, random: &mu
 
 const STORED: [&str; 3] = ["stored rows read", "ends of a table", "stored rows refused"];
 
+/// A stored row that is asked for, and what its values and their ends go into.
+struct Row {
+    bank: usize,
+    source: u32,
+    table: u32,
+    place: usize,
+    out: Vec<u8>,
+    ends: Vec<usize>,
+}
+
 /// Stored rows: the bytes of the block that the lifted `Source` has, read as a
 /// table by the core's own reader, which the part stored-rows is about.
 fn ask_rows(tally: &mut Tally, expected: &Expected, round: usize, random: &mut Random) {
@@ -276,55 +302,45 @@ fn ask_rows(tally: &mut Tally, expected: &Expected, round: usize, random: &mut R
             let source = random.below(count as usize + 2) as u32;
             let table = random.pick(&[0, 1, 4, 6, 6, 6, 7, 8, u32::MAX]);
             let (room, slots) = (random.pick(&[0, 1, 3, 60, 8192]), random.pick(&[0, 1, 2, 8, 12]));
-            let (before, marks) = (vec![round as u8; room], vec![round; slots]);
-            let (mut out, mut ends) = (before.clone(), marks.clone());
-            let (mut after, mut places) = (before, marks);
-            let mut place = if random.once_in(9) { random.pick(&[1, 40, usize::MAX]) } else { 0 };
-            let stored: Result<&[u8], u32> = match expected.header[bank] {
-                _ if table > 7 => Err(2),
-                Err(number) => Err(number),
-                Ok(_) if source >= count => Err(6),
-                Ok(found) => {
-                    let record = written(expected.region, found, source);
-                    let at = 84 + table as usize * 12;
-                    let (offset, length) = (get(&record, at), get(&record, at + 4));
-                    let data = &expected.region[bank * BANK + SECTOR..][..CAPACITY];
-                    let from = if length == 0 { 0 } else { offset as usize };
-                    Ok(&data[from..][..length as usize])
-                }
-            };
-            loop {
-                let args = (bank as u32, source, table, place);
-                let core = banks::bank_row(
-                    expected.region,
-                    args.0,
-                    args.1,
-                    args.2,
-                    args.3,
-                    &mut out,
-                    &mut ends,
-                );
-                let core = (core.refusal, core.found, core.next, core.size);
-                let rust = match stored {
-                    Err(number) => (number, 0, 0, 0),
-                    Ok(bytes) => {
-                        let width = rows::column_count(table);
-                        let a = rows::read_row(bytes, width, place, &mut after, &mut places);
-                        (a.refusal, a.found, a.next, a.size)
-                    }
-                };
-                let what = || format!("row {args:?} into {room} bytes and {slots} ends");
-                tally.same(core, rust, || expected.describe(round, bank, what()));
-                tally.same((&out, &ends), (&after, &places), || {
-                    expected.describe(round, bank, what())
-                });
-                tally.count(STORED[if core.0 != 0 { 2 } else { 1 - core.1 as usize }], 1);
-                if core.1 == 0 {
-                    break;
-                }
-                place = core.2;
-            }
+            let place = if random.once_in(9) { random.pick(&[1, 40, usize::MAX]) } else { 0 };
+            let (out, ends) = (vec![round as u8; room], vec![round; slots]);
+            let first = Row { bank, source, table, place, out, ends };
+            ask_rows_from(tally, expected, round, first);
         }
+    }
+}
+
+/// A row and those behind it, to the table's end or a refusal.
+fn ask_rows_from(tally: &mut Tally, expected: &Expected, round: usize, first: Row) {
+    let Row { bank, source, table, mut place, mut out, mut ends } = first;
+    let (mut after, mut places) = (out.clone(), ends.clone());
+    let (room, slots) = (out.len(), ends.len());
+    let number = bank as u32;
+    let stored = expected.table(bank, source, table);
+    loop {
+        let core =
+            banks::bank_row(expected.region, number, source, table, place, &mut out, &mut ends);
+        let core = (core.refusal, core.found, core.next, core.size);
+        let rust = match stored {
+            Err(refusal) => (refusal, 0, 0, 0),
+            Ok(bytes) => {
+                let width = rows::column_count(table);
+                let a = rows::read_row(bytes, width, place, &mut after, &mut places);
+                (a.refusal, a.found, a.next, a.size)
+            }
+        };
+        let input = || {
+            let row = (number, source, table, place);
+            let what = format!("row {row:?} into {room} bytes and {slots} ends");
+            expected.describe(round, bank, what)
+        };
+        tally.same(core, rust, input);
+        tally.same((&out, &ends), (&after, &places), input);
+        tally.count(STORED[if core.0 != 0 { 2 } else { 1 - core.1 as usize }], 1);
+        if core.1 == 0 {
+            return;
+        }
+        place = core.2;
     }
 }
 
@@ -414,11 +430,11 @@ fn ask_keys(
     }
 }
 
+/// A bank's checking: its start, its turns, and turns from other states.
 fn ask_turns(tally: &mut Tally, expected: &Expected, round: usize, random: &mut Random) {
     let bank = random.below(2);
-    let region = expected.region;
     let header = expected.header(bank);
-    let started = banks::check_start(region, bank as u32);
+    let started = banks::check_start(expected.region, bank as u32);
     let zero =
         TurnAnswer { refusal: 0, verdict: 0, count: 0, bank: bank as u32, position: 0, crc: 0 };
     let rust = match header.refusal {
@@ -427,42 +443,69 @@ fn ask_turns(tally: &mut Tally, expected: &Expected, round: usize, random: &mut 
     };
     tally.same(started, rust, || expected.describe(round, bank, "check_start".into()));
     if header.refusal == 0 {
-        let mut state = zero;
-        let mut sum = 0_u64;
-        let largest = header.length / 4 + 2;
-        let last = loop {
-            let n = match random.below(12) {
-                0 => 0,
-                1 => 1,
-                2 => 255,
-                3 => 256,
-                4 => u32::MAX,
-                5 => header.length - state.position,
-                6 => (header.length - state.position).saturating_sub(1),
-                _ => random.below(largest as usize) as u32,
-            };
-            let core = banks::check_turn(region, state.bank, state.position, state.crc, n);
-            let rust = expected.turn(state.bank, state.position, state.crc, n);
-            tally.same(core, rust, || {
-                let (place, crc) = (state.position, state.crc);
-                expected.describe(round, bank, format!("turn of {n} at {place} with crc {crc:08x}"))
-            });
-            sum += u64::from(core.count);
-            if core != rust || core.refusal != 0 || core.verdict != 0 {
-                break core;
-            }
-            state = core;
-        };
-        let input = |what: &str| expected.describe(round, bank, what.into());
-        tally.same(sum, header.length.into(), || input("sum of the turns"));
-        let whole = expected.validate(bank).refusal;
-        tally.same(last.refusal, whole, || input("the turns' verdict"));
-        tally.same(last.verdict == 1, whole == 0, || input("the turns' yes"));
+        ask_turns_from(tally, expected, round, random, zero);
     }
-    // states that no turn gave
+    ask_states(tally, expected, round, random, bank);
+}
+
+/// Turns from the start to the verdict, which is that of validate.
+fn ask_turns_from(
+    tally: &mut Tally,
+    expected: &Expected,
+    round: usize,
+    random: &mut Random,
+    start: TurnAnswer,
+) {
+    let bank = start.bank as usize;
+    let length = expected.header(bank).length;
+    let mut state = start;
+    let mut sum = 0_u64;
+    let last = loop {
+        let n = turn_size(random, length, length - state.position);
+        let core = banks::check_turn(expected.region, state.bank, state.position, state.crc, n);
+        let rust = expected.turn(state.bank, state.position, state.crc, n);
+        tally.same(core, rust, || {
+            let (place, crc) = (state.position, state.crc);
+            expected.describe(round, bank, format!("turn of {n} at {place} with crc {crc:08x}"))
+        });
+        sum += u64::from(core.count);
+        if core != rust || core.refusal != 0 || core.verdict != 0 {
+            break core;
+        }
+        state = core;
+    };
+    let input = |what: &str| expected.describe(round, bank, what.into());
+    tally.same(sum, length.into(), || input("sum of the turns"));
+    let whole = expected.validate(bank).refusal;
+    tally.same(last.refusal, whole, || input("the turns' verdict"));
+    tally.same(last.verdict == 1, whole == 0, || input("the turns' yes"));
+}
+
+/// How many bytes a turn is to take, of data of a length with so many left.
+fn turn_size(random: &mut Random, length: u32, left: u32) -> u32 {
+    match random.below(12) {
+        0 => 0,
+        1 => 1,
+        2 => 255,
+        3 => 256,
+        4 => u32::MAX,
+        5 => left,
+        6 => left.saturating_sub(1),
+        _ => random.below(length as usize / 4 + 2) as u32,
+    }
+}
+
+/// Turns from states that no turn gave.
+fn ask_states(
+    tally: &mut Tally,
+    expected: &Expected,
+    round: usize,
+    random: &mut Random,
+    bank: usize,
+) {
+    let BankAnswer { length, crc, .. } = expected.header(bank);
+    let near = [0, length, length + 1, length.wrapping_sub(1), CAPACITY as u32];
     for _ in 0..3 {
-        let length = header.length;
-        let near = [0, length, length + 1, length.wrapping_sub(1), CAPACITY as u32];
         let state = (
             if random.once_in(4) {
                 random.pick(&[2, 7, 255, u32::MAX])
@@ -474,10 +517,10 @@ fn ask_turns(tally: &mut Tally, expected: &Expected, round: usize, random: &mut 
             } else {
                 random.pick(&near)
             },
-            [0, header.crc, random.u32()][random.below(3)],
+            [0, crc, random.u32()][random.below(3)],
         );
         let n = random.pick(&[0, 1, 100, u32::MAX]);
-        let core = banks::check_turn(region, state.0, state.1, state.2, n);
+        let core = banks::check_turn(expected.region, state.0, state.1, state.2, n);
         tally.same(core, expected.turn(state.0, state.1, state.2, n), || {
             expected.describe(round, bank, format!("turn of {n} from the state {state:?}"))
         });

@@ -132,6 +132,12 @@ fn selection(random: &mut Random) -> Selection {
     };
     let over = random.once_in(4);
     let mut made = Selection::of(&identity, &picks(random, count, over));
+    change_lengths(random, &mut made);
+    made
+}
+
+/// Makes lengths and texts not fit each other, every other time.
+fn change_lengths(random: &mut Random, made: &mut Selection) {
     match random.below(8) {
         // missing lengths, which are 0
         0 => {
@@ -155,19 +161,20 @@ fn selection(random: &mut Random) -> Selection {
         3 => {
             let n = random.below(90);
             made.texts = (0..random.below(60)).map(|_| random.pick(b"ab\x00\x7f")).collect();
-            made.lengths = (0..n)
-                .map(|_| match random.below(12) {
-                    0 => u32::MAX,
-                    1 => u32::MAX - 1,
-                    2 => 1 << 31,
-                    3 => random.below(60) as u32,
-                    _ => random.below(3) as u32,
-                })
-                .collect();
+            made.lengths = (0..n).map(|_| any_length(random)).collect();
         }
         _ => {}
     }
-    made
+}
+
+fn any_length(random: &mut Random) -> u32 {
+    match random.below(12) {
+        0 => u32::MAX,
+        1 => u32::MAX - 1,
+        2 => 1 << 31,
+        3 => random.below(60) as u32,
+        _ => random.below(3) as u32,
+    }
 }
 
 /// A selection, an output of so many bytes, and what is in it before.

@@ -122,39 +122,55 @@ fn selection(set: &[Cause], way: usize) -> Selection {
     Selection::of(&vec![b'i'; length], &picks)
 }
 
+/// The header of both banks, with what the set has wrong in it.
+fn header(random: &mut Random, set: &[Cause], way: usize) -> Made {
+    let has = |cause| set.contains(&cause);
+    let mut made = made::good(random, 20, 500);
+    (made.version, made.count) = (1 + way as u32, 2);
+    if has(Mark) {
+        match way {
+            0 => made.magic[3] ^= 1,
+            1 => made.commit = u32::MAX,
+            _ => made.version = 4,
+        }
+    }
+    if has(Seal) {
+        made.seal = Some(random.u32());
+    }
+    if has(Span) {
+        match way {
+            0 => made.count = 4,
+            1 => made.checked = -1,
+            _ => made.key = 501,
+        }
+    }
+    if has(Source) {
+        match way {
+            0 => made.records[1].start = 20230229,
+            1 => made.records[0].present = 256,
+            _ => made.records[1].tables[2] = [u32::MAX, 2, 0],
+        }
+    }
+    if has(Data) {
+        made.crc = Some(random.u32());
+    }
+    made.records[0].tables[FEED_INFO] = [400, STORED.len() as u32, 0];
+    made
+}
+
+/// A refusal, or -1 where the rest of its answer is wrong.
+fn refused(refusal: u32, rest: bool) -> i64 {
+    if refusal == 0 || rest { i64::from(refusal) } else { -1 }
+}
+
+fn of_bank(answer: BankAnswer) -> i64 {
+    let nothing = BankAnswer { refusal: answer.refusal, ..BankAnswer::default() };
+    refused(answer.refusal, answer == nothing)
+}
+
 impl<'a> Case<'a> {
     fn new(random: &mut Random, set: &'a [Cause], way: usize) -> Self {
-        let has = |cause| set.contains(&cause);
-        let mut made = made::good(random, 20, 500);
-        (made.version, made.count) = (1 + way as u32, 2);
-        if has(Mark) {
-            match way {
-                0 => made.magic[3] ^= 1,
-                1 => made.commit = u32::MAX,
-                _ => made.version = 4,
-            }
-        }
-        if has(Seal) {
-            made.seal = Some(random.u32());
-        }
-        if has(Span) {
-            match way {
-                0 => made.count = 4,
-                1 => made.checked = -1,
-                _ => made.key = 501,
-            }
-        }
-        if has(Source) {
-            match way {
-                0 => made.records[1].start = 20230229,
-                1 => made.records[0].present = 256,
-                _ => made.records[1].tables[2] = [u32::MAX, 2, 0],
-            }
-        }
-        if has(Data) {
-            made.crc = Some(random.u32());
-        }
-        made.records[0].tables[FEED_INFO] = [400, STORED.len() as u32, 0];
+        let made = header(random, set, way);
         let mut bytes = vec![255; REGION + 1];
         for bank in 0..2 {
             let key = Selection::of(b"iii", &[]).key().unwrap();
@@ -175,89 +191,87 @@ impl<'a> Case<'a> {
         let wrong = [2, 255, u32::MAX][self.way];
         if self.has(Bank) || self.has(StateBank) { wrong } else { 1 }
     }
+    fn index(&self) -> u32 {
+        if self.has(Index) { [4, 10, u32::MAX][self.way] } else { 0 }
+    }
     /// The refusal that a call gives; -1 where anything beside it is wrong.
     fn ask(&self, call: &str) -> i64 {
-        let (region, bank) = (self.region(), self.bank());
-        let plain = |refusal: u32, rest: bool| {
-            if refusal == 0 || rest { i64::from(refusal) } else { -1 }
-        };
-        let of_bank = |answer: BankAnswer| {
-            let nothing = BankAnswer { refusal: answer.refusal, ..BankAnswer::default() };
-            plain(answer.refusal, answer == nothing)
-        };
         match call {
-            "validate" => of_bank(banks::validate(region, bank)),
-            "header" => of_bank(banks::header(region, bank)),
-            "load" => of_bank(banks::load(region)),
-            "source" => {
-                let index = if self.has(Index) { [4, 10, u32::MAX][self.way] } else { 0 };
-                let mut out = vec![77; if self.has(Small) { [383, 0, 1][self.way] } else { 384 }];
-                let refusal = banks::source(region, bank, index, &mut out);
-                plain(refusal, out.iter().all(|b| *b == 77))
-            }
-            "bank_row" => {
-                let index = if self.has(Index) { [4, 10, u32::MAX][self.way] } else { 0 };
-                let table = FEED_INFO as u32 + if self.has(Table) { 2 } else { 0 };
-                let place = if self.has(Row) { STORED.len() + 1 + self.way } else { 0 };
-                let (room, slots) = match self.way {
-                    _ if !self.has(Small) => (2, 2),
-                    0 => (1, 2),
-                    1 => (2, 1),
-                    _ => (0, 0),
-                };
-                let (mut out, mut ends) = (vec![77; room], vec![77; slots]);
-                let answer =
-                    banks::bank_row(region, bank, index, table, place, &mut out, &mut ends);
-                let refusal = answer.refusal;
-                let nothing = BankRowAnswer { refusal, found: 0, next: 0, size: 0 };
-                let lent = out.iter().all(|b| *b == 77) && ends.iter().all(|e| *e == 77);
-                plain(refusal, answer == nothing && lent)
-            }
-            "fresh" => {
-                let mut days = [20260101, 20260102, 20260103];
-                if self.has(Day) {
-                    days[self.way] = [0, 20230229, 99991232][self.way];
-                }
-                let answer = banks::fresh(region, bank, days, [true, false, false], 5);
-                let FreshAnswer { refusal, checked, updated } = answer;
-                plain(refusal, (checked, updated) == (UNKNOWN, UNKNOWN))
-            }
-            "key" => {
-                let room = if self.has(Small) { self.way } else { 70_000 };
-                let mut out = vec![77; room];
-                let picks = self.selection.picks();
-                let KeyAnswer { refusal, length } =
-                    banks::key(&self.selection.identity, picks, &mut out);
-                plain(refusal, length == 0 && out.iter().all(|b| *b == 77))
-            }
-            "same_key" => {
-                let picks = self.selection.picks();
-                let SameKeyAnswer { refusal, same } =
-                    banks::same_key(region, bank, &self.selection.identity, picks);
-                plain(refusal, same == 0)
-            }
-            "check_start" => {
-                let answer = banks::check_start(region, bank);
-                let refusal = answer.refusal;
-                let closed =
-                    TurnAnswer { refusal, verdict: 0, count: 0, bank: 255, position: 0, crc: 0 };
-                plain(refusal, answer == closed)
-            }
-            _ => {
-                let position = match () {
-                    () if self.has(StateFar) => [CAPACITY as u32 + 1, 1 << 31, u32::MAX][self.way],
-                    () if self.has(StateLate) => [501, 502, CAPACITY as u32][self.way],
-                    () if self.has(Data) => self.made.length,
-                    () => 0,
-                };
-                // with no data CRC of 1 the state's is wrong at the end
-                let (crc, n) = (1, [0, 1, u32::MAX][self.way]);
-                let answer = banks::check_turn(region, bank, position, crc, n);
-                let refusal = answer.refusal;
-                let same = TurnAnswer { refusal, verdict: 0, count: 0, bank, position, crc };
-                plain(refusal, answer == same)
-            }
+            "validate" => of_bank(banks::validate(self.region(), self.bank())),
+            "header" => of_bank(banks::header(self.region(), self.bank())),
+            "load" => of_bank(banks::load(self.region())),
+            "source" => self.source(),
+            "bank_row" => self.bank_row(),
+            "fresh" => self.fresh(),
+            "key" => self.key(),
+            "same_key" => self.same_key(),
+            "check_start" => self.check_start(),
+            _ => self.check_turn(),
         }
+    }
+    fn source(&self) -> i64 {
+        let mut out = vec![77; if self.has(Small) { [383, 0, 1][self.way] } else { 384 }];
+        let refusal = banks::source(self.region(), self.bank(), self.index(), &mut out);
+        refused(refusal, out.iter().all(|b| *b == 77))
+    }
+    fn bank_row(&self) -> i64 {
+        let (region, bank, index) = (self.region(), self.bank(), self.index());
+        let table = FEED_INFO as u32 + if self.has(Table) { 2 } else { 0 };
+        let place = if self.has(Row) { STORED.len() + 1 + self.way } else { 0 };
+        let (room, slots) = match self.way {
+            _ if !self.has(Small) => (2, 2),
+            0 => (1, 2),
+            1 => (2, 1),
+            _ => (0, 0),
+        };
+        let (mut out, mut ends) = (vec![77; room], vec![77; slots]);
+        let answer = banks::bank_row(region, bank, index, table, place, &mut out, &mut ends);
+        let refusal = answer.refusal;
+        let nothing = BankRowAnswer { refusal, found: 0, next: 0, size: 0 };
+        let lent = out.iter().all(|b| *b == 77) && ends.iter().all(|e| *e == 77);
+        refused(refusal, answer == nothing && lent)
+    }
+    fn fresh(&self) -> i64 {
+        let mut days = [20260101, 20260102, 20260103];
+        if self.has(Day) {
+            days[self.way] = [0, 20230229, 99991232][self.way];
+        }
+        let answer = banks::fresh(self.region(), self.bank(), days, [true, false, false], 5);
+        let FreshAnswer { refusal, checked, updated } = answer;
+        refused(refusal, (checked, updated) == (UNKNOWN, UNKNOWN))
+    }
+    fn key(&self) -> i64 {
+        let mut out = vec![77; if self.has(Small) { self.way } else { 70_000 }];
+        let picks = self.selection.picks();
+        let KeyAnswer { refusal, length } = banks::key(&self.selection.identity, picks, &mut out);
+        refused(refusal, length == 0 && out.iter().all(|b| *b == 77))
+    }
+    fn same_key(&self) -> i64 {
+        let (identity, picks) = (&self.selection.identity, self.selection.picks());
+        let SameKeyAnswer { refusal, same } =
+            banks::same_key(self.region(), self.bank(), identity, picks);
+        refused(refusal, same == 0)
+    }
+    fn check_start(&self) -> i64 {
+        let answer = banks::check_start(self.region(), self.bank());
+        let refusal = answer.refusal;
+        let closed = TurnAnswer { refusal, verdict: 0, count: 0, bank: 255, position: 0, crc: 0 };
+        refused(refusal, answer == closed)
+    }
+    fn check_turn(&self) -> i64 {
+        let bank = self.bank();
+        let position = match () {
+            () if self.has(StateFar) => [CAPACITY as u32 + 1, 1 << 31, u32::MAX][self.way],
+            () if self.has(StateLate) => [501, 502, CAPACITY as u32][self.way],
+            () if self.has(Data) => self.made.length,
+            () => 0,
+        };
+        // with no data CRC of 1 the state's is wrong at the end
+        let (crc, n) = (1, [0, 1, u32::MAX][self.way]);
+        let answer = banks::check_turn(self.region(), bank, position, crc, n);
+        let refusal = answer.refusal;
+        let same = TurnAnswer { refusal, verdict: 0, count: 0, bank, position, crc };
+        refused(refusal, answer == same)
     }
 }
 
