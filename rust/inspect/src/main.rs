@@ -13,7 +13,7 @@ use lifted::{
     standins::{settings, view::View},
     timetable_display::{Config, feed::Builder},
 };
-use options::{Days, Options, Selection};
+use options::{Options, Selection};
 use std::{
     ffi::OsStr,
     fs::File,
@@ -101,16 +101,16 @@ fn source(out: &mut Vec<String>, i: u32, s: &SourceFields) {
     }
 }
 
-fn fresh(flash: &View, bank: Bank, days: &Days, now: i64) -> String {
+fn fresh(flash: &View, bank: Bank, days: [u32; 3], wanted: [bool; 3], now: i64) -> String {
     let date = |d: u32| {
         door::valid_date(d)
             .then(|| Date::new((d / 10000) as u16, (d / 100 % 100) as u8, (d % 100) as u8).ok())
             .flatten()
     };
-    let [Some(a), Some(b), Some(c)] = days.days.map(date) else {
+    let [Some(a), Some(b), Some(c)] = days.map(date) else {
         return refusal(2);
     };
-    let wanted = (0..3).map(|i| u8::from(days.wanted[i]) << i).sum();
+    let wanted = (0..3).map(|i| u8::from(wanted[i]) << i).sum();
     match door::fresh(bank, flash, &Builder { dates: [a, b, c], wanted }, now) {
         Ok(f) => {
             format!("checked {}, updated {}", time(f.checked_at), time(f.source_updated_at))
@@ -152,8 +152,8 @@ fn loaded(flash: &View, bank: Bank, options: &Options) -> Result<Vec<String>, Er
     for i in 0..fields.count {
         source(&mut out, i, &door::source(bank, flash, i as usize)?);
     }
-    if let (Some(days), Some(now)) = (&options.days, options.now) {
-        out.push(format!("fresh: {}", fresh(flash, bank, days, now)));
+    if let (Some(days), Some(now)) = (options.days, options.now) {
+        out.push(format!("fresh: {}", fresh(flash, bank, days, options.wanted, now)));
     }
     if let Some(selection) = &options.selection {
         out.push(format!("match: {}", matches(flash, bank, selection)));

@@ -31,11 +31,6 @@ With wrong arguments, an image of another size or one that can't be read, one
 line stands on standard error and nothing on standard output.
 ";
 
-pub struct Days {
-    pub days: [u32; 3],
-    pub wanted: [bool; 3],
-}
-
 #[derive(Default)]
 pub struct Selection {
     pub identity: Vec<u8>,
@@ -43,21 +38,57 @@ pub struct Selection {
     pub picks: Vec<[String; 5]>,
 }
 
+#[derive(Default)]
 pub struct Options {
     pub image: Option<OsString>,
     pub now: Option<i64>,
-    pub days: Option<Days>,
+    pub days: Option<[u32; 3]>,
+    pub wanted: [bool; 3],
     pub selection: Option<Selection>,
     pub rows: Option<Asked>,
+}
+
+/// What is there, or a message that says what is needed.
+fn needed<T>(what: &str, found: Option<T>) -> Result<T, String> {
+    found.ok_or(format!("{what}; see inspect --help"))
 }
 
 fn digits(text: &str) -> bool {
     !text.is_empty() && text.bytes().all(|b| b.is_ascii_digit())
 }
 
+fn seconds(text: &OsStr) -> Option<i64> {
+    let text = text.to_str()?;
+    text.parse().ok().filter(|_| digits(text.strip_prefix('-').unwrap_or(text)))
+}
+
+fn day(text: &str) -> Option<u32> {
+    text.parse().ok().filter(|_| digits(text))
+}
+
+fn flag(text: &str) -> Option<bool> {
+    match text {
+        "y" => Some(true),
+        "n" => Some(false),
+        _ => None,
+    }
+}
+
 fn three<T>(text: &OsStr, part: impl Fn(&str) -> Option<T>) -> Option<[T; 3]> {
     let parts: Option<Vec<T>> = text.to_str()?.split(',').map(part).collect();
     parts?.try_into().ok()
+}
+
+/// A pick from five arguments.
+fn pick(mut value: impl FnMut(&str) -> Result<OsString, String>) -> Result<[String; 5], String> {
+    let mut pick: [String; 5] = Default::default();
+    for field in &mut pick {
+        let text = value("--pick needs five texts: line, route, stop code, stop, stop name")?;
+        *field = text
+            .into_string()
+            .map_err(|text| format!("--pick: {} isn't UTF-8", text.to_string_lossy()))?;
+    }
+    Ok(pick)
 }
 
 /// The rows asked for; none where the words mean none.
@@ -74,74 +105,62 @@ fn asked(source: &OsStr, table: &OsStr) -> Option<Asked> {
     Some(Asked { source, table })
 }
 
-/// The arguments as options; none where help is asked for.
-pub fn read(mut arguments: impl Iterator<Item = OsString>) -> Result<Option<Options>, String> {
-    let mut image = None;
-    let mut now = None;
-    let mut days = None;
-    let mut wanted = [true; 3];
-    let mut selection = None::<Selection>;
-    let mut rows = None;
-    while let Some(argument) = arguments.next() {
-        let mut value = |what: &str| arguments.next().ok_or(format!("{what}; see inspect --help"));
-        match argument.to_str() {
-            Some("--help" | "-h") => return Ok(None),
-            Some("--now") => {
+impl Options {
+    /// Sets what an option says; `value` gives the arguments behind it.
+    fn set(
+        &mut self,
+        option: &str,
+        mut value: impl FnMut(&str) -> Result<OsString, String>,
+    ) -> Result<(), String> {
+        match option {
+            "--now" => {
                 let what = "--now needs a number of seconds";
-                let text = value(what)?;
-                let number = text
-                    .to_str()
-                    .filter(|t| digits(t.strip_prefix('-').unwrap_or(t)))
-                    .and_then(|t| t.parse().ok());
-                now = Some(number.ok_or(format!("{what}; see inspect --help"))?);
+                self.now = Some(needed(what, seconds(&value(what)?))?);
             }
-            Some("--days") => {
+            "--days" => {
                 let what = "--days needs three numbers as D1,D2,D3";
-                let numbers = three(&value(what)?, |t| t.parse().ok().filter(|_| digits(t)));
-                days = Some(numbers.ok_or(format!("{what}; see inspect --help"))?);
+                self.days = Some(needed(what, three(&value(what)?, day))?);
             }
-            Some("--wanted") => {
+            "--wanted" => {
                 let what = "--wanted needs y or n three times, as y,y,n";
-                let flags = three(&value(what)?, |t| match t {
-                    "y" => Some(true),
-                    "n" => Some(false),
-                    _ => None,
-                });
-                wanted = flags.ok_or(format!("{what}; see inspect --help"))?;
+                self.wanted = needed(what, three(&value(what)?, flag))?;
             }
-            Some("--identity") => {
+            "--identity" => {
                 let text = value("--identity needs a text")?;
-                selection.get_or_insert_default().identity = text.into_vec();
+                self.selection.get_or_insert_default().identity = text.into_vec();
             }
-            Some("--pick") => {
-                let mut pick: [String; 5] = Default::default();
-                for field in &mut pick {
-                    let text =
-                        value("--pick needs five texts: line, route, stop code, stop, stop name")?;
-                    *field = text.into_string().map_err(|text| {
-                        format!("--pick: {} isn't UTF-8", text.to_string_lossy())
-                    })?;
-                }
-                selection.get_or_insert_default().picks.push(pick);
+            "--pick" => self.selection.get_or_insert_default().picks.push(pick(value)?),
+            "--match" => {
+                self.selection.get_or_insert_default();
             }
-            Some("--match") => {
-                selection.get_or_insert_default();
-            }
-            Some("--rows") => {
+            "--rows" => {
                 let what = "--rows needs a source (0, 1, 2 or all) and a table's name or all";
                 let words = [value(what)?, value(what)?];
-                let found = asked(&words[0], &words[1]);
-                rows = Some(found.ok_or(format!("{what}; see inspect --help"))?);
+                self.rows = Some(needed(what, asked(&words[0], &words[1]))?);
             }
-            Some(other) if other.starts_with('-') => {
-                return Err(format!("there is no option {other}; see inspect --help"));
+            _ => return Err(format!("there is no option {option}; see inspect --help")),
+        }
+        Ok(())
+    }
+}
+
+/// The arguments as options; none where help is asked for.
+pub fn read(mut arguments: impl Iterator<Item = OsString>) -> Result<Option<Options>, String> {
+    let mut options = Options { wanted: [true; 3], ..Options::default() };
+    while let Some(argument) = arguments.next() {
+        match argument.to_str() {
+            Some("--help" | "-h") => return Ok(None),
+            Some(option) if option.starts_with('-') => {
+                options.set(option, |what| needed(what, arguments.next()))?;
             }
-            _ if image.is_some() => return Err("one image at a time; see inspect --help".into()),
-            _ => image = Some(argument),
+            _ if options.image.is_some() => {
+                return Err("one image at a time; see inspect --help".into());
+            }
+            _ => options.image = Some(argument),
         }
     }
-    if days.is_some() && now.is_none() {
+    if options.days.is_some() && options.now.is_none() {
         return Err("--days needs --now; see inspect --help".into());
     }
-    Ok(Some(Options { image, now, days: days.map(|days| Days { days, wanted }), selection, rows }))
+    Ok(Some(options))
 }
