@@ -356,56 +356,100 @@ fn versions(out: &mut String, random: &mut Random) -> Result {
 }
 
 /// One thing wrong in a bank, or just not wrong.
-fn wrong() -> Vec<fn(&mut Made)> {
-    vec![
-        |m| m.magic[3] ^= 1,
-        |m| m.version = 0,
-        |m| m.version = 4,
-        |m| m.version = 259,
-        |m| m.commit ^= 1,
-        |m| m.commit = u32::MAX,
-        |m| m.seal = Some(0),
-        |m| m.length = 0,
-        |m| m.length = CAPACITY as u32 + 1,
-        |m| m.length = u32::MAX,
-        |m| m.key = 0,
-        |m| m.key = m.length,
-        |m| m.key = m.length + 1,
-        |m| m.count = 0,
-        |m| m.count = 4,
-        |m| m.count = 257,
-        |m| m.count = 3,
-        |m| m.checked = -1,
-        |m| m.checked = i64::MIN,
-        |m| m.checked = 0,
-        |m| m.checked -= 1,
-        |m| m.records[1].start = NO_DAYS[1],
-        |m| m.records[1].end = NO_DAYS[6],
-        |m| m.records[0].start = m.records[0].end,
-        |m| m.records[0].start = m.records[0].end + 1,
-        |m| m.records[0].start = 20270101,
-        |m| m.records[0].present = 255,
-        |m| m.records[0].present = 256,
-        |m| m.records[1].updated = m.checked + 1,
-        |m| m.records[1].updated = -1,
-        |m| m.records[1].updated = 0,
-        |m| m.records[1].updated = UNKNOWN,
-        |m| m.records[1].updated = UNKNOWN + 1,
-        |m| m.records[0].tables[7] = [m.key - 1, 1, 0],
-        |m| m.records[0].tables[7] = [m.key - 1, 0, 0],
-        |m| m.records[0].tables[7] = [m.key, m.length - m.key + 1, 0],
-        |m| m.records[0].tables[7] = [m.length - 1, 1, 0],
-        |m| m.records[0].tables[7] = [m.length, 1, 0],
-        |m| m.records[0].tables[7] = [u32::MAX, 2, 0],
-        |m| m.records[0].tables[7] = [u32::MAX, 0, 0],
-        |m| m.records[2].start = 0,
-        |m| m.records[2].tables[1] = [0, u32::MAX, 0],
-        |m| m.crc = Some(0),
-        |m| m.spare = 1,
-        // a table 7 past a record of version 2, and a bank of version 1
-        |m| (m.version, m.records[0].tables[7]) = (2, [0, 1, 0]),
-        |m| (m.version, m.records[0].rest) = (1, vec![9; 224]),
-    ]
+const CHANGES: [fn(&mut Made); 46] = [
+    |m| m.magic[3] ^= 1,
+    |m| m.version = 0,
+    |m| m.version = 4,
+    |m| m.version = 259,
+    |m| m.commit ^= 1,
+    |m| m.commit = u32::MAX,
+    |m| m.seal = Some(0),
+    |m| m.length = 0,
+    |m| m.length = CAPACITY as u32 + 1,
+    |m| m.length = u32::MAX,
+    |m| m.key = 0,
+    |m| m.key = m.length,
+    |m| m.key = m.length + 1,
+    |m| m.count = 0,
+    |m| m.count = 4,
+    |m| m.count = 257,
+    |m| m.count = 3,
+    |m| m.checked = -1,
+    |m| m.checked = i64::MIN,
+    |m| m.checked = 0,
+    |m| m.checked -= 1,
+    |m| m.records[1].start = NO_DAYS[1],
+    |m| m.records[1].end = NO_DAYS[6],
+    |m| m.records[0].start = m.records[0].end,
+    |m| m.records[0].start = m.records[0].end + 1,
+    |m| m.records[0].start = 20270101,
+    |m| m.records[0].present = 255,
+    |m| m.records[0].present = 256,
+    |m| m.records[1].updated = m.checked + 1,
+    |m| m.records[1].updated = -1,
+    |m| m.records[1].updated = 0,
+    |m| m.records[1].updated = UNKNOWN,
+    |m| m.records[1].updated = UNKNOWN + 1,
+    |m| m.records[0].tables[7] = [m.key - 1, 1, 0],
+    |m| m.records[0].tables[7] = [m.key - 1, 0, 0],
+    |m| m.records[0].tables[7] = [m.key, m.length - m.key + 1, 0],
+    |m| m.records[0].tables[7] = [m.length - 1, 1, 0],
+    |m| m.records[0].tables[7] = [m.length, 1, 0],
+    |m| m.records[0].tables[7] = [u32::MAX, 2, 0],
+    |m| m.records[0].tables[7] = [u32::MAX, 0, 0],
+    |m| m.records[2].start = 0,
+    |m| m.records[2].tables[1] = [0, u32::MAX, 0],
+    |m| m.crc = Some(0),
+    |m| m.spare = 1,
+    // a table 7 past a record of version 2, and a bank of version 1
+    |m| (m.version, m.records[0].tables[7]) = (2, [0, 1, 0]),
+    |m| (m.version, m.records[0].rest) = (1, vec![9; 224]),
+];
+
+/// Bank 1 with each of the changes, in each version.
+fn changes(asked: &mut Questions, made: &Made, selection: &Selection) -> Result {
+    for version in 1..=3 {
+        for (i, change) in CHANGES.into_iter().enumerate() {
+            let mut other = Made { version, ..made.clone() };
+            change(&mut other);
+            other.write(&mut asked.region.bytes, 1);
+            asked.asked(if i == 0 { &[0, 1] } else { &[1] })?;
+            if i % 7 == version as usize {
+                asked.sources(1, &[0, 2])?;
+                asked.fresh(1, [20260101, 20260102, 20270101], &[3, 7], 1_790_000_000)?;
+                asked.key(1, selection)?;
+                asked.turns(1, &[u32::MAX])?;
+            }
+        }
+    }
+    Ok(())
+}
+
+/// Days that there aren't, and some that there are.
+fn days(asked: &mut Questions) -> Result {
+    for days in [
+        [0, 20260101, 20260102],
+        [20260101, 20230229, 20260102],
+        [20260101, 20260102, 19000229],
+        [20260101, 99991231, 10101],
+    ] {
+        asked.region.write(asked.out)?;
+        asked.fresh(1, days, &[0, 7], 1_790_000_001)?;
+    }
+    Ok(())
+}
+
+/// A bit of the header, of a record past the count, of the data, and past them.
+fn bits(asked: &mut Questions) -> Result {
+    let records = [0, 2, 3].map(|i| 48 + i * 384);
+    let data = [SECTOR - 1, SECTOR, SECTOR + 24, SECTOR + 25];
+    for at in [8, 30, 39, 43].into_iter().chain(records).chain(data) {
+        asked.region.bytes[BANK + at] ^= 4;
+        asked.asked(&[1])?;
+        asked.turns(1, &[9])?;
+        asked.region.bytes[BANK + at] ^= 4;
+    }
+    Ok(())
 }
 
 /// A bank beside a good one, refused by each number, and what just passes.
@@ -419,51 +463,10 @@ fn refusals(out: &mut String, random: &mut Random) -> Result {
     let key = chosen[1].key().len() as u32;
     let mut made = short(random, key, key + 24);
     made.generation = get(&asked.region.bytes, 8).wrapping_add(1);
-    for version in 1..=3 {
-        made.version = version;
-        for (i, change) in wrong().into_iter().enumerate() {
-            let mut other = made.clone();
-            change(&mut other);
-            other.write(&mut asked.region.bytes, 1);
-            asked.asked(if i == 0 { &[0, 1] } else { &[1] })?;
-            if i % 7 == version as usize {
-                asked.sources(1, &[0, 2])?;
-                asked.fresh(1, [20260101, 20260102, 20270101], &[3, 7], 1_790_000_000)?;
-                asked.key(1, &chosen[1])?;
-                asked.turns(1, &[u32::MAX])?;
-            }
-        }
-    }
+    changes(&mut asked, &made, &chosen[1])?;
     made.write(&mut asked.region.bytes, 1);
-    for days in [
-        [0, 20260101, 20260102],
-        [20260101, 20230229, 20260102],
-        [20260101, 20260102, 19000229],
-        [20260101, 99991231, 10101],
-    ] {
-        asked.region.write(asked.out)?;
-        asked.fresh(1, days, &[0, 7], 1_790_000_001)?;
-    }
-    // a bit of the header, of a record past the count, of the data, and past them
-    for at in [
-        8,
-        30,
-        39,
-        43,
-        48,
-        48 + 2 * 384,
-        48 + 3 * 384,
-        SECTOR - 1,
-        SECTOR,
-        SECTOR + 24,
-        SECTOR + 25,
-    ] {
-        asked.region.bytes[BANK + at] ^= 4;
-        asked.asked(&[1])?;
-        asked.turns(1, &[9])?;
-        asked.region.bytes[BANK + at] ^= 4;
-    }
-    Ok(())
+    days(&mut asked)?;
+    bits(&mut asked)
 }
 
 /// Which bank is tried first: generations near each other, half way round, and
@@ -500,18 +503,50 @@ fn generations(out: &mut String, random: &mut Random) -> Result {
     Ok(())
 }
 
-/// No data but the key, erased and cleared banks, a table of some thousand bytes,
-/// a full bank, and times before 1970.
-fn sizes(out: &mut String, random: &mut Random) -> Result {
-    let chosen = selections();
+/// Erased and cleared banks.
+fn blank(out: &mut String, selection: &Selection) -> Result {
     for byte in [0, 255] {
         let mut asked = Questions { region: Region::new(out, byte)?, out };
         asked.asked(&[0, 1])?;
         asked.sources(1, &[0])?;
         asked.fresh(1, [20260101; 3], &[0], 0)?;
         asked.turns(0, &[1])?;
-        asked.key(0, &chosen[1])?;
+        asked.key(0, selection)?;
     }
+    Ok(())
+}
+
+/// Writes bank 0 with a table of rows behind its key.
+fn with_table(random: &mut Random, region: &mut [u8], key: &[u8]) -> Result {
+    let mut rows = String::from("route_id,route_short_name,route_type\n");
+    for i in 0..400 {
+        writeln!(rows, "r{i},{},{}", random.below(100), random.below(8))?;
+    }
+    let length = (key.len() + rows.len()) as u32;
+    region[SECTOR + key.len()..][..rows.len()].copy_from_slice(rows.as_bytes());
+    let mut made = short(random, key.len() as u32, length);
+    made.records[0].tables[0][2] = crc32fast::hash(rows.as_bytes());
+    made.records[1].updated = 1_789_000_000;
+    made.records[1].start = 20260601;
+    made.write(region, 0);
+    Ok(())
+}
+
+/// Writes bank 1 full.
+fn full(random: &mut Random, region: &mut [u8]) {
+    region[BANK + SECTOR + 1..].fill(b'a');
+    let mut made = short(random, 1, CAPACITY as u32);
+    made.checked = 0;
+    made.records.iter_mut().for_each(|r| r.updated = UNKNOWN);
+    made.records[1].updated = 0;
+    made.write(region, 1);
+}
+
+/// No data but the key, erased and cleared banks, a table of some thousand bytes,
+/// a full bank, and times before 1970.
+fn sizes(out: &mut String, random: &mut Random) -> Result {
+    let chosen = selections();
+    blank(out, &chosen[1])?;
     let mut asked = Questions { region: Region::new(out, 255)?, out };
     for (bank, selection) in chosen.iter().enumerate() {
         let key = selection.key();
@@ -522,25 +557,9 @@ fn sizes(out: &mut String, random: &mut Random) -> Result {
     for (bank, selection) in chosen.iter().enumerate() {
         asked.everything(random, bank, selection)?;
     }
-    // a table of rows in bank 0, a full bank 1
-    let mut rows = String::from("route_id,route_short_name,route_type\n");
-    for i in 0..400 {
-        writeln!(rows, "r{i},{},{}", random.below(100), random.below(8))?;
-    }
     let key = chosen[0].key();
-    let length = (key.len() + rows.len()) as u32;
-    asked.region.bytes[SECTOR + key.len()..][..rows.len()].copy_from_slice(rows.as_bytes());
-    let mut made = short(random, key.len() as u32, length);
-    made.records[0].tables[0][2] = crc32fast::hash(rows.as_bytes());
-    made.records[1].updated = 1_789_000_000;
-    made.records[1].start = 20260601;
-    made.write(&mut asked.region.bytes, 0);
-    asked.region.bytes[BANK + SECTOR + 1..].fill(b'a');
-    let mut made = short(random, 1, CAPACITY as u32);
-    made.checked = 0;
-    made.records.iter_mut().for_each(|r| r.updated = UNKNOWN);
-    made.records[1].updated = 0;
-    made.write(&mut asked.region.bytes, 1);
+    with_table(random, &mut asked.region.bytes, &key)?;
+    full(random, &mut asked.region.bytes);
     asked.asked(&[0, 1])?;
     asked.everything(random, 0, &chosen[0])?;
     asked.everything(random, 1, &chosen[1])?;

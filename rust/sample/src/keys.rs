@@ -58,8 +58,12 @@ fn same(region: &mut [u8], stored: &[u8], selection: &Selection) -> bool {
     door::same_key(bank, &view, &selection.config()).unwrap()
 }
 
-fn selections(random: &mut Random) -> Vec<Selection> {
-    let pick = |fields: [&str; 5]| fields.map(String::from);
+fn pick(fields: [&str; 5]) -> [String; 5] {
+    fields.map(String::from)
+}
+
+/// Selections that are always asked for.
+fn fixed() -> Vec<Selection> {
     let named = pick(["7", "r", "", "s", "n"]);
     let coded = pick(["7", "r", "c", "s", "n"]);
     let renamed = pick(["7", "r", "c", "s", "another name"]);
@@ -68,7 +72,7 @@ fn selections(random: &mut Random) -> Vec<Selection> {
     let names: Vec<_> = ["n", "", "m", "nn"].iter().map(|n| pick(["", "", "", "s", n])).collect();
     let full = SIZES.map(|n| "x".repeat(n));
     let nameless = [0, 1, 2, 3, 4].map(|k| if k == 2 { String::new() } else { full[k].clone() });
-    let mut list = vec![
+    vec![
         Selection::of(b"", &[]),
         Selection::of(b"A", &[]),
         Selection::of(b"", slice::from_ref(&named)),
@@ -80,7 +84,22 @@ fn selections(random: &mut Random) -> Vec<Selection> {
         Selection::of(b"mdb-1078 Europe/Oslo", &[nameless, full]),
         Selection::of(b"", &[pick([""; 5])]),
         Selection::of(b"", &[pick([""; 5]), named, pick([""; 5])]),
-    ];
+    ]
+}
+
+/// Lengths past the end and missing, texts left over.
+fn misfit(random: &mut Random) -> Selection {
+    let lengths = (0..random.below(40)).map(|_| random.pick(&[0, 0, 0, 1, 1, 2, 3])).collect();
+    let texts = (0..random.below(9)).map(|_| random.pick(b"ab")).collect();
+    let mut made = Selection { identity: Vec::new(), texts, lengths };
+    if let Some(last) = made.lengths.last_mut().filter(|_| random.once_in(2)) {
+        *last = 255;
+    }
+    made
+}
+
+fn selections(random: &mut Random) -> Vec<Selection> {
+    let mut list = fixed();
     for length in [2, 63, 64, 65, 255, 256] {
         list.push(Selection { identity: random.bytes(length), ..list[2].clone() });
     }
@@ -98,16 +117,7 @@ fn selections(random: &mut Random) -> Vec<Selection> {
         let length = random.below(20);
         list.push(Selection::of(&random.bytes(length), &picks(random, count, false)));
     }
-    // lengths past the end and missing, texts left over
-    for _ in 0..24 {
-        let lengths = (0..random.below(40)).map(|_| random.pick(&[0, 0, 0, 1, 1, 2, 3])).collect();
-        let texts = (0..random.below(9)).map(|_| random.pick(b"ab")).collect();
-        let mut made = Selection { identity: Vec::new(), texts, lengths };
-        if let Some(last) = made.lengths.last_mut().filter(|_| random.once_in(2)) {
-            *last = 255;
-        }
-        list.push(made);
-    }
+    list.extend((0..24).map(|_| misfit(random)));
     list
 }
 

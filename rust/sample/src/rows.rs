@@ -92,12 +92,54 @@ fn stored(random: &mut Random, table: Table) -> Vec<Vec<String>> {
     list
 }
 
+/// A table in a bank's data.
+struct Placed {
+    table: Table,
+    rows: Vec<Vec<String>>,
+    /// Where it begins in the data.
+    from: u32,
+    /// Where its rows begin in it, and its length.
+    places: Vec<u32>,
+}
+
+/// Writes a table.
+fn place(update: &mut Update<'_, Flash>, table: Table, rows: Vec<Vec<String>>) -> Placed {
+    let from = update.position();
+    update.start(table).expect("room");
+    let mut places = vec![0];
+    for row in &rows[1..] {
+        places.push(update.position() - from);
+        let row: Vec<_> = row.iter().cloned().map(Some).collect();
+        update.row(values(table, &row).record()).expect("room");
+    }
+    places.push(update.position() - from);
+    update.end(table);
+    Placed { table, rows, from, places }
+}
+
 /// The lifted reader gives these rows, where it is at hand.
 fn read_back(flash: &Flash, bank: Bank, table: Table, rows: &[Vec<String>]) {
     #[cfg(feature = "reader")]
     assert_eq!(door::rows(flash, bank, 0, table).expect("rows"), rows);
     #[cfg(not(feature = "reader"))]
     let _ = (flash, bank, table, rows);
+}
+
+/// Each row of a table as it was given, then the table's end.
+fn reads(out: &mut String, placed: &Placed) -> Result {
+    let Placed { table, rows, from, places } = placed;
+    let from = SECTOR as u32 + from;
+    let (length, width) = (places[places.len() - 1], door::columns(*table).len());
+    for (row, pair) in rows.iter().zip(places.windows(2)) {
+        let ends = row.iter().scan(0, |end, v| {
+            *end += v.len();
+            Some(*end)
+        });
+        let (ends, values) = (pairs(ends), hex(row.concat().as_bytes()));
+        let [place, next] = [pair[0], pair[1]];
+        writeln!(out, "read {from} {length} {width} {place} {next} {ends} {values}")?;
+    }
+    writeln!(out, "read {from} {length} {width} {length} -")
 }
 
 /// An update of every table, as the lifted `Writer` writes it; then each row as it
@@ -110,39 +152,15 @@ fn tables(out: &mut String, random: &mut Random) -> Result {
     update.key(&config).expect("room");
     let (start, end) = (20260101, 20261231);
     update.source(SourceFields { start, end, ..Default::default() }).expect("room");
-    let mut places = Vec::new();
-    for table in Table::ALL {
-        let list = stored(random, table);
-        let from = update.position();
-        update.start(table).expect("room");
-        let mut at = vec![0];
-        for row in &list[1..] {
-            at.push(update.position() - from);
-            let row: Vec<_> = row.iter().cloned().map(Some).collect();
-            update.row(values(table, &row).record()).expect("room");
-        }
-        at.push(update.position() - from);
-        update.end(table);
-        places.push((table, list, SECTOR as u32 + from, at));
-    }
+    let placed = Table::ALL.map(|table| place(&mut update, table, stored(random, table)));
     update.end_source();
     let bank = update.commit().expect("a good bank");
     let mut region = Region::new(out, 255)?;
     region.bytes.copy_from_slice(&flash.region.borrow());
     banks::questions(out, region)?;
-    for (table, list, from, at) in places {
-        read_back(&flash, bank, table, &list[1..]);
-        let (length, width) = (at[at.len() - 1], door::columns(table).len());
-        for (row, pair) in list.iter().zip(at.windows(2)) {
-            let ends = row.iter().scan(0, |end, v| {
-                *end += v.len();
-                Some(*end)
-            });
-            let (ends, values) = (pairs(ends), hex(row.concat().as_bytes()));
-            let [place, next] = [pair[0], pair[1]];
-            writeln!(out, "read {from} {length} {width} {place} {next} {ends} {values}")?;
-        }
-        writeln!(out, "read {from} {length} {width} {length} -")?;
+    for placed in &placed {
+        read_back(&flash, bank, placed.table, &placed.rows[1..]);
+        reads(out, placed)?;
     }
     Ok(())
 }
