@@ -237,82 +237,118 @@ def noise(length):
 LONG_IDENTITY = b"identity " * 7281 + b"ending"
 LONG_PICKS = [(b"line%04d" % i, b"r" * 32, b"", b"s" * 32, b"n" * 64) for i in range(16)]
 OK = "passes"
+REFUSED = {n: "refusal %d %s" % (n, word) for n, word in
+           zip(range(3, 8), ["mark", "seal", "span", "source", "data"])}
+LAST = (1 << 32) - 1
+HALF = 1 << 31
 
 
-def images():
-    """Name, what it shows, both banks, what is meant of each, the bank that load gives."""
-    refuse = {n: "refusal %d %s" % (n, w) for n, w in
-              zip(range(3, 8), ["mark", "seal", "span", "source", "data"])}
-    last = (1 << 32) - 1
-    half = 1 << 31
+def plain():
+    return [
+        ("fresh", "a region never written: all bytes 255", ERASED, ERASED, REFUSED[3], REFUSED[3], None),
+        ("two-good", "two good banks, two sources each, a key of an identity and two picks",
+         good(7, trips=9), good(8), OK, OK, 1),
+        ("one-good", "one good bank, the other never written", Bank(0), ERASED, OK, REFUSED[3], 0),
+    ]
+
+
+def refusals():
+    """One bank refused by each number, then both."""
     bad = {
         3: [good(9, magic=b"TTFB"), good(8, version=4)],
         4: [good(9, seal=0), flipped(Bank(8), 48 + 2 * 384 + 7)],
         5: [good(9, checked=-1), good(8, count=4)],
-        6: [with_source(9, start=20260229), block(8, last, 2)],
+        6: [with_source(9, start=20260229), block(8, LAST, 2)],
         7: [flipped(good(9), SECTOR + 200), flipped(Bank(8), SECTOR + Bank(8).length - 1, 7)],
     }
-    out = [
-        ("fresh", "a region never written: all bytes 255", ERASED, ERASED, refuse[3], refuse[3], None),
-        ("two-good", "two good banks, two sources each, a key of an identity and two picks",
-         good(7, trips=9), good(8), OK, OK, 1),
-        ("one-good", "one good bank, the other never written", Bank(0), ERASED, OK, refuse[3], 0),
-    ]
     why = {3: "magic wrong", 4: "header CRC wrong", 5: "checked time below 0",
            6: "start date 20260229", 7: "one bit of the data flipped"}
     both = {3: "magic wrong; version 4", 4: "header CRC wrong; a bit flipped in a record past the count",
             5: "checked time below 0; four sources", 6: "start date 20260229; block at 4294967295 of length 2",
             7: "a bit flipped in the data; the last data bit flipped"}
-    for n in range(3, 8):
-        out.append(("refusal-%d" % n, why[n] + "; the other bank good and older",
-                    bad[n][0], good(8), refuse[n], OK, 1))
-    for n in range(3, 8):
-        out.append(("both-%d" % n, both[n], bad[n][0], bad[n][1], refuse[n], refuse[n], None))
-    out += [
-        ("generation-0-after-last", "0 is newer than 4294967295", good(last), Bank(0), OK, OK, 1),
+    one = [("refusal-%d" % n, why[n] + "; the other bank good and older",
+            bad[n][0], good(8), REFUSED[n], OK, 1) for n in range(3, 8)]
+    return one + [("both-%d" % n, both[n], bad[n][0], bad[n][1], REFUSED[n], REFUSED[n], None)
+                  for n in range(3, 8)]
+
+
+def generations():
+    return [
+        ("generation-0-after-last", "0 is newer than 4294967295", good(LAST), Bank(0), OK, OK, 1),
         ("generation-last-before-0", "0 is newer than 4294967295, banks the other way round",
-         Bank(0), good(last), OK, OK, 0),
+         Bank(0), good(LAST), OK, OK, 0),
         ("generation-equal", "equal generations: bank 0", good(5), Bank(5), OK, OK, 0),
-        ("generation-half-above", "generations 2147483648 apart: bank 0", good(0), Bank(half), OK, OK, 0),
+        ("generation-half-above", "generations 2147483648 apart: bank 0", good(0), Bank(HALF), OK, OK, 0),
         ("generation-half-below", "generations 2147483648 apart, the other way round: bank 0",
-         good(half), Bank(0), OK, OK, 0),
+         good(HALF), Bank(0), OK, OK, 0),
         ("generation-of-bad", "the newer word stands in a bad bank", good(3),
-         good(4, crc=0), OK, refuse[7], 0),
+         good(4, crc=0), OK, REFUSED[7], 0),
+    ]
+
+
+def cuts():
+    return [
         ("cut-in-data", "an update cut after two pages of data", good(3),
-         cut(4, Bank(4).data[:512]), OK, refuse[3], 0),
+         cut(4, Bank(4).data[:512]), OK, REFUSED[3], 0),
         ("cut-before-commit", "an update cut before its commit word", good(3),
-         Bank(4, commit=last), OK, refuse[3], 0),
-        ("version-1", "a bank of version 1", good(1, version=1), ERASED, OK, refuse[3], 0),
-        ("version-2", "a bank of version 2", good(1, version=2), ERASED, OK, refuse[3], 0),
-        ("version-3", "a bank of version 3", good(1), ERASED, OK, refuse[3], 0),
+         Bank(4, commit=LAST), OK, REFUSED[3], 0),
+    ]
+
+
+def versions():
+    return [
+        ("version-1", "a bank of version 1", good(1, version=1), ERASED, OK, REFUSED[3], 0),
+        ("version-2", "a bank of version 2", good(1, version=2), ERASED, OK, REFUSED[3], 0),
+        ("version-3", "a bank of version 3", good(1), ERASED, OK, REFUSED[3], 0),
         ("versions-1-and-2", "a bank of version 2 after one of version 1", good(1, version=1),
          good(2, version=2), OK, OK, 1),
-        ("three-sources", "three sources; days in common, one updated time unknown, one 0",
-         Bank(2, three_sources()), ERASED, OK, refuse[3], 0),
-        ("record-past-count", "garbage in the records past the count, header CRC right",
-         Bank(2, past={1: noise(384), 2: noise(384)[::-1]}), ERASED, OK, refuse[3], 0),
-        ("present-bit-7", "present bit 7 in version 1, which has no table 7", None, ERASED, OK,
-         refuse[3], 0),
-        ("empty-block-anywhere", "an empty table at offset 4294967295", block(2, last, 0), ERASED,
-         OK, refuse[3], 0),
-        ("bytes-28-31", "header bytes 28 to 31 not zero, header CRC right", good(2, spare=0xDEADBEEF),
-         ERASED, OK, refuse[3], 0),
-        ("id-length-200", "an id length over 80 in a stored record", None, ERASED, OK, refuse[3], 0),
-        ("ticket-41", "a good header over mixed rows: reading the header alone takes bank 1, load turns "
-         "it down; bank 0 holds the timetable last committed", *ticket(), OK, refuse[7], 0),
-        ("full-bank", "487424 bytes of data", full(), ERASED, OK, refuse[3], 0),
-        ("longest-key", "a key of 67795 bytes", Bank(2, words=key(LONG_IDENTITY, LONG_PICKS)), ERASED, OK, refuse[3], 0),
     ]
-    special = {}
-    bit7 = Bank(2, version=1)
-    bit7.sources[0].present = 255
-    special["present-bit-7"] = bit7
-    odd = Bank(2)
-    odd.past = {0: bytearray(odd.sources[0].record(3))}
-    odd.past[0][192] = 200
-    odd.past[0] = bytes(odd.past[0])
-    special["id-length-200"] = odd
-    return [(name, what, special.get(name, a), b, *rest) for name, what, a, b, *rest in out]
+
+
+def present_bit_7():
+    bank = Bank(2, version=1)
+    bank.sources[0].present = 255
+    return bank
+
+
+def long_id():
+    bank = Bank(2)
+    record = bytearray(bank.sources[0].record(3))
+    record[192] = 200
+    bank.past = {0: bytes(record)}
+    return bank
+
+
+def passing():
+    """Unusual fields that pass."""
+    return [
+        ("three-sources", "three sources; days in common, one updated time unknown, one 0",
+         Bank(2, three_sources()), ERASED, OK, REFUSED[3], 0),
+        ("record-past-count", "garbage in the records past the count, header CRC right",
+         Bank(2, past={1: noise(384), 2: noise(384)[::-1]}), ERASED, OK, REFUSED[3], 0),
+        ("present-bit-7", "present bit 7 in version 1, which has no table 7", present_bit_7(), ERASED, OK,
+         REFUSED[3], 0),
+        ("empty-block-anywhere", "an empty table at offset 4294967295", block(2, LAST, 0), ERASED,
+         OK, REFUSED[3], 0),
+        ("bytes-28-31", "header bytes 28 to 31 not zero, header CRC right", good(2, spare=0xDEADBEEF),
+         ERASED, OK, REFUSED[3], 0),
+        ("id-length-200", "an id length over 80 in a stored record", long_id(), ERASED, OK, REFUSED[3], 0),
+    ]
+
+
+def contents():
+    return [
+        ("ticket-41", "a good header over mixed rows: reading the header alone takes bank 1, load turns "
+         "it down; bank 0 holds the timetable last committed", *ticket(), OK, REFUSED[7], 0),
+        ("full-bank", "487424 bytes of data", full(), ERASED, OK, REFUSED[3], 0),
+        ("longest-key", "a key of 67795 bytes", Bank(2, words=key(LONG_IDENTITY, LONG_PICKS)), ERASED, OK,
+         REFUSED[3], 0),
+    ]
+
+
+def images():
+    """Name, what it shows, both banks, what is meant of each, the bank that load gives."""
+    return plain() + refusals() + generations() + cuts() + versions() + passing() + contents()
 
 
 def region(a, b):
