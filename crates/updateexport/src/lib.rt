@@ -49,8 +49,7 @@ pub extern "C" fn tt_update_table(state: State, table: u32) -> UpdateStep
     after(s, state)
 }
 
-// Takes bytes until the tail is full, and says how many; none while an operation is due. What it leaves of the state comes from the state
-// itself, which saves copies of it.
+// Takes bytes until the tail is full, and says how many; none while an operation is due.
 #[no_mangle]
 pub extern "C" fn tt_update_bytes(state: State, bytes: &[u8]) -> UpdateStep
     ensures { λ x. ⌜ x ≡ Answers.after (Lower.bytesStep (writerOf state) (now (bytes .entry))) state ⌝ }
@@ -58,6 +57,7 @@ pub extern "C" fn tt_update_bytes(state: State, bytes: &[u8]) -> UpdateStep
     let s = take::bytes(writer_of(state), bytes);
     let x = after(s, state);
     let numbers = x.numbers;
+    // the sources stay: taken from the state itself, which saves copies
     let sources = state.sources;
     let mut v = x.state;
     v.sources = sources;
@@ -82,7 +82,7 @@ pub extern "C" fn tt_update_close(state: State) -> UpdateStep
     after(s, state)
 }
 
-// Does the erase, write or comparison that is due, or says that none is. What it leaves of the state comes from the state itself.
+// Does the erase, write or comparison that is due, or says that none is.
 #[no_mangle]
 pub extern "C" fn tt_update_due(region: &mut [u8], state: State) -> UpdateStep
     ensures { λ x. ⌜ x ≡ Answers.after (Due.dueStep (now (region .entry)) (writerOf state)) state ⌝ }
@@ -91,6 +91,7 @@ pub extern "C" fn tt_update_due(region: &mut [u8], state: State) -> UpdateStep
     let s = due::due(writer_of(state), region);
     let x = after(s, state);
     let numbers = x.numbers;
+    // the sources and the tail stay
     let sources = state.sources;
     let tail = state.tail;
     let mut v = x.state;
