@@ -37,7 +37,7 @@ both-right : (a b : Bool) → T (both a b) → T b
 both-right true b t = t
 both-right false b t = absurd t
 
-followed : (p t : List ℕ) → T (follows p t) → (k : ℕ) → k < length t → getD t k 0 ≡ steps 4 (getD p k 0)
+pub followed : (p t : List ℕ) → T (follows p t) → (k : ℕ) → k < length t → getD t k 0 ≡ steps 4 (getD p k 0)
 unfolding follows
 followed p [] h k l = absurd (not-suc-le-zero l)
 followed [] (x ∷ t) h k l = absurd h

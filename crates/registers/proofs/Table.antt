@@ -1,11 +1,10 @@
 -- The table of nibbles for 2048 steps: its rule, by one test that is computed, and what lookups of it make together. Assumes nothing.
 use mathlib.Core.Path.{_≡_, refl, sym, ap, ap₂, _∙_}
-use mathlib.Core.Bool.{Bool, true, false}
 use mathlib.Core.List.{List, [], _∷_, _++_}
 use Prim.Native.Nat.{ℕ, zero, suc, _+_, _*_, _/_, _%_, _^_, _<_, _≤_}
 use native.Mathlib.Nat.{zero-add, add-zero, zero-mul, one-mul, mod-lt, le-of-suc-le-suc, not-suc-le-zero}
 use native.Mathlib.Omega.{arith}
-use lib.Dec.{T, eqb, eqb→eq}
+use lib.Dec.{T}
 use lib.Pow.{pow-pos, shr-shr, shr-mod}
 use lib.Bits.{bitXor, xor-comm, xor-self}
 use lib.ListN.{length, getD, List·getD-append}
@@ -13,7 +12,7 @@ use lib.Seq.{getD-append-add}
 use Rattle.register.specs.Register.{step, steps, run}
 use Rattle.register.proofs.Xor.{digit-ind, xor-four}
 use Rattle.register.proofs.Steps.{steps-add, steps-split, steps-xor, run-zero}
-use Rattle.register.proofs.Table.{both, follows}
+use Rattle.register.proofs.Table.{follows, followed}
 use Rattle.registers.specs.Shift.{Shifts}
 
 -- ---- two registers
@@ -99,21 +98,6 @@ ahead-length : (i n : ℕ) → length (ahead i n) ≡ n
 unfolding ahead
 ahead-length i zero = refl
 ahead-length i (suc n) = ap suc (ahead-length (suc i) n)
-
-both-left : (a b : Bool) → T (both a b) → T a
-both-left true b t = tt
-both-left false b t = t
-
-both-right : (a b : Bool) → T (both a b) → T b
-both-right true b t = t
-both-right false b t = absurd t
-
-followed : (p t : List ℕ) → T (follows p t) → (k : ℕ) → k < length t → getD t k 0 ≡ steps 4 (getD p k 0)
-unfolding follows
-followed p [] h k l = absurd (not-suc-le-zero l)
-followed [] (x ∷ t) h k l = absurd h
-followed (a ∷ p) (x ∷ t) h zero l = eqb→eq x (steps 4 a) (both-left (eqb x (steps 4 a)) (follows p t) h)
-followed (a ∷ p) (x ∷ t) h (suc k) l = followed p t (both-right (eqb x (steps 4 a)) (follows p t) h) k (le-of-suc-le-suc l)
 
 -- each entry is the one sixteen before it after 4 more steps, and before the first sixteen are the nibbles after 2016
 module _ (t : List ℕ) (test : T (follows (ahead 0 16 ++ t) t)) where
