@@ -11,6 +11,8 @@ use crate::{
     update::{self, Answer, State},
 };
 
+pub use crate::update::Operation;
+
 pub const SIZE: usize = 983_040;
 pub const BANK_SIZE: usize = SIZE / 2;
 pub const SOURCES: usize = 3;
@@ -316,6 +318,13 @@ impl Writer {
     /// No more bytes: what the tail holds is then due.
     pub fn close(&mut self) -> Result<(), Refusal> {
         done(self.0.close())
+    }
+
+    /// The flash operation that the next `due` does, on a writer that calls
+    /// reached: for a driver that brings it to the chip. None where nothing is
+    /// due, and in comparing mode.
+    pub fn operation(&self) -> Option<Operation> {
+        self.0.operation()
     }
 
     /// Does the operation that is due; whether there was one.

@@ -2,6 +2,7 @@
 //! index, number and length has an answer. `cache` has the calls under the names
 //! of the firmware's cache.rs, with results and refusals; the other modules have
 //! them with the numbers that cross the C interface.
+#![no_std]
 
 pub mod cache;
 pub mod refusal;

@@ -141,6 +141,17 @@ pub const STEP: usize = size_of::<Step>();
 
 const _: () = assert!(size_of::<State>() == 1400 && STEP == 1416);
 
+const BANK_SIZE: usize = 491_520;
+const SECTOR: usize = 4_096;
+
+/// A flash operation, by its place in the region: an erase of a sector of 4,096
+/// bytes, or a write of so many.
+#[derive(Clone, Copy, Debug, PartialEq, Eq)]
+pub enum Operation {
+    Erase { offset: usize },
+    Write { offset: usize, length: usize },
+}
+
 /// Goes over a state's bytes in order, and copies them to or from the state.
 struct Copier<'a> {
     bytes: &'a mut [u8; SIZE],
@@ -185,7 +196,7 @@ impl State {
             copier.time(&mut source.updated);
             copier.words(&mut source.tables);
             copier.raw(&mut source.stamp);
-            copier.raw(std::slice::from_mut(&mut source.idlen));
+            copier.raw(core::slice::from_mut(&mut source.idlen));
             copier.raw(&mut source.id);
             copier.raw(&mut source.validator);
         }
@@ -226,6 +237,28 @@ impl State {
     fn take(&mut self, step: Step) -> Answer {
         *self = step.state;
         step.answer
+    }
+    /// The bank that is written: the one that isn't active, 0 where none is.
+    fn target(&self) -> usize {
+        usize::from(self.stage[3] == 1 && self.bank.numbers[0] == 0)
+    }
+    /// The flash operation that the next due call does, on a state that calls
+    /// reached: for a driver that brings it to the chip. None where nothing is
+    /// due, and in comparing mode.
+    pub fn operation(&self) -> Option<Operation> {
+        let [kind, first, second, _] = self.stage.map(|n| n as usize);
+        let bank = self.target() * BANK_SIZE;
+        let inside = first < BANK_SIZE && second <= self.tail.len();
+        match kind {
+            1 if first < BANK_SIZE / SECTOR => {
+                Some(Operation::Erase { offset: bank + first * SECTOR })
+            }
+            2 if inside => Some(Operation::Write {
+                offset: bank + SECTOR + first,
+                length: second.next_multiple_of(4),
+            }),
+            _ => None,
+        }
     }
 }
 

@@ -2,7 +2,7 @@
 use bankcore::{
     Refusal, banks,
     banks::Picks,
-    cache::{self, Checking, SIZE, SOURCE_BYTES, Source, Turn, Writer},
+    cache::{self, Checking, Operation, SIZE, SOURCE_BYTES, Source, Turn, Writer},
     get,
     rows::Values,
     update,
@@ -161,6 +161,45 @@ fn a_refused_call_leaves_the_writer() {
     assert_eq!(writer.due(&mut image[1..]), Err(Refusal::Region));
     assert_eq!(writer.due(&mut image), Ok(false));
     assert!((image, writer) == before);
+}
+
+/// The flash model of document 01, on a chip that a driver writes.
+fn driven(chip: &mut [u8], operation: Operation, region: &[u8]) {
+    match operation {
+        Operation::Erase { offset } => chip[offset..offset + 4096].fill(255),
+        Operation::Write { offset, length } => {
+            let bytes = offset..offset + length;
+            chip[bytes.clone()].iter_mut().zip(&region[bytes]).for_each(|(old, new)| *old &= new);
+        }
+    }
+}
+
+#[test]
+fn a_driver_is_told_each_operation_before_it_is_done() {
+    for (name, length) in [("two-good", 5_000), ("both-7", 257), ("two-good", 256)] {
+        let mut region = sample(name);
+        let mut chip = region.clone();
+        let mut writer = Writer::new(&region, false, 0).unwrap();
+        let mut bytes = &vec![9; length][..];
+        let mut operations = 0;
+        while !bytes.is_empty() || writer.operation().is_some() {
+            let told = writer.operation();
+            assert_eq!(writer.due(&mut region), Ok(told.is_some()));
+            if let Some(operation) = told {
+                driven(&mut chip, operation, &region);
+                operations += 1;
+            }
+            assert!(chip == region);
+            let taken = writer.append(bytes).unwrap_or(0);
+            bytes = &bytes[taken..];
+            if bytes.is_empty() {
+                let _ = writer.close();
+            }
+        }
+        assert_eq!(operations, 1 + length.div_ceil(4096) + length.div_ceil(256));
+    }
+    let forged = Writer::from_bytes([1; update::SIZE]);
+    assert_eq!(forged.operation(), None);
 }
 
 #[test]
