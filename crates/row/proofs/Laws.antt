@@ -175,7 +175,7 @@ set-early o k m c [] h = refl
 set-early o k m c (x ∷ b) h = set-early (set o m x) k (suc m) c b (omega arith) ∙ ap (λ (l : List ℕ). sets l (suc m) b) (set-comm o m k x c (λ e. omega arith))
 
 -- what is written over is as if it had not been written
-sets-over : (o : List ℕ) (k : ℕ) (b c : List ℕ) → length b ≤ length c → sets (sets o k b) k c ≡ sets o k c
+pub sets-over : (o : List ℕ) (k : ℕ) (b c : List ℕ) → length b ≤ length c → sets (sets o k b) k c ≡ sets o k c
 sets-over o k [] c h = refl
 sets-over o k (x ∷ b) [] h = absurd (omega arith)
 sets-over o k (x ∷ b) (y ∷ c) h =
@@ -187,7 +187,7 @@ sets-all o v h =
     let m : length o ≤ 0 + length v = omega arith in
     sets-eq v o 0 (omega arith) ∙ ap (λ (l : List ℕ). v ++ l) (drop-of-length-le o m) ∙ append-nil v
 
-plain-doubled : (n : ℕ) (x : List ℕ) → n ≤ length x → ((j : ℕ) → j < n → getD x j 0 ≡ 34 → ⊥) → doubled x ≡ take n x ++ doubled (drop n x)
+pub plain-doubled : (n : ℕ) (x : List ℕ) → n ≤ length x → ((j : ℕ) → j < n → getD x j 0 ≡ 34 → ⊥) → doubled x ≡ take n x ++ doubled (drop n x)
 unfolding doubled
 plain-doubled zero x h q = refl
 plain-doubled (suc n) [] h q = absurd (omega arith)

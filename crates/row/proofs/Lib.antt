@@ -1,3 +1,4 @@
 pub mod Laws
+pub mod Blocks
 pub mod Calls
 pub mod Names

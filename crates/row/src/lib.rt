@@ -266,6 +266,57 @@ fn put_runs(v: &[u8], size: usize, out: &mut [u8], to: usize)
     copy(&v[i..v.len()], out, n);
 }
 
+// The first 64 bytes of v with their quotes doubled, into out from a place on, and where they end. More may be written behind them, for all
+// that is written over.
+fn put_block(v: &[u8], out: &mut [u8], to: usize) -> usize
+    requires { ⌜ (128 ≤ length (now v)) × (to + length (doubled (now v)) ≤ length (now out)) ⌝ }
+    ensures { λ r. ⌜ (r ≡ to + length (doubled (take 64 (now (v .entry))))) × (sets (now (out .exit)) r (doubled (drop 64 (now (v .entry)))) ≡ sets (now (out .entry)) to (doubled (now (v .entry)))) ⌝ }
+{
+    let part = &v[0..64];
+    let n = quotes(part);
+    if 1 < n {
+        return put_each(part, out, to);
+    }
+    block(part, out, to);
+    if n == 0 {
+        return to + 64;
+    }
+    let f = first_quote(part) as usize;
+    let end = f + 64;
+    block(&v[f..end], out, to + f + 1);
+    to + 65
+}
+
+// So many bytes of a value are put, up to a place in out.
+struct Put {
+    bytes: usize,
+    to: usize,
+}
+
+// The blocks of a value that have 64 bytes or more behind them, with their quotes doubled, into out from a place on.
+fn put_blocks(v: &[u8], out: &mut [u8], to: usize) -> Put
+    requires { ⌜ to + length (doubled (now v)) ≤ length (now out) ⌝ }
+    ensures { λ r. ⌜ (r .bytes ≤ length (now (v .entry))) × (r .to + length (doubled (drop (r .bytes) (now (v .entry)))) ≡ to + length (doubled (now (v .entry)))) × (sets (now (out .exit)) (r .to) (doubled (drop (r .bytes) (now (v .entry)))) ≡ sets (now (out .entry)) to (doubled (now (v .entry)))) ⌝ }
+{
+    let mut n = to;
+    let mut i: usize = 0;
+    while 128 <= v.len() - i {
+        n = put_block(&v[i..v.len()], out, n);
+        i += 64;
+    }
+    Put { bytes: i, to: n }
+}
+
+// A value with few quotes, which are doubled: its blocks, then from quote to quote.
+fn put_few(v: &[u8], size: usize, out: &mut [u8], to: usize)
+    requires { ⌜ (size ≡ length (doubled (now v))) × (to + size ≤ length (now out)) ⌝ }
+    ensures { λ _. ⌜ now (out .exit) ≡ sets (now (out .entry)) to (doubled (now (v .entry))) ⌝ }
+{
+    let p = put_blocks(v, out, to);
+    let from = p.bytes;
+    put_runs(&v[from..v.len()], to + size - p.to, out, p.to);
+}
+
 // The same: a value without quotes is copied as it is, one with many goes byte by byte.
 fn put_inner(v: &[u8], size: usize, out: &mut [u8], to: usize)
     requires { ⌜ (size ≡ length (doubled (now v))) × (to + size ≤ length (now out)) ⌝ }
@@ -276,7 +327,7 @@ fn put_inner(v: &[u8], size: usize, out: &mut [u8], to: usize)
         return;
     }
     if size - v.len() < v.len() / 16 {
-        put_runs(v, size, out, to);
+        put_few(v, size, out, to);
         return;
     }
     put_each(v, out, to);

@@ -9,7 +9,7 @@ use Rattle.row.proofs.put_inner.Reads as reads
 use Rattle.row.proofs.put_inner.Lts as lts
 use Rattle.row.proofs.copy.Reads as copy-reads
 use Rattle.row.proofs.put_each.Reads as put-each-reads
-use Rattle.row.proofs.put_runs.Reads as put-runs-reads
+use Rattle.row.proofs.put_few.Reads as put-few-reads
 
 copy-requires : tie.Need-copy-requires
 copy-requires c κs = search needs
@@ -25,8 +25,8 @@ returns c =
 sub-if2 : tie.Need-sub-if2
 sub-if2 c = omega (arith, c .before .before .before .pre .0, doubled-less (c .before .before .before .args .v .now))
 
-put-runs-requires : tie.Need-put-runs-requires
-put-runs-requires c κs = search needs
+put-few-requires : tie.Need-put-few-requires
+put-few-requires c κs = search needs
 
 same-length-2 : tie.Need-same-length-2
 same-length-2 c = search needs
@@ -51,7 +51,7 @@ put-inner-spec =
     same-length
     returns
     sub-if2
-    put-runs-requires
+    put-few-requires
     same-length-2
     returns-2
     put-each-requires
