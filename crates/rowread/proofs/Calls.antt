@@ -9,13 +9,13 @@ use lib.Seq.{sets, take-all}
 use borrow.Author.Tests.{lt-leb, le-leb, eq-eqb, ne-eqb}
 use Rattle.leaf.proofs.Laws.{written-sets}
 use Rattle.csv.specs.Read as Csv
-use Rattle.csv.proofs.Grammar.{sound}
+use Rattle.csv.proofs.Grammar.{sound, complete}
 use Rattle.refusal.specs.declared.Refusal.the-variants.{Small, Row}
 use Rattle.rowread.specs.declared.Scan.the-variants.{Whole, Broken}
 use Rattle.rowread.specs.declared.ReadAnswer.{ReadAnswer}
 use Rattle.rowread.specs.declared.ReadAnswer.the-variants.{Stored, End, Refused}
 use Rattle.rowread.specs.Stored.{partAt, rowAt, valuesOf, valuesAt, joined, endsOf, found, readAnswer, after}
-use Rattle.rowread.specs.Steps.{scanFrom, scanOf, IsRow}
+use Rattle.rowread.specs.Steps.{scanFrom, scanOf, IsRow, Holds}
 
 take-min : (n : ℕ) (l : List ℕ) → take (min n (length l)) l ≡ take n l
 take-min n l = go (decLt n (length l))
@@ -39,6 +39,10 @@ pub record Answers (table : List ℕ) (width place : ℕ) (out ends : List ℕ) 
   pub is : r ≡ readAnswer table width place (length out) (length ends)
   pub bytes : o ≡ after r (joined (valuesAt table width place)) out
   pub marks : e ≡ after r (endsOf 0 (valuesAt table width place)) ends
+
+-- outputs to which nothing was written yet
+pub since : {table : List ℕ} {width place : ℕ} {out ends o s p q : List ℕ} {r : ReadAnswer} → o ≡ out → s ≡ ends → Answers table width place o s r p q → Answers table width place out ends r p q
+since e f a = rw (e, f) at a
 
 module _ (table : List ℕ) (width place : ℕ) (out ends : List ℕ) where
   pub read-past : length table < place → Answers table width place out ends (Refused Row) out ends
@@ -120,3 +124,13 @@ module _ (table : List ℕ) (width place : ℕ) (out ends : List ℕ) where
               bytes = p ∙ sym (written-sets out 0 (joined (valuesAt table width place)) (omega arith));
               marks = w ∙ sym (written-sets ends 0 (endsOf 0 (valuesAt table width place)) (omega arith));
             }
+
+    -- by a quick way
+    pub read-quick : {o s : List ℕ} {next size : ℕ} → Holds (partAt table place) width out ends o s next size → Answers table width place out ends (Stored (place + next) size) o s
+    unfolding scanOf
+    read-quick {o} {s} {next} {size} x =
+        let t = partAt table place in
+        let c : rowAt table width place ≡ Csv.row (x .values) (drop next t) = rw (x .many) at (complete (x .read)) in
+        let n : length t - length (drop next t) ≡ next = omega (arith, length-drop next t, x .inside) in
+        let z : 0 + length (joined (x .values)) ≡ size = omega (arith, x .sized) in
+        read-whole next size (rw (c, n, z)) (x .fits) (x .slots) o s (x .bytes ∙ rw c) (x .marks ∙ rw c)

@@ -16,7 +16,7 @@ use Rattle.csv.proofs.Places.{field-place}
 use Rattle.rowread.specs.Stored.{valuesOf, joined, endsOf}
 use Rattle.number.specs.Number.{pick}
 use Rattle.rowread.specs.Steps.{valueOf, restOf, IsRow, isStop, lineOf}
-use Rattle.rowread.proofs.Lines.{no-quote, line-take}
+use Rattle.rowread.proofs.Lines.{no-quote, run-end, run-part}
 use Rattle.rowread.proofs.Laws.{inner-out, inner-byte, inner-twice, inner-close, past, plain-all, field-plain}
 
 -- ---- a value without quotes
@@ -80,24 +80,18 @@ run-has (b ∷ bs) r h = go (isStop b) refl (run-has bs r)
 
 -- a run without stops, from p to e
 module _ (t : List ℕ) (p e : ℕ) (r : List ℕ) (h : Has (inner (drop p t)) r) (q : e ≡ p + length (lineOf (drop p t))) where
-  run-end : drop (length (lineOf (drop p t))) (drop p t) ≡ drop e t
-  run-end = drop-drop (length (lineOf (drop p t))) p t ∙ ap (λ (x : ℕ). drop x t) (sym q)
-
-  run-part : take (e - p) (drop p t) ≡ lineOf (drop p t)
-  run-part = let m : e - p ≡ length (lineOf (drop p t)) = omega (arith, q) in rw m (line-take (drop p t))
-
   pub run-left : Has (inner (drop e t)) r
-  run-left = has-same (inner (drop (length (lineOf (drop p t))) (drop p t))) (inner (drop e t)) r (ap inner run-end) (run-has (drop p t) r h .0)
+  run-left = has-same (inner (drop (length (lineOf (drop p t))) (drop p t))) (inner (drop e t)) r (ap inner (run-end t p e q)) (run-has (drop p t) r h .0)
 
   run-value : valueOf (inner (drop p t)) ≡ take (e - p) (drop p t) ++ valueOf (inner (drop e t))
-  run-value = run-has (drop p t) r h .1 ∙ ap (λ (l : List ℕ). lineOf (drop p t) ++ valueOf (inner l)) run-end ∙ ap (λ (l : List ℕ). l ++ valueOf (inner (drop e t))) (sym run-part)
+  run-value = run-has (drop p t) r h .1 ∙ ap (λ (l : List ℕ). lineOf (drop p t) ++ valueOf (inner l)) (run-end t p e q) ∙ ap (λ (l : List ℕ). l ++ valueOf (inner (drop e t))) (sym (run-part t p e q))
 
   pub run-size : length (valueOf (inner (drop p t))) ≡ (e - p) + length (valueOf (inner (drop e t)))
-  run-size = ap length run-value ∙ length-append (take (e - p) (drop p t)) (valueOf (inner (drop e t))) ∙ omega (arith, ap length run-part, q)
+  run-size = ap length run-value ∙ length-append (take (e - p) (drop p t)) (valueOf (inner (drop e t))) ∙ omega (arith, ap length (run-part t p e q), q)
 
   pub run-sets : (out : List ℕ) (n : ℕ) → sets out n (valueOf (inner (drop p t))) ≡ sets (sets out n (take (e - p) (drop p t))) (n + (e - p)) (valueOf (inner (drop e t)))
   run-sets out n =
-      let m : length (take (e - p) (drop p t)) ≡ e - p = omega (arith, ap length run-part, q) in
+      let m : length (take (e - p) (drop p t)) ≡ e - p = omega (arith, ap length (run-part t p e q), q) in
       ap (sets out n) run-value ∙ sets-append out n (take (e - p) (drop p t)) (valueOf (inner (drop e t))) ∙ ap (λ (x : ℕ). sets (sets out n (take (e - p) (drop p t))) (n + x) (valueOf (inner (drop e t)))) m
 
 module _ (t : List ℕ) (p : ℕ) (r : List ℕ) (h : Has (inner (drop p t)) r) where

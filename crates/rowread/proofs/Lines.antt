@@ -6,18 +6,19 @@ use native.Mathlib.Numerals.{add-one}
 use native.Mathlib.Nat.{add-zero}
 use mathlib.Core.Bool.{Bool, true, false, not, _||_}
 use mathlib.Core.Path.{_≡_, refl, sym, ap, _∙_}
-use mathlib.Core.List.{List, [], _∷_, _++_}
+use mathlib.Core.List.{List, [], _∷_, _++_, append-nil}
 use lib.Dec.{eqb}
-use lib.ListN.{length, take, drop, getD, drop-of-length-le, length-drop, length-take}
-use lib.Seq.{drop-cons, drop-drop, take-all}
+use lib.ListN.{length, take, drop, getD, set, drop-of-length-le, length-drop, length-take, length-append}
+use lib.Seq.{sets, drop-cons, drop-drop, take-all, take-suc, split-at}
 use borrow.Author.Tests.{eq-eqb, ne-eqb, eqb-true}
 use Rattle.number.specs.Number.{pick}
 use Rattle.csv.specs.Csv.{isText, NonEscaped, none, text, Field, nonEscaped, lf, Record, last, more}
 use Rattle.csv.specs.Read.{Got, push, inner, Row, row, values}
 use Rattle.csv.proofs.Grammar.{complete}
+use Rattle.csv.proofs.Laws.{sets-append}
 use Rattle.rowread.specs.declared.Scan.the-variants.{Whole}
 use Rattle.rowread.specs.Stored.{valuesOf, joined, endsOf}
-use Rattle.rowread.specs.Steps.{pieceOf, scanOf, isStop, FirstStop, lineOf, commasIn, textIn, marksIn, IsLine}
+use Rattle.rowread.specs.Steps.{pieceOf, scanOf, isStop, FirstStop, lineOf, commasIn, textIn, cutsIn, marksIn, IsLine, anyStop, Opens, Closes}
 use Rattle.rowread.proofs.Laws.{past, add, add-push}
 
 -- ---- the bytes before the first one
@@ -34,7 +35,7 @@ pub line-turn : (t : List ℕ) (i : ℕ) → i < length t → isStop (getD t i 0
 unfolding lineOf
 line-turn t i h e = rw (add-one i, drop-cons t i 0 h) (simp e (omega arith))
 
-neither : (a b : Bool) → (a || b) ≡ false → (a ≡ false) × (b ≡ false)
+pub neither : (a b : Bool) → (a || b) ≡ false → (a ≡ false) × (b ≡ false)
 neither true b e = absurd (let z : _≡_ {A = ℕ} 0 1 = cc in omega arith)
 neither false b e = (refl, e)
 
@@ -131,17 +132,26 @@ pub text-out : (v : List ℕ) (i : ℕ) → length v ≤ i → textIn (drop i v)
 unfolding textIn
 text-out v i h = rw (drop-of-length-le v h)
 
-pub marks-yes : (v : List ℕ) (i n : ℕ) → i < length v → getD v i 0 ≡ 44 → marksIn n (drop i v) ≡ n ∷ marksIn n (drop (i + 1) v)
-unfolding marksIn
-marks-yes v i n h e = rw (add-one i, drop-cons v i 0 h) (simp (eq-eqb (getD v i 0) 44 e))
+pub cuts-yes : (v : List ℕ) (i n : ℕ) → i < length v → getD v i 0 ≡ 44 → cutsIn n (drop i v) ≡ n ∷ cutsIn n (drop (i + 1) v)
+unfolding cutsIn
+cuts-yes v i n h e = rw (add-one i, drop-cons v i 0 h) (simp (eq-eqb (getD v i 0) 44 e))
 
-pub marks-no : (v : List ℕ) (i n : ℕ) → i < length v → (getD v i 0 ≡ 44 → ⊥) → marksIn n (drop i v) ≡ marksIn (n + 1) (drop (i + 1) v)
-unfolding marksIn
-marks-no v i n h e = rw (add-one i, drop-cons v i 0 h) (simp (ne-eqb (getD v i 0) 44 e))
+pub cuts-no : (v : List ℕ) (i n : ℕ) → i < length v → (getD v i 0 ≡ 44 → ⊥) → cutsIn n (drop i v) ≡ cutsIn (n + 1) (drop (i + 1) v)
+unfolding cutsIn
+cuts-no v i n h e = rw (add-one i, drop-cons v i 0 h) (simp (ne-eqb (getD v i 0) 44 e))
 
-pub marks-out : (v : List ℕ) (i n : ℕ) → length v ≤ i → marksIn n (drop i v) ≡ n ∷ []
-unfolding marksIn
-marks-out v i n h = rw (drop-of-length-le v h)
+pub cuts-out : (v : List ℕ) (i n : ℕ) → length v ≤ i → cutsIn n (drop i v) ≡ []
+unfolding cutsIn
+cuts-out v i n h = rw (drop-of-length-le v h)
+
+pub cuts-size : (n : ℕ) (v : List ℕ) → length (cutsIn n v) ≡ commasIn v
+unfolding cutsIn commasIn
+cuts-size n [] = refl
+cuts-size n (b ∷ v) = go (eqb b 44) (cuts-size n v) (cuts-size (n + 1) v)
+  where
+    go : (q : Bool) → length (cutsIn n v) ≡ commasIn v → length (cutsIn (n + 1) v) ≡ commasIn v → length (pick q (n ∷ cutsIn n v) (cutsIn (n + 1) v)) ≡ pick q 1 0 + commasIn v
+    go true e f = omega (arith, e)
+    go false e f = omega (arith, f)
 
 -- each byte is a comma or text
 pub text-size : (v : List ℕ) → length (textIn v) + commasIn v ≡ length v
@@ -152,6 +162,13 @@ text-size (b ∷ v) = go (eqb b 44) (text-size v)
     go : (q : Bool) → length (textIn v) + commasIn v ≡ length v → length (pick q (textIn v) (b ∷ textIn v)) + (pick q 1 0 + commasIn v) ≡ suc (length v)
     go true e = omega (arith, e)
     go false e = omega (arith, e)
+
+-- the last end behind the others
+pub marks-last : (ends v : List ℕ) (k n : ℕ) → k ≡ length v - n → n ≡ length (textIn v) → set (sets ends 0 (cutsIn 0 v)) k n ≡ sets ends 0 (marksIn 0 v)
+marks-last ends v k n e f =
+    let z : 0 + length (cutsIn 0 v) ≡ k = omega (arith, e, f, cuts-size 0 v, text-size v) in
+    let y : 0 + length (textIn v) ≡ n = omega (arith, f) in
+    rw (sets-append ends 0 (cutsIn 0 v) ((0 + length (textIn v)) ∷ []), z, y)
 
 -- commas among the first bytes and the others
 commas-part : (n : ℕ) (v : List ℕ) → commasIn v ≡ commasIn (take n v) + commasIn (drop n v)
@@ -198,15 +215,19 @@ joined-in (b ∷ v) = go (eqb b 44) (joined-in v)
     go false e = ap (λ (l : List ℕ). b ∷ l) e
 
 ends-in : (n : ℕ) (v : List ℕ) → (n + length (firstIn v)) ∷ endsOf (n + length (firstIn v)) (othersIn v) ≡ marksIn n v
-unfolding firstIn othersIn marksIn endsOf
-ends-in n [] = rw (add-zero n)
+unfolding firstIn othersIn cutsIn textIn endsOf
+ends-in n [] = refl
 ends-in n (b ∷ v) = go (eqb b 44) (ends-in n v) (ends-in (n + 1) v)
   where
     go : (q : Bool) → (n + length (firstIn v)) ∷ endsOf (n + length (firstIn v)) (othersIn v) ≡ marksIn n v
         → (n + 1 + length (firstIn v)) ∷ endsOf (n + 1 + length (firstIn v)) (othersIn v) ≡ marksIn (n + 1) v
-        → (n + length (pick q [] (b ∷ firstIn v))) ∷ endsOf (n + length (pick q [] (b ∷ firstIn v))) (pick q (firstIn v ∷ othersIn v) (othersIn v)) ≡ pick q (n ∷ marksIn n v) (marksIn (n + 1) v)
+        → (n + length (pick q [] (b ∷ firstIn v))) ∷ endsOf (n + length (pick q [] (b ∷ firstIn v))) (pick q (firstIn v ∷ othersIn v) (othersIn v))
+        ≡ pick q (n ∷ cutsIn n v) (cutsIn (n + 1) v) ++ ((n + length (pick q (textIn v) (b ∷ textIn v))) ∷ [])
     go true e f = rw (add-zero n) (ap (λ (l : List ℕ). n ∷ l) e)
-    go false e f = let z : n + suc (length (firstIn v)) ≡ n + 1 + length (firstIn v) = omega arith in rw z f
+    go false e f =
+        let z : n + suc (length (firstIn v)) ≡ n + 1 + length (firstIn v) = omega arith in
+        let y : n + suc (length (textIn v)) ≡ n + 1 + length (textIn v) = omega arith in
+        rw (z, y) f
 
 many-in : (v : List ℕ) → length (othersIn v) ≡ commasIn v
 unfolding othersIn commasIn
@@ -219,11 +240,11 @@ many-in (b ∷ v) = go (eqb b 44) (many-in v)
 
 -- ---- the row
 
--- its first field, and the row once that is a field
-record Begun (v r : List ℕ) : Type 0 where
+-- v stands before a comma or LF, c: its first field, and the row once that is a field
+record Begun (v : List ℕ) (c : ℕ) (r : List ℕ) (ws : List (List ℕ)) (s : List ℕ) : Type 0 where
   rest : List ℕ
-  head : NonEscaped (v ++ (10 ∷ r)) (firstIn v) rest
-  whole : {bs f : List ℕ} → Field bs f rest → Record bs (f ∷ othersIn v) r
+  head : NonEscaped (v ++ (c ∷ r)) (firstIn v) rest
+  whole : {bs f : List ℕ} → Field bs f rest → Record bs (f ∷ (othersIn v ++ ws)) s
 
 text-of : (b : ℕ) → isStop b ≡ false → eqb b 44 ≡ false → isText b ≡ true
 unfolding isStop isText
@@ -234,25 +255,26 @@ text-of b s c = go (eqb b 34) (eqb b 10) s
     go false true e = absurd (let z : _≡_ {A = ℕ} 0 1 = cc in omega arith)
     go false false e = simp c
 
-unfoldable anyStop : List ℕ → Bool
-anyStop [] = false
-anyStop (b ∷ v) = isStop b || anyStop v
+-- behind v: a row of its last value and ws, once that is a field
+module _ (c : ℕ) (r : List ℕ) (ws : List (List ℕ)) (s : List ℕ) (behind : (bs f : List ℕ) → Field bs f (c ∷ r) → Record bs (f ∷ ws) s) where
+  begun : (v : List ℕ) → anyStop v ≡ false → Begun v c r ws s
+  unfolding anyStop firstIn othersIn
+  begun [] e = record { rest = c ∷ r; head = none; whole = λ {bs} {f} h. behind bs f h }
+  begun (b ∷ v) e = go (eqb b 44) refl (begun v (neither (isStop b) (anyStop v) e .1))
+    where
+      go : (q : Bool) → eqb b 44 ≡ q → Begun v c r ws s → Begun (b ∷ v) c r ws s
+      go true d w =
+          let k : b ≡ 44 = eqb-true b 44 d in
+          rw k (record { rest = 44 ∷ (v ++ (c ∷ r)); head = none; whole = λ f. more f (w .whole (nonEscaped (w .head))) })
+      go false d w =
+          let n : isText b ≡ true = text-of b (neither (isStop b) (anyStop v) e .0) d in
+          let h : NonEscaped (b ∷ (v ++ (c ∷ r))) (b ∷ firstIn v) (w .rest) = text n (w .head) in
+          record { rest = w .rest; head = rw d h; whole = rw d (w .whole) }
 
-begun : (v r : List ℕ) → anyStop v ≡ false → Begun v r
-unfolding anyStop firstIn othersIn
-begun [] r e = record { rest = 10 ∷ r; head = none; whole = λ f. last f lf }
-begun (b ∷ v) r e = go (eqb b 44) refl (begun v r (neither (isStop b) (anyStop v) e .1))
-  where
-    go : (q : Bool) → eqb b 44 ≡ q → Begun v r → Begun (b ∷ v) r
-    go true c w =
-        let k : b ≡ 44 = eqb-true b 44 c in
-        rw k (record { rest = 44 ∷ (v ++ (10 ∷ r)); head = none; whole = λ f. more f (w .whole (nonEscaped (w .head))) })
-    go false c w =
-        let n : isText b ≡ true = text-of b (neither (isStop b) (anyStop v) e .0) c in
-        let h : NonEscaped (b ∷ (v ++ (10 ∷ r))) (b ∷ firstIn v) (w .rest) = text n (w .head) in
-        record { rest = w .rest; head = rw c h; whole = rw c (w .whole) }
+  plain-row : (v : List ℕ) → anyStop v ≡ false → Record (v ++ (c ∷ r)) (valuesIn v ++ ws) s
+  plain-row v e = let b = begun v e in b .whole (nonEscaped (b .head))
 
-line-clean : (t : List ℕ) → anyStop (lineOf t) ≡ false
+pub line-clean : (t : List ℕ) → anyStop (lineOf t) ≡ false
 unfolding anyStop lineOf
 line-clean [] = refl
 line-clean (b ∷ t) = go (isStop b) refl (line-clean t)
@@ -285,14 +307,28 @@ line-row t width line (p, q, w) =
     let i : length v < length t = past t (length v) 9 q in
     let d : drop (length v) t ≡ 10 ∷ drop line t = drop-cons t (length v) 0 i ∙ rw (q, p, add-one (length v)) in
     let a : v ++ (10 ∷ drop line t) ≡ t = ap (λ (l : List ℕ). v ++ l) (sym d) ∙ line-all t in
-    let b = begun v (drop line t) (line-clean t) in
-    let r : Record t (valuesIn v) (drop line t) = rw a at (b .whole (nonEscaped (b .head))) in
+    let r : Record t (valuesIn v ++ []) (drop line t) = rw a at (plain-row 10 (drop line t) [] (drop line t) (λ bs g f. last f lf) v (line-clean t)) in
     let m : length (valuesIn v) ≡ width = omega (arith, many-in v, w) in
-    rw m at (complete r)
+    rw m at (complete (rw append-nil at r))
+
+-- the first bytes, as a part of t
+pub front-part : (t : List ℕ) (n : ℕ) → take (n - 0) (drop 0 t) ≡ take n t
+front-part t n = let m : n - 0 ≡ n = omega arith in rw m
 
 -- the bytes before the first stop, as a part of t
 pub line-part : (t : List ℕ) (n : ℕ) → n ≡ length (lineOf t) → take (n - 0) (drop 0 t) ≡ lineOf t
 line-part t n e = let m : n - 0 ≡ length (lineOf t) = omega (arith, e) in rw m (line-take t)
+
+-- a run without stops, from p to e
+module _ (t : List ℕ) (p e : ℕ) (q : e ≡ p + length (lineOf (drop p t))) where
+  pub run-end : drop (length (lineOf (drop p t))) (drop p t) ≡ drop e t
+  run-end = drop-drop (length (lineOf (drop p t))) p t ∙ ap (λ (x : ℕ). drop x t) (sym q)
+
+  pub run-part : take (e - p) (drop p t) ≡ lineOf (drop p t)
+  run-part = let m : e - p ≡ length (lineOf (drop p t)) = omega (arith, q) in rw m (line-take (drop p t))
+
+  pub run-split : drop p t ≡ lineOf (drop p t) ++ drop e t
+  run-split = sym (ap (λ (l : List ℕ). lineOf (drop p t) ++ l) (sym run-end) ∙ line-all (drop p t))
 
 -- ---- a quoted value, from stop to stop
 
@@ -315,10 +351,8 @@ run-piece (b ∷ bs) k n = go (isStop b) refl (run-piece bs (k + 1) n)
 
 pub turn-run : (t : List ℕ) (i e k : ℕ) → e ≡ i + length (lineOf (drop i t)) → add k (pieceOf (length t) (inner (drop i t))) ≡ add (k + (e - i)) (pieceOf (length t) (inner (drop e t)))
 turn-run t i e k q =
-    let n = length (lineOf (drop i t)) in
-    let m : n ≡ e - i = omega (arith, q) in
-    let d : drop n (drop i t) ≡ drop e t = drop-drop n i t ∙ ap (λ (x : ℕ). drop x t) (sym q) in
-    run-piece (drop i t) k (length t) ∙ ap (λ (x : ℕ). add (k + x) (pieceOf (length t) (inner (drop n (drop i t))))) m ∙ ap (λ (l : List ℕ). add (k + (e - i)) (pieceOf (length t) (inner l))) d
+    let m : length (lineOf (drop i t)) ≡ e - i = omega (arith, q) in
+    run-piece (drop i t) k (length t) ∙ rw (run-end t i e q, m)
 
 -- what a row without quotes has
 pub record IsPlain (t : List ℕ) (width line : ℕ) : Type 0 where
@@ -349,3 +383,64 @@ pub line-found : (t : List ℕ) (e b : ℕ) → e ≡ length (lineOf t) → b �
 line-found t e b p q r =
     let g : getD t e 0 ≡ 10 = sym q ∙ r in
     (line-part t e p, past t e 9 g, ap (λ (k : ℕ). getD t k 0) (sym p) ∙ g)
+
+-- ---- values without quotes before a place
+
+pub text-comma : (u : List ℕ) → textIn (u ++ (44 ∷ [])) ≡ textIn u
+unfolding textIn
+text-comma [] = refl
+text-comma (b ∷ u) = ap (λ (l : List ℕ). pick (eqb b 44) l (b ∷ l)) (text-comma u)
+
+cuts-comma : (n : ℕ) (u : List ℕ) → cutsIn n (u ++ (44 ∷ [])) ≡ marksIn n u
+unfolding cutsIn textIn
+cuts-comma n [] = rw (add-zero n)
+cuts-comma n (b ∷ u) = go (eqb b 44) (cuts-comma n u) (cuts-comma (n + 1) u)
+  where
+    go : (q : Bool) → cutsIn n (u ++ (44 ∷ [])) ≡ marksIn n u → cutsIn (n + 1) (u ++ (44 ∷ [])) ≡ marksIn (n + 1) u
+        → pick q (n ∷ cutsIn n (u ++ (44 ∷ []))) (cutsIn (n + 1) (u ++ (44 ∷ []))) ≡ pick q (n ∷ cutsIn n u) (cutsIn (n + 1) u) ++ ((n + length (pick q (textIn u) (b ∷ textIn u))) ∷ [])
+    go true e f = ap (λ (l : List ℕ). n ∷ l) e
+    go false e f = let y : n + suc (length (textIn u)) ≡ n + 1 + length (textIn u) = omega arith in rw y f
+
+clean-front : (u w : List ℕ) → anyStop (u ++ w) ≡ false → anyStop u ≡ false
+unfolding anyStop
+clean-front [] w e = refl
+clean-front (b ∷ u) w e = let p = neither (isStop b) (anyStop (u ++ w)) e in rw (p .0) (clean-front u w (p .1))
+
+-- before the first stop
+pub opens : (t : List ℕ) (e n : ℕ) → e ≡ length (lineOf t) → ((e ≡ 0 → ⊥) → getD t (e - 1) 0 ≡ 44) → n ≡ commasIn (take (e - 0) (drop 0 t)) → Opens t e n
+opens t e n p q r =
+    let m : take e t ≡ lineOf t = rw p (line-take t) in
+    record { inside = omega (arith, p, line-size t); clean = rw m (line-clean t); comma = q; count = r ∙ rw (front-part t e) }
+
+pub more-of : {bs v cs r : List ℕ} {ws : List (List ℕ)} → Field bs v (44 ∷ cs) → Record cs ws r → Record bs (v ∷ ws) r
+more-of f (last g e) = more f (last g e)
+more-of f (more g p) = more f (more g p)
+
+-- they are values of any row that what follows them is one of
+pub record Before (t : List ℕ) (e n : ℕ) : Type 0 where
+  pub values : List (List ℕ)
+  pub on : {vs : List (List ℕ)} {r : List ℕ} → Record (drop e t) vs r → Record t (values ++ vs) r
+  pub many : length values ≡ n
+  pub bytes : textIn (take e t) ≡ joined values
+  pub marks : cutsIn 0 (take e t) ≡ endsOf 0 values
+
+pub before : (t : List ℕ) (e n : ℕ) → Opens t e n → Before t e n
+unfolding joined endsOf textIn cutsIn commasIn
+before t zero n o = record { values = []; on = λ q. q; many = omega (arith, o .count); bytes = refl; marks = refl }
+before t (suc m) n o =
+    let u = take m t in
+    let h : m < length t = omega (arith, o .inside) in
+    let z : suc m - 1 ≡ m = omega arith in
+    let g : getD t m 0 ≡ 44 = rw z at (o .comma (λ q. absurd (omega arith))) in
+    let w : take (suc m) t ≡ u ++ (44 ∷ []) = rw g at (take-suc t m 0 h) in
+    let a : t ≡ u ++ (44 ∷ drop (suc m) t) = rw g at (split-at t m 0 h) in
+    let c : anyStop u ≡ false = clean-front u (44 ∷ []) (rw w at (o .clean)) in
+    let k : commasIn u + 1 ≡ n =
+    omega (arith, o .count, ap commasIn w, text-size u, text-size (u ++ (44 ∷ [])), ap length (text-comma u), length-append u (44 ∷ [])) in
+    record {
+      values = valuesIn u;
+      on = λ {vs} {r} q. rw (← a) at (plain-row 44 (drop (suc m) t) vs r (λ bs g f. more-of f q) u c);
+      many = omega (arith, many-in u, k);
+      bytes = ap textIn w ∙ text-comma u ∙ sym (joined-in u);
+      marks = ap (cutsIn 0) w ∙ cuts-comma 0 u ∙ sym (ends-in 0 u);
+    }

@@ -1,17 +1,21 @@
 -- What the private functions promise each other. Nothing here says what a row is.
 use Prim.Native.Nat.{ℕ, _+_, _-_, _≤_, _<_}
 use mathlib.Core.Path.{_≡_}
-use mathlib.Core.Bool.{Bool, _||_}
-use mathlib.Core.List.{List, [], _∷_}
+use mathlib.Core.Bool.{Bool, false, _||_}
+use mathlib.Core.List.{List, [], _∷_, _++_}
 use lib.Dec.{eqb}
-use lib.ListN.{length, getD}
+use lib.ListN.{length, take, drop, getD}
+use lib.Seq.{sets}
 use Rattle.number.specs.Number.{pick}
+use Rattle.csv.specs.Csv.{Record}
 use Rattle.csv.specs.Read.{Got, got, bad, Row, row, malformed, values}
 use Rattle.rowread.specs.declared.Piece.{Piece}
 use Rattle.rowread.specs.declared.Piece.the-variants.{Value, Bad}
 use Rattle.rowread.specs.declared.Scan.{Scan}
 use Rattle.rowread.specs.declared.Scan.the-variants.{Whole, Broken}
-use Rattle.rowread.specs.Stored.{joined}
+use Rattle.rowread.specs.declared.Quick.{Quick}
+use Rattle.rowread.specs.declared.Quick.the-variants.{Read, Not}
+use Rattle.rowread.specs.Stored.{joined, endsOf}
 
 -- where in n bytes a value ends, and its size
 abbrev pub pieceOf : ℕ → Got → Piece
@@ -57,7 +61,7 @@ lineOf (b ∷ t) = pick (isStop b) [] (b ∷ lineOf t)
 abbrev pub FirstStop : List ℕ → ℕ → Type 0
 FirstStop v n = (n ≤ 32) × (n ≡ 32 → length (lineOf v) ≡ length v) × (n < 32 → (n ≡ length (lineOf v)) × (n < length v))
 
--- how many of them are commas, which are the others, and where among these the values end
+-- how many of them are commas, which are the others, and where among these the values end: those that a comma follows, and all
 unfoldable pub commasIn : List ℕ → ℕ
 commasIn [] = 0
 commasIn (b ∷ v) = pick (eqb b 44) 1 0 + commasIn v
@@ -66,10 +70,75 @@ unfoldable pub textIn : List ℕ → List ℕ
 textIn [] = []
 textIn (b ∷ v) = pick (eqb b 44) (textIn v) (b ∷ textIn v)
 
-unfoldable pub marksIn : ℕ → List ℕ → List ℕ
-marksIn n [] = n ∷ []
-marksIn n (b ∷ v) = pick (eqb b 44) (n ∷ marksIn n v) (marksIn (n + 1) v)
+unfoldable pub cutsIn : ℕ → List ℕ → List ℕ
+cutsIn n [] = []
+cutsIn n (b ∷ v) = pick (eqb b 44) (n ∷ cutsIn n v) (cutsIn (n + 1) v)
+
+abbrev pub marksIn : ℕ → List ℕ → List ℕ
+marksIn n v = cutsIn n v ++ ((n + length (textIn v)) ∷ [])
 
 -- a row of so many values stands at the front without quotes, and ends before a place
 abbrev pub IsLine : List ℕ → ℕ → ℕ → Type 0
 IsLine t width line = (line ≡ length (lineOf t) + 1) × (getD t (length (lineOf t)) 0 ≡ 10) × (commasIn (lineOf t) + 1 ≡ width)
+
+-- ---- a row with quotes, in one pass
+
+unfoldable pub anyStop : List ℕ → Bool
+anyStop [] = false
+anyStop (b ∷ v) = isStop b || anyStop v
+
+-- values without quotes stand before a place, each with its comma: n of them
+pub record Opens (t : List ℕ) (e n : ℕ) : Type 0 where
+  pub inside : e ≤ length t
+  pub clean : anyStop (take e t) ≡ false
+  pub comma : (e ≡ 0 → ⊥) → getD t (e - 1) 0 ≡ 44
+  pub count : n ≡ commasIn (take e t)
+
+-- the value whose opening quote stands at e is closed at c, has no stop inside, and ends the row
+abbrev pub Closes : List ℕ → ℕ → ℕ → Type 0
+Closes t e c = (c ≡ e + 1 + length (lineOf (drop (e + 1) t))) × (getD t c 0 ≡ 34) × (getD t (c + 1) 0 ≡ 10)
+
+-- the value by a rule of the grammar that stands at a place of t was put into out
+pub record Into (Rule : List ℕ → List ℕ → List ℕ → Type 0) (t : List ℕ) (from : ℕ) (out : List ℕ) (to : ℕ) (o : List ℕ) (next size : ℕ) : Type 0 where
+  pub value : List ℕ
+  pub read : Rule (drop from t) value (drop next t)
+  pub sized : size ≡ length value
+  pub grows : from + size ≤ next
+  pub inside : next ≤ length t
+  pub bytes : o ≡ sets out to value
+
+abbrev pub Took : (List ℕ → List ℕ → List ℕ → Type 0) → List ℕ → ℕ → List ℕ → ℕ → List ℕ → Piece → Type 0
+Took Rule t from out to o (Value next size) = Into Rule t from out to o next size
+Took Rule t from out to o Bad = Unit {0}
+
+-- the values of the row at the front of t were put into out, and their ends into ends
+pub record Holds (t : List ℕ) (width : ℕ) (out ends o s : List ℕ) (next size : ℕ) : Type 0 where
+  pub values : List (List ℕ)
+  pub read : Record t values (drop next t)
+  pub many : length values ≡ width
+  pub sized : size ≡ length (joined values)
+  pub inside : next ≤ length t
+  pub fits : size ≤ length out
+  pub slots : width ≤ length ends
+  pub bytes : o ≡ sets out 0 (joined values)
+  pub marks : s ≡ sets ends 0 (endsOf 0 values)
+
+abbrev pub TookRow : List ℕ → ℕ → List ℕ → List ℕ → List ℕ → List ℕ → Scan → Type 0
+TookRow t width out ends o s (Whole next size) = Holds t width out ends o s next size
+TookRow t width out ends o s Broken = Unit {0}
+
+-- a quick way: the row was read, or nothing was written
+abbrev pub Quickly : List ℕ → ℕ → List ℕ → List ℕ → List ℕ → List ℕ → Quick → Type 0
+Quickly t width out ends o s (Read next size) = Holds t width out ends o s next size
+Quickly t width out ends o s Not = (o ≡ out) × (s ≡ ends)
+
+-- a row that was scanned is handed out of room and marks, or nothing is written
+abbrev pub Handed : Scan → ℕ → List ℕ → List ℕ → List ℕ → List ℕ → List ℕ → List ℕ → Quick → Type 0
+Handed scan width room marks out ends o s (Read next size) =
+    (scan ≡ Whole next size) × (size ≤ length out) × (width ≤ length ends) × (o ≡ sets out 0 (take size room)) × (s ≡ sets ends 0 (take width marks))
+Handed scan width room marks out ends o s Not = (o ≡ out) × (s ≡ ends)
+
+-- what was scanned has no more bytes than there is room
+abbrev pub Within : ℕ → Scan → Type 0
+Within room (Whole next size) = size ≤ room
+Within room Broken = Unit {0}

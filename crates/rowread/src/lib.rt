@@ -1,5 +1,6 @@
 // A stored row is read, by RFC 4180. The row is gone through before anything is handed out, so that a refusal leaves the outputs alone.
 ghost use mathlib.Core.Path.{_≡_};
+ghost use mathlib.Core.Bool.{true};
 ghost use Prim.Native.Nat.{_+_, _-_, _≤_, _<_, min};
 ghost use lib.ListN.{length, take, drop, getD};
 ghost use lib.Seq.{sets};
@@ -7,7 +8,7 @@ ghost use Rattle.number.specs.Number.{pick};
 ghost use Rattle.csv.specs.Csv.{isText};
 ghost use Rattle.csv.specs.Read.{plainValue, inner, fieldAt, rowEnd, values};
 ghost use Rattle.rowread.specs.Stored.{valuesOf, valuesAt, joined, endsOf, readAnswer, after};
-ghost use Rattle.rowread.specs.Steps.{pieceOf, valueOf, restOf, IsGot, scanOf, IsRow, isStop, FirstStop, lineOf, commasIn, textIn, marksIn, IsLine};
+ghost use Rattle.rowread.specs.Steps.{pieceOf, valueOf, restOf, IsGot, scanOf, IsRow, isStop, FirstStop, lineOf, commasIn, textIn, cutsIn, marksIn, IsLine, Opens, Closes, Quickly};
 use refusal::Refusal;
 
 pub enum ReadAnswer {
@@ -28,6 +29,12 @@ enum Piece {
 enum Scan {
     Whole { next: usize, size: usize },
     Broken,
+}
+
+// What a quick way found of a row: its values were handed out, or nothing was.
+enum Quick {
+    Read { next: usize, size: usize },
+    Not,
 }
 
 // What was found of a row; line is the place behind it where it has no quotes, or 0.
@@ -78,12 +85,12 @@ fn is_stop(b: u8) -> bool
     (b == 34) | (b == 10)
 }
 
-// Where the bytes end that are gone through at once from a place on.
-fn near(len: usize, i: usize) -> usize
+// Where at most so many bytes end from a place on.
+fn near(len: usize, i: usize, most: usize) -> usize
     requires { ⌜ i ≤ len ⌝ }
-    ensures { λ r. ⌜ r ≡ i + min 32 (len - i) ⌝ }
+    ensures { λ r. ⌜ r ≡ i + min most (len - i) ⌝ }
 {
-    if len - i < 32 { len } else { i + 32 }
+    if len - i < most { len } else { i + most }
 }
 
 fn stop_place(b: u8, i: u8) -> u8
@@ -119,7 +126,7 @@ fn stop_from(t: &[u8], from: usize) -> usize
 {
     let mut i = from;
     while i < t.len() {
-        let end = near(t.len(), i);
+        let end = near(t.len(), i, 32);
         let n = first_stop(&t[i..end]);
         if n < 32 {
             return i + n as usize;
@@ -129,15 +136,15 @@ fn stop_from(t: &[u8], from: usize) -> usize
     i
 }
 
-// How many quotes there are among a few bytes, at most as many as these.
-fn few_quotes(v: &[u8]) -> u8
+// How often a byte stands among a few, at most as often as there are.
+fn few(v: &[u8], b: u8) -> u8
     requires { ⌜ length (now v) ≤ 64 ⌝ }
     ensures { λ r. ⌜ r ≤ length (now (v .entry)) ⌝ }
 {
     let mut n: u8 = 0;
     let mut i: usize = 0;
     while i < v.len() {
-        if v[i] == 34 {
+        if v[i] == b {
             n += 1;
         }
         i += 1;
@@ -153,7 +160,7 @@ fn sparse(t: &[u8], from: usize) -> bool
         return false;
     }
     let end = from + 16;
-    few_quotes(&t[from..end]) == 0
+    few(&t[from..end], 34) == 0
 }
 
 // The value behind the opening quote before a place, byte by byte.
@@ -426,12 +433,11 @@ fn commas(v: &[u8]) -> usize
     n + few_commas(&v[i..v.len()]) as usize
 }
 
-// The row of so many values at the front, quickly where it has no quotes.
-fn find_row(t: &[u8], width: usize) -> Found
-    requires { ⌜ length (now t) ≤ 8192 ⌝ }
+// The row of so many values at the front, quickly where it has no quotes; the first stop stands at e.
+fn find_row(t: &[u8], width: usize, e: usize) -> Found
+    requires { ⌜ (length (now t) ≤ 8192) × (e ≡ length (lineOf (now t))) ⌝ }
     ensures { λ r. ⌜ (r .scan ≡ scanOf width (now (t .entry))) × ((r .line ≡ 0 → ⊥) → IsLine (now (t .entry)) width (r .line)) ⌝ }
 {
-    let e = stop(t);
     if at(t, e) == 10 {
         let n = commas(&t[0..e]);
         if n + 1 == width {
@@ -450,10 +456,10 @@ fn find_row(t: &[u8], width: usize) -> Found
     }
 }
 
-// The values of a row without quotes, whose bytes are v, and their ends.
-fn copy_line(v: &[u8], out: &mut [u8], ends: &mut [usize])
-    requires { ⌜ (length (textIn (now v)) ≤ length (now out)) × (commasIn (now v) < length (now ends)) ⌝ }
-    ensures { λ _. ⌜ (now (out .exit) ≡ sets (now (out .entry)) 0 (textIn (now (v .entry)))) × (now (ends .exit) ≡ sets (now (ends .entry)) 0 (marksIn 0 (now (v .entry)))) ⌝ }
+// The values of bytes v without quotes, into out, and the ends of those that a comma follows; how many bytes they have.
+fn copy_before(v: &[u8], out: &mut [u8], ends: &mut [usize]) -> usize
+    requires { ⌜ (length (textIn (now v)) ≤ length (now out)) × (commasIn (now v) ≤ length (now ends)) ⌝ }
+    ensures { λ r. ⌜ (r ≡ length (textIn (now (v .entry)))) × (now (out .exit) ≡ sets (now (out .entry)) 0 (textIn (now (v .entry)))) × (now (ends .exit) ≡ sets (now (ends .entry)) 0 (cutsIn 0 (now (v .entry)))) ⌝ }
 {
     let mut n: usize = 0;
     let mut k: usize = 0;
@@ -469,6 +475,16 @@ fn copy_line(v: &[u8], out: &mut [u8], ends: &mut [usize])
         }
         j += 1;
     }
+    n
+}
+
+// The values of a row without quotes, whose bytes are v, and their ends.
+fn copy_line(v: &[u8], out: &mut [u8], ends: &mut [usize])
+    requires { ⌜ (length (textIn (now v)) ≤ length (now out)) × (commasIn (now v) < length (now ends)) ⌝ }
+    ensures { λ _. ⌜ (now (out .exit) ≡ sets (now (out .entry)) 0 (textIn (now (v .entry)))) × (now (ends .exit) ≡ sets (now (ends .entry)) 0 (marksIn 0 (now (v .entry)))) ⌝ }
+{
+    let n = copy_before(v, out, ends);
+    let k = v.len() - n;
     ends[k] = n;
 }
 
@@ -484,16 +500,70 @@ fn copy_found(t: &[u8], width: usize, line: usize, out: &mut [u8], ends: &mut [u
     copy_line(&t[0..line - 1], out, ends);
 }
 
-// Where the bytes end among which a row may stand that starts at a place.
-fn part_end(len: usize, place: usize) -> usize
-    requires { ⌜ place ≤ len ⌝ }
-    ensures { λ r. ⌜ r ≡ place + min 8192 (len - place) ⌝ }
+// Whether the bytes before a place are none or end in a comma.
+fn after_comma(t: &[u8], e: usize) -> bool
+    requires { ⌜ e ≤ length (now t) ⌝ }
+    ensures { λ r. ⌜ (r ≡ true → (e ≡ 0 → ⊥) → getD (now (t .entry)) (e - 1) 0 ≡ 44) ⌝ }
 {
-    if len - place < 8192 {
-        len
-    } else {
-        place + 8192
+    if e == 0 {
+        return true;
     }
+    t[e - 1] == 44
+}
+
+// Where the value is closed whose opening quote stands at e, if it has no stop inside and ends the row; else 0.
+fn close_place(t: &[u8], e: usize) -> usize
+    requires { ⌜ e < length (now t) ⌝ }
+    ensures { λ r. ⌜ ((r ≡ 0 → ⊥) → Closes (now (t .entry)) e r) ⌝ }
+{
+    let c = stop_from(t, e + 1);
+    if at(t, c) == 34 {
+        if at(t, c + 1) == 10 {
+            return c;
+        }
+    }
+    0
+}
+
+// A row of n values without quotes and a last one that starts at e and is closed at c.
+fn quote_last(t: &[u8], e: usize, c: usize, n: usize, out: &mut [u8], ends: &mut [usize]) -> Quick
+    requires { ⌜ Opens (now t) e n × (getD (now t) e 0 ≡ 34) × Closes (now t) e c ⌝ }
+    ensures { λ r. ⌜ Quickly (now (t .entry)) (n + 1) (now (out .entry)) (now (ends .entry)) (now (out .exit)) (now (ends .exit)) r ⌝ }
+{
+    if out.len() < e - n + (c - (e + 1)) {
+        return Quick::Not;
+    }
+    if ends.len() <= n {
+        return Quick::Not;
+    }
+    let m = copy_before(&t[0..e], out, ends);
+    let size = copy_part(t, e + 1, c, out, m);
+    ends[n] = size;
+    Quick::Read { next: c + 2, size }
+}
+
+// The row of so many values at the front, quickly where it has quotes and is short; the first stop stands at e.
+fn quick_row(t: &[u8], width: usize, e: usize, out: &mut [u8], ends: &mut [usize]) -> Quick
+    requires { ⌜ (length (now t) ≤ 8192) × (e ≡ length (lineOf (now t))) ⌝ }
+    ensures { λ r. ⌜ Quickly (now (t .entry)) width (now (out .entry)) (now (ends .entry)) (now (out .exit)) (now (ends .exit)) r ⌝ }
+{
+    if at(t, e) != 34 {
+        return Quick::Not;
+    }
+    if !after_comma(t, e) {
+        return Quick::Not;
+    }
+    let n = commas(&t[0..e]);
+    if width <= n {
+        return Quick::Not;
+    }
+    if width == n + 1 {
+        let c = close_place(t, e);
+        if c != 0 {
+            return quote_last(t, e, c, n, out, ends);
+        }
+    }
+    Quick::Not
 }
 
 // The row of so many values at a place of a table: its values, joined, into out, and where each ends into ends.
@@ -512,9 +582,17 @@ pub fn read_row(
     if place == table.len() {
         return ReadAnswer::End;
     }
-    let end = part_end(table.len(), place);
+    let end = near(table.len(), place, 8192);
     let t = &table[place..end];
-    let found = find_row(t, width);
+    let e = stop(t);
+    let quick = quick_row(t, width, e, out, ends);
+    if let Quick::Read { next, size } = quick {
+        return ReadAnswer::Stored {
+            next: place + next,
+            size,
+        };
+    }
+    let found = find_row(t, width, e);
     let scan = found.scan;
     let Scan::Whole { next, size } = scan else {
         return ReadAnswer::Refused(Refusal::Row);

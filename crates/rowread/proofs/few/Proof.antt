@@ -3,14 +3,14 @@ use Prim.Native.Nat.{_≤_, _-_}
 use native.Mathlib.Omega.{arith}
 use lib.ListN.{length}
 use borrow.Author.Needs.{needs}
-use Rattle.rowread.proofs.few_quotes.Statement.{statement}
-use Rattle.rowread.proofs.few_quotes.Tie as tie
+use Rattle.rowread.proofs.few.Statement.{statement}
+use Rattle.rowread.proofs.few.Tie as tie
 
 abbrev Inv-loop : tie.InvT-loop
-Inv-loop v n₀ i₀ n i = (i ≤ length v) × (n ≤ i)
+Inv-loop v b n₀ i₀ n i = (i ≤ length v) × (n ≤ i)
 
 abbrev μ-loop : tie.MeasureT-loop
-μ-loop v n₀ i₀ n i = length v - i
+μ-loop v b n₀ i₀ n i = length v - i
 
 loop-holds : tie.Need-loop-holds Inv-loop μ-loop
 loop-holds c = (omega arith, omega arith)
@@ -33,8 +33,8 @@ loop-again c = ⊎-elim (λ w. (omega arith, omega arith)) (λ w. (omega arith, 
 returns : tie.Need-returns Inv-loop μ-loop
 returns c = omega (arith, c .before .loop .inv .0, c .before .loop .inv .1)
 
-pub few-quotes-spec : {M : Type 1} → statement M
-few-quotes-spec =
+pub few-spec : {M : Type 1} → statement M
+few-spec =
     tie.close
     (tie.spec
     Inv-loop
