@@ -126,11 +126,11 @@ module _ (table : List ℕ) (width place : ℕ) (out ends : List ℕ) where
             }
 
     -- by a quick way
-    pub read-quick : {o s : List ℕ} {next size : ℕ} → Holds (partAt table place) width out ends o s next size → Answers table width place out ends (Stored (place + next) size) o s
+    pub read-quick : {o s : List ℕ} {next size : ℕ} → Holds (partAt table place) 0 0 0 width out ends o s next size → Answers table width place out ends (Stored (place + next) size) o s
     unfolding scanOf
     read-quick {o} {s} {next} {size} x =
         let t = partAt table place in
-        let c : rowAt table width place ≡ Csv.row (x .values) (drop next t) = rw (x .many) at (complete (x .read)) in
+        let m : length (x .values) ≡ width = omega (arith, x .many) in
+        let c : rowAt table width place ≡ Csv.row (x .values) (drop next t) = rw m at (complete (x .read)) in
         let n : length t - length (drop next t) ≡ next = omega (arith, length-drop next t, x .inside) in
-        let z : 0 + length (joined (x .values)) ≡ size = omega (arith, x .sized) in
-        read-whole next size (rw (c, n, z)) (x .fits) (x .slots) o s (x .bytes ∙ rw c) (x .marks ∙ rw c)
+        read-whole next size (rw (c, n, x .sized)) (x .fits) (x .slots) o s (x .bytes ∙ rw c) (x .marks ∙ rw c)

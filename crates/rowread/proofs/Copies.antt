@@ -17,7 +17,7 @@ use Rattle.rowread.specs.Stored.{valuesOf, joined, endsOf}
 use Rattle.number.specs.Number.{pick}
 use Rattle.rowread.specs.Steps.{valueOf, restOf, IsRow, isStop, lineOf}
 use Rattle.rowread.proofs.Lines.{no-quote, run-end, run-part}
-use Rattle.rowread.proofs.Laws.{inner-out, inner-byte, inner-twice, inner-close, past, plain-all, field-plain}
+use Rattle.rowread.proofs.Laws.{inner-out, inner-byte, inner-twice, inner-close, past, plain-size, field-plain}
 
 -- ---- a value without quotes
 
@@ -36,9 +36,7 @@ plain-ends t i h = rw (drop-of-length-le t h)
 -- where it ends
 pub plain-place : (t : List ℕ) (from : ℕ) → from ≤ length t → (getD t from 0 ≡ 34 → ⊥) → from + length (plainValue (drop from t)) ≡ length t - length (restOf (fieldAt (drop from t)))
 plain-place t from h e =
-    let d : length (plainValue (drop from t)) + length (plainRest (drop from t)) ≡ length t - from =
-    sym (length-append (plainValue (drop from t)) (plainRest (drop from t))) ∙ ap length (plain-all (drop from t)) ∙ length-drop from t in
-    omega (arith, d, ap (λ (g : Got). length (restOf g)) (field-plain t from e))
+    omega (arith, plain-size t from, ap (λ (g : Got). length (restOf g)) (field-plain t from e))
 
 -- ---- a part of t
 

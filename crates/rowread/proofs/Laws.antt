@@ -114,7 +114,7 @@ end-no t i e = rw (first t i) (simp (ne-eqb (getD t i 0) 10 e))
 
 -- ---- a field
 
-pub plain-all : (bs : List ℕ) → plainValue bs ++ plainRest bs ≡ bs
+plain-all : (bs : List ℕ) → plainValue bs ++ plainRest bs ≡ bs
 unfolding plainValue plainRest
 plain-all [] = refl
 plain-all (b ∷ bs) = go (isText b) (plain-all bs)
@@ -122,6 +122,9 @@ plain-all (b ∷ bs) = go (isText b) (plain-all bs)
     go : (q : Bool) → plainValue bs ++ plainRest bs ≡ bs → pick q (b ∷ plainValue bs) [] ++ pick q (plainRest bs) (b ∷ bs) ≡ b ∷ bs
     go true e = ap (λ (l : List ℕ). b ∷ l) e
     go false e = refl
+
+pub plain-size : (t : List ℕ) (i : ℕ) → length (plainValue (drop i t)) + length (plainRest (drop i t)) ≡ length t - i
+plain-size t i = sym (length-append (plainValue (drop i t)) (plainRest (drop i t))) ∙ ap length (plain-all (drop i t)) ∙ length-drop i t
 
 field-not : (bs : List ℕ) → (getD bs 0 0 ≡ 34 → ⊥) → fieldAt bs ≡ got (plainValue bs) (plainRest bs)
 unfolding fieldAt plainValue plainRest
@@ -137,7 +140,7 @@ field-plain t i e = field-not (drop i t) (λ q. e (sym (first t i) ∙ q))
 
 pub plain-piece : (t : List ℕ) (i e : ℕ) → i ≤ length t → (getD t i 0 ≡ 34 → ⊥) → e ≡ i + length (plainValue (drop i t)) → Value e (e - i) ≡ pieceOf (length t) (fieldAt (drop i t))
 plain-piece t i e l h q =
-    let d : length (plainValue (drop i t)) + length (plainRest (drop i t)) ≡ length t - i = sym (length-append (plainValue (drop i t)) (plainRest (drop i t))) ∙ ap length (plain-all (drop i t)) ∙ length-drop i t in
+    let d = plain-size t i in
     let a : length t - length (plainRest (drop i t)) ≡ e = omega arith in
     let b : length (plainValue (drop i t)) ≡ e - i = omega arith in
     rw (field-plain t i h, a, b)

@@ -6,15 +6,25 @@ use native.Mathlib.Nat.{add-zero}
 use mathlib.Core.Bool.{false}
 use mathlib.Core.Path.{_≡_, refl, sym, ap, _∙_}
 use mathlib.Core.List.{List, [], _∷_, _++_, append-nil, append-assoc}
-use lib.ListN.{length, take, drop, getD, set, length-append}
-use lib.Seq.{sets, drop-cons}
+use lib.ListN.{length, take, drop, getD, set, length-append, length-set, length-take, take-append-drop}
+use lib.Seq.{sets, length-sets, sets-eq, drop-cons, take-at, take-take, getD-take, drop-append-le}
 use borrow.Author.Tests.{ne-eqb}
 use Rattle.csv.specs.Csv.{Inner, close, byte, twice, Field, escaped, lf, Record, last}
+use Rattle.csv.specs.Read.{plainValue, plainRest}
+use Rattle.csv.proofs.Grammar.{field-sound}
+use Rattle.csv.proofs.Places.{field-place}
+use Rattle.csv.proofs.Frame.{front-in-row}
 use Rattle.csv.proofs.Laws.{sets-append}
+use Rattle.rowread.specs.declared.Piece.{Piece}
+use Rattle.rowread.specs.declared.Piece.the-variants.{Value, Bad}
+use Rattle.rowread.specs.declared.Scan.{Scan}
+use Rattle.rowread.specs.declared.Scan.the-variants.{Whole, Broken}
+use Rattle.rowread.specs.declared.Quick.{Quick}
+use Rattle.rowread.specs.declared.Quick.the-variants.{Read, Not}
 use Rattle.rowread.specs.Stored.{joined, endsOf}
-use Rattle.rowread.specs.Steps.{isStop, lineOf, anyStop, textIn, cutsIn, Opens, Closes, Into, Holds}
-use Rattle.rowread.proofs.Laws.{past}
-use Rattle.rowread.proofs.Lines.{neither, no-quote, line-clean, stop-inside, run-split, run-part, more-of, before}
+use Rattle.rowread.specs.Steps.{isStop, lineOf, anyStop, textIn, cutsIn, Opens, Closes, Into, Took, Holds, TookRow, Within, Handed, Quickly}
+use Rattle.rowread.proofs.Laws.{past, plain-size, field-plain}
+use Rattle.rowread.proofs.Lines.{neither, no-quote, line-clean, stop-inside, run-split, run-part, more-of, before, front-part}
 use Rattle.rowread.proofs.Calls.{length-ends}
 
 -- ---- a quoted value
@@ -41,6 +51,9 @@ pub gone-start : (t : List ℕ) (from : ℕ) (out : List ℕ) (to : ℕ) → fro
 gone-start t from out to h = record { value = []; on = λ i. i; bytes = refl; upto = omega arith; grows = omega arith; inside = h }
 
 module _ {t : List ℕ} {from : ℕ} {out : List ℕ} {to : ℕ} {o : List ℕ} {p n : ℕ} (g : Gone t from out to o p n) where
+  pub gone-same : length o ≡ length out
+  gone-same = ap length (g .bytes) ∙ length-sets out to (g .value)
+
   gone-more : (w : List ℕ) (q : ℕ) → ((v r : List ℕ) → Inner (drop q t) v r → Inner (drop p t) (w ++ v) r) → p + length w ≤ q → q ≤ length t → Gone t from out to (sets o n w) q (n + length w)
   gone-more w q f h l =
       record {
@@ -96,79 +109,157 @@ quoted {t} {from} e i =
       bytes = i .bytes;
     }
 
+pub quoted-took : (t : List ℕ) (from : ℕ) (out : List ℕ) (to : ℕ) (o : List ℕ) (p : Piece) → getD t from 0 ≡ 34 → Took Inner t (from + 1) out to o p → Took Field t from out to o p
+quoted-took t from out to o (Value next size) e i = quoted e i
+quoted-took t from out to o Bad e i = tt
+
+pub plain-into : (t : List ℕ) (from : ℕ) (out : List ℕ) (to : ℕ) (o : List ℕ) (next size : ℕ) → from ≤ length t → (getD t from 0 ≡ 34 → ⊥) → o ≡ sets out to (plainValue (drop from t))
+    → next ≡ from + length (plainValue (drop from t)) → size ≡ length (plainValue (drop from t)) → Into Field t from out to o next size
+plain-into t from out to o next size h e x y z =
+    let q = field-plain t from e in
+    let f : Field (drop from t) (plainValue (drop from t)) (plainRest (drop from t)) = rw q at (field-sound (drop from t)) in
+    let m : length t - length (plainRest (drop from t)) ≡ next = omega (arith, plain-size t from, y) in
+    let r : plainRest (drop from t) ≡ drop next t = rw m at (field-place t from (plainValue (drop from t)) (plainRest (drop from t)) h q .0) in
+    record { value = plainValue (drop from t); read = rw r at f; sized = z; grows = omega (arith, y, z); inside = omega (arith, plain-size t from, y); bytes = x }
+
 -- ---- the values of a row
 
--- those before a place were put out with their ends: what follows goes on with them
-pub record Behind (t out ends o s : List ℕ) (from to k : ℕ) : Type 0 where
-  pub values : List (List ℕ)
-  pub on : {vs : List (List ℕ)} {r : List ℕ} → Record (drop from t) vs r → Record t (values ++ vs) r
-  pub many : length values ≡ k
-  pub upto : to ≡ length (joined values)
-  pub bytes : o ≡ sets out 0 (joined values)
-  pub marks : s ≡ sets ends 0 (endsOf 0 values)
-
-pub behind : (t : List ℕ) (e n : ℕ) (out ends o s : List ℕ) (to : ℕ) → Opens t e n → to ≡ length (textIn (take e t)) → o ≡ sets out 0 (textIn (take e t)) → s ≡ sets ends 0 (cutsIn 0 (take e t)) → Behind t out ends o s e to n
-behind t e n out ends o s to h m x y =
-    let b = before t e n h in
-    record { values = b .values; on = b .on; many = b .many; upto = m ∙ ap length (b .bytes); bytes = x ∙ rw (b .bytes); marks = y ∙ rw (b .marks) }
-
-joined-more : (ws : List (List ℕ)) (v : List ℕ) → joined (ws ++ (v ∷ [])) ≡ joined ws ++ v
-unfolding joined
-joined-more [] v = append-nil v
-joined-more (w ∷ ws) v = ap (λ (l : List ℕ). w ++ l) (joined-more ws v) ∙ sym (append-assoc w (joined ws) v)
-
-ends-more : (n : ℕ) (ws : List (List ℕ)) (v : List ℕ) → endsOf n (ws ++ (v ∷ [])) ≡ endsOf n ws ++ ((n + length (joined ws) + length v) ∷ [])
-unfolding endsOf joined
-ends-more n [] v = rw (add-zero n)
-ends-more n (w ∷ ws) v =
-    let z : n + length (w ++ joined ws) + length v ≡ n + length w + length (joined ws) + length v = omega (arith, length-append w (joined ws)) in
-    rw z (ap (λ (l : List ℕ). (n + length w) ∷ l) (ends-more (n + length w) ws v))
-
--- one value more
-module _ {t out ends o s : List ℕ} {from to k : ℕ} (b : Behind t out ends o s from to k) {q : List ℕ} {next size : ℕ} (i : Into Field t from o to q next size) where
-  wider : List (List ℕ)
-  wider = b .values ++ (i .value ∷ [])
-
-  more-many : length (b .values ++ (i .value ∷ [])) ≡ k + 1
-  more-many = omega (arith, length-append (b .values) (i .value ∷ []), b .many)
-
-  more-upto : to + size ≡ length (joined (b .values ++ (i .value ∷ [])))
-  more-upto = omega (arith, ap length (joined-more (b .values) (i .value)), length-append (joined (b .values)) (i .value), b .upto, i .sized)
-
-  more-bytes : q ≡ sets out 0 (joined (b .values ++ (i .value ∷ [])))
-  more-bytes =
-      let z : 0 + length (joined (b .values)) ≡ to = omega (arith, b .upto) in
-      i .bytes ∙ rw (b .bytes, joined-more (b .values) (i .value), sets-append out 0 (joined (b .values)) (i .value), z)
-
-  more-marks : set s k (to + size) ≡ sets ends 0 (endsOf 0 (b .values ++ (i .value ∷ [])))
-  more-marks =
-      let z : 0 + length (endsOf 0 (b .values)) ≡ k = omega (arith, length-ends 0 (b .values), b .many) in
-      let y : 0 + length (joined (b .values)) + length (i .value) ≡ to + size = omega (arith, b .upto, i .sized) in
-      rw (b .marks, ends-more 0 (b .values) (i .value), sets-append ends 0 (endsOf 0 (b .values)) ((0 + length (joined (b .values)) + length (i .value)) ∷ []), z, y)
-
-  pub behind-more : getD t next 0 ≡ 44 → Behind t out ends q (set s k (to + size)) (next + 1) (to + size) (k + 1)
-  behind-more e =
+-- one value, and those that follow it
+module _ {t : List ℕ} {from to : ℕ} {out q : List ℕ} {next size : ℕ} (i : Into Field t from out to q next size) where
+  pub holds-more : {ends : List ℕ} {k width : ℕ} {o s : List ℕ} {last all : ℕ} → getD t next 0 ≡ 44 → Holds t (next + 1) (to + size) (k + 1) width q (set ends k (to + size)) o s last all → Holds t from to k width out ends o s last all
+  unfolding joined endsOf
+  holds-more {ends} {k} {width} {o} {s} {last} {all} e x =
       let f : Field (drop from t) (i .value) (44 ∷ drop (next + 1) t) = rw (at-place t next 43 e) at (i .read) in
+      let n = i .sized in
       record {
-        values = b .values ++ (i .value ∷ []);
-        on = λ {vs} {r} p. rw append-assoc (b .on (more-of f p));
-        many = more-many;
-        upto = more-upto;
-        bytes = more-bytes;
-        marks = more-marks;
+        values = i .value ∷ x .values;
+        read = more-of f (x .read);
+        many = omega (arith, x .many);
+        sized = omega (arith, x .sized, n, length-append (i .value) (joined (x .values)));
+        inside = x .inside;
+        fits = omega (arith, x .fits, ap length (i .bytes), length-sets out to (i .value));
+        slots = omega (arith, x .slots, length-set ends k (to + size));
+        bytes = x .bytes ∙ rw (i .bytes, n) (sym (sets-append out to (i .value) (joined (x .values))));
+        marks = x .marks ∙ rw (add-one k, n);
       }
 
-  pub behind-last : (width end all : ℕ) → width ≡ k + 1 → end ≡ next + 1 → all ≡ to + size → getD t next 0 ≡ 10 → all ≤ length out → width ≤ length ends → Holds t width out ends q (set s k all) end all
-  behind-last width end all w x y e l m =
+  pub holds-last : {ends : List ℕ} {k : ℕ} (width end all : ℕ) → k + 1 ≡ width → end ≡ next + 1 → all ≡ to + size → getD t next 0 ≡ 10 → all ≤ length out → width ≤ length ends → Holds t from to k width out ends q (set ends k all) end all
+  unfolding joined endsOf
+  holds-last {ends} {k} width end all w x y e l m =
       let f : Field (drop from t) (i .value) (10 ∷ drop (next + 1) t) = rw (at-place t next 9 e) at (i .read) in
-      rw (y, x) (record {
-        values = b .values ++ (i .value ∷ []);
-        read = b .on (last f lf);
-        many = more-many ∙ sym w;
-        sized = more-upto;
-        inside = omega (arith, past t next 9 e);
-        fits = omega (arith, y, l);
+      let z : all ≡ to + length (i .value) = omega (arith, y, i .sized) in
+      record {
+        values = i .value ∷ [];
+        read = rw x (last f lf);
+        many = w;
+        sized = rw append-nil z;
+        inside = omega (arith, x, past t next 9 e);
+        fits = l;
         slots = m;
-        bytes = more-bytes;
-        marks = more-marks;
-      })
+        bytes = rw append-nil (i .bytes);
+        marks = rw z;
+      }
+
+joined-append : (vs ws : List (List ℕ)) → joined (vs ++ ws) ≡ joined vs ++ joined ws
+unfolding joined
+joined-append [] ws = refl
+joined-append (v ∷ vs) ws = ap (λ (l : List ℕ). v ++ l) (joined-append vs ws) ∙ sym (append-assoc v (joined vs) (joined ws))
+
+ends-append : (n : ℕ) (vs ws : List (List ℕ)) → endsOf n (vs ++ ws) ≡ endsOf n vs ++ endsOf (n + length (joined vs)) ws
+unfolding endsOf joined
+ends-append n [] ws = rw (add-zero n)
+ends-append n (v ∷ vs) ws =
+    let z : n + length (v ++ joined vs) ≡ n + length v + length (joined vs) = omega (arith, length-append v (joined vs)) in
+    rw z (ap (λ (l : List ℕ). (n + length v) ∷ l) (ends-append (n + length v) vs ws))
+
+-- the values before a place, as they were put out, and those from there on
+module _ (t : List ℕ) (e n : ℕ) (h : Opens t e n) (out ends o s : List ℕ) (to : ℕ) (m : to ≡ length (textIn (take (e - 0) (drop 0 t)))) (x : o ≡ sets out 0 (textIn (take (e - 0) (drop 0 t)))) (y : s ≡ sets ends 0 (cutsIn 0 (take (e - 0) (drop 0 t)))) where
+  same-out : length o ≡ length out
+  same-out = ap length x ∙ length-sets out 0 (textIn (take (e - 0) (drop 0 t)))
+
+  same-ends : length s ≡ length ends
+  same-ends = ap length y ∙ length-sets ends 0 (cutsIn 0 (take (e - 0) (drop 0 t)))
+
+  holds-before : {width : ℕ} {p q : List ℕ} {next size : ℕ} → Holds t e to n width o s p q next size → Holds t 0 0 0 width out ends p q next size
+  holds-before {width} {p} {q} {next} {size} w =
+      let b = before t e n h in
+      let f = front-part t e in
+      let j = joined-append (b .values) (w .values) in
+      let k : 0 + length (joined (b .values)) ≡ to = omega (arith, m, ap (λ (l : List ℕ). length (textIn l)) f, ap length (b .bytes)) in
+      let l : 0 + length (endsOf 0 (b .values)) ≡ n = omega (arith, length-ends 0 (b .values), b .many) in
+      record {
+        values = b .values ++ w .values;
+        read = b .on (w .read);
+        many = omega (arith, w .many, b .many, length-append (b .values) (w .values));
+        sized = omega (arith, w .sized, k, ap length j, length-append (joined (b .values)) (joined (w .values)));
+        inside = w .inside;
+        fits = omega (arith, w .fits, same-out);
+        slots = omega (arith, w .slots, same-ends);
+        bytes = w .bytes ∙ rw (x, f, b .bytes, j, sets-append out 0 (joined (b .values)) (joined (w .values)), k);
+        marks = w .marks ∙ rw (y, f, b .marks, ends-append 0 (b .values) (w .values), k, sets-append ends 0 (endsOf 0 (b .values)) (endsOf to (w .values)), l);
+      }
+
+  pub took-before : (width : ℕ) (p q : List ℕ) (scan : Scan) → TookRow t e to n width o s p q scan → TookRow t 0 0 0 width out ends p q scan
+  took-before width p q (Whole next size) w = holds-before w
+  took-before width p q Broken w = tt
+
+  -- from there on: one quoted value, with no stop inside
+  pub quote-before : (c size : ℕ) (p : List ℕ) → getD t e 0 ≡ 34 → Closes t e c → size ≡ to + (c - (e + 1)) → p ≡ sets o to (take (c - (e + 1)) (drop (e + 1) t)) → size ≤ length out → n < length ends
+      → Holds t 0 0 0 (n + 1) out ends p (set s n size) (c + 2) size
+  quote-before c size p q k z w l r =
+      let g = gone-run (gone-start t (e + 1) o to (omega (arith, past t e 33 q))) c (k .0) in
+      let i = quoted q (gone-close g (c - (e + 1)) refl (k .1)) in
+      rw w (holds-before (holds-last i (n + 1) (c + 2) size refl (omega arith) z (k .2) (omega (arith, l, same-out)) (omega (arith, r, same-ends))))
+
+-- ---- a row out of room of our own
+
+take-sets : (l v : List ℕ) (n : ℕ) → n ≡ length v → n ≤ length l → take n (sets l 0 v) ≡ v
+take-sets l v n e h = rw (sets-eq v l 0 (omega arith)) (take-at v (drop (0 + length v) l) n (sym e))
+
+pub handed : (t : List ℕ) (width : ℕ) (room marks r m out ends o s : List ℕ) (scan : Scan) (q : Quick) → TookRow t 0 0 0 width room marks r m scan → Handed scan width r m out ends o s q → Quickly t width out ends o s q
+handed t width room marks r m out ends o s scan Not x h = h
+handed t width room marks r m out ends o s scan (Read next size) x h =
+    let y : Holds t 0 0 0 width room marks r m next size = rw (h .0) at x in
+    record {
+      values = y .values;
+      read = y .read;
+      many = y .many;
+      sized = y .sized;
+      inside = y .inside;
+      fits = h .1;
+      slots = h .2;
+      bytes = h .3 ∙ ap (sets out 0) (ap (take size) (y .bytes) ∙ take-sets room (joined (y .values)) size (omega (arith, y .sized)) (y .fits));
+      marks = h .4 ∙ ap (sets ends 0) (ap (take width) (y .marks) ∙ take-sets marks (endsOf 0 (y .values)) width (omega (arith, length-ends 0 (y .values), y .many)) (y .slots));
+    }
+
+-- what was scanned stands in room
+pub took-within : (t : List ℕ) (width : ℕ) (room marks r m : List ℕ) (scan : Scan) → TookRow t 0 0 0 width room marks r m scan → length r ≡ length room → Within (length r) scan
+took-within t width room marks r m Broken x e = tt
+took-within t width room marks r m (Whole next size) x e = omega (arith, x .fits, e)
+
+-- a row of the first bytes is one of them all
+pub longer : (n : ℕ) (t : List ℕ) (width : ℕ) (out ends o s : List ℕ) (q : Quick) → Quickly (take n t) width out ends o s q → Quickly t width out ends o s q
+longer n t width out ends o s Not x = x
+longer n t width out ends o s (Read next size) x =
+    let d : drop next (take n t) ++ drop n t ≡ drop next t = sym (drop-append-le next (take n t) (drop n t) (x .inside)) ∙ rw (take-append-drop n t) in
+    record {
+      values = x .values;
+      read = rw d at (front-in-row n t (x .read));
+      many = x .many;
+      sized = x .sized;
+      inside = omega (arith, x .inside, length-take n t);
+      fits = x .fits;
+      slots = x .slots;
+      bytes = x .bytes;
+      marks = x .marks;
+    }
+
+pub opens-front : (m : ℕ) {t : List ℕ} {e n : ℕ} → Opens t e n → e ≤ m → Opens (take m t) e n
+opens-front m {t} {e} {n} o h =
+    let w : take e (take m t) ≡ take e t = take-take e m t h in
+    record {
+      inside = omega (arith, o .inside, length-take m t);
+      clean = rw w (o .clean);
+      comma = λ z. getD-take m t (e - 1) 0 (omega (arith, z)) ∙ o .comma z;
+      count = rw w (o .count);
+    }

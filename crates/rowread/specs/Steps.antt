@@ -111,25 +111,25 @@ abbrev pub Took : (List ℕ → List ℕ → List ℕ → Type 0) → List ℕ �
 Took Rule t from out to o (Value next size) = Into Rule t from out to o next size
 Took Rule t from out to o Bad = Unit {0}
 
--- the values of the row at the front of t were put into out, and their ends into ends
-pub record Holds (t : List ℕ) (width : ℕ) (out ends o s : List ℕ) (next size : ℕ) : Type 0 where
+-- the values of a row from a place on, of which k stand before it, were put into out behind `to` bytes, and their ends into ends
+pub record Holds (t : List ℕ) (from to k width : ℕ) (out ends o s : List ℕ) (next size : ℕ) : Type 0 where
   pub values : List (List ℕ)
-  pub read : Record t values (drop next t)
-  pub many : length values ≡ width
-  pub sized : size ≡ length (joined values)
+  pub read : Record (drop from t) values (drop next t)
+  pub many : k + length values ≡ width
+  pub sized : size ≡ to + length (joined values)
   pub inside : next ≤ length t
   pub fits : size ≤ length out
   pub slots : width ≤ length ends
-  pub bytes : o ≡ sets out 0 (joined values)
-  pub marks : s ≡ sets ends 0 (endsOf 0 values)
+  pub bytes : o ≡ sets out to (joined values)
+  pub marks : s ≡ sets ends k (endsOf to values)
 
-abbrev pub TookRow : List ℕ → ℕ → List ℕ → List ℕ → List ℕ → List ℕ → Scan → Type 0
-TookRow t width out ends o s (Whole next size) = Holds t width out ends o s next size
-TookRow t width out ends o s Broken = Unit {0}
+abbrev pub TookRow : List ℕ → ℕ → ℕ → ℕ → ℕ → List ℕ → List ℕ → List ℕ → List ℕ → Scan → Type 0
+TookRow t from to k width out ends o s (Whole next size) = Holds t from to k width out ends o s next size
+TookRow t from to k width out ends o s Broken = Unit {0}
 
 -- a quick way: the row was read, or nothing was written
 abbrev pub Quickly : List ℕ → ℕ → List ℕ → List ℕ → List ℕ → List ℕ → Quick → Type 0
-Quickly t width out ends o s (Read next size) = Holds t width out ends o s next size
+Quickly t width out ends o s (Read next size) = Holds t 0 0 0 width out ends o s next size
 Quickly t width out ends o s Not = (o ≡ out) × (s ≡ ends)
 
 -- a row that was scanned is handed out of room and marks, or nothing is written

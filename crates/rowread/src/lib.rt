@@ -5,10 +5,10 @@ ghost use Prim.Native.Nat.{_+_, _-_, _≤_, _<_, min};
 ghost use lib.ListN.{length, take, drop, getD};
 ghost use lib.Seq.{sets};
 ghost use Rattle.number.specs.Number.{pick};
-ghost use Rattle.csv.specs.Csv.{isText};
+ghost use Rattle.csv.specs.Csv.{isText, Inner, Field};
 ghost use Rattle.csv.specs.Read.{plainValue, inner, fieldAt, rowEnd, values};
 ghost use Rattle.rowread.specs.Stored.{valuesOf, valuesAt, joined, endsOf, readAnswer, after};
-ghost use Rattle.rowread.specs.Steps.{pieceOf, valueOf, restOf, IsGot, scanOf, IsRow, isStop, FirstStop, lineOf, commasIn, textIn, cutsIn, marksIn, IsLine, Opens, Closes, Quickly};
+ghost use Rattle.rowread.specs.Steps.{pieceOf, valueOf, restOf, IsGot, scanOf, IsRow, isStop, FirstStop, lineOf, commasIn, textIn, cutsIn, marksIn, IsLine, Opens, Closes, Took, TookRow, Within, Handed, Quickly};
 use refusal::Refusal;
 
 pub enum ReadAnswer {
@@ -542,6 +542,244 @@ fn quote_last(t: &[u8], e: usize, c: usize, n: usize, out: &mut [u8], ends: &mut
     Quick::Read { next: c + 2, size }
 }
 
+// The value behind the opening quote before a place, into room as it is found, byte by byte.
+fn take_bytes(t: &[u8], from: usize, room: &mut [u8], to: usize) -> Piece
+    requires { ⌜ (from ≤ length (now t)) × (to + (length (now t) - from) ≤ length (now room)) ⌝ }
+    ensures { λ r. ⌜ Took Inner (now (t .entry)) from (now (room .entry)) to (now (room .exit)) r ⌝ }
+{
+    let mut p = from;
+    let mut n = to;
+    while p < t.len() {
+        let byte = t[p];
+        p += 1;
+        if byte == 34 {
+            if at(t, p) != 34 {
+                return Piece::Value {
+                    next: p,
+                    size: n - to,
+                };
+            }
+            p += 1;
+        }
+        room[n] = byte;
+        n += 1;
+    }
+    Piece::Bad
+}
+
+// The same, from stop to stop.
+fn take_runs(t: &[u8], from: usize, room: &mut [u8], to: usize) -> Piece
+    requires { ⌜ (from ≤ length (now t)) × (to + (length (now t) - from) ≤ length (now room)) ⌝ }
+    ensures { λ r. ⌜ Took Inner (now (t .entry)) from (now (room .entry)) to (now (room .exit)) r ⌝ }
+{
+    let mut p = from;
+    let mut n = to;
+    while p < t.len() {
+        let e = stop_from(t, p);
+        n = copy_part(t, p, e, room, n);
+        if e == t.len() {
+            return Piece::Bad;
+        }
+        let last = t[e];
+        p = e + 1;
+        if last == 34 {
+            if at(t, p) != 34 {
+                return Piece::Value {
+                    next: p,
+                    size: n - to,
+                };
+            }
+            p += 1;
+        }
+        room[n] = last;
+        n += 1;
+    }
+    Piece::Bad
+}
+
+// The value behind the opening quote before a place, into room.
+fn take_inner(t: &[u8], from: usize, room: &mut [u8], to: usize) -> Piece
+    requires { ⌜ (from ≤ length (now t)) × (to + (length (now t) - from) ≤ length (now room)) ⌝ }
+    ensures { λ r. ⌜ Took Inner (now (t .entry)) from (now (room .entry)) to (now (room .exit)) r ⌝ }
+{
+    if sparse(t, from) {
+        return take_runs(t, from, room, to);
+    }
+    take_bytes(t, from, room, to)
+}
+
+// The value at a place, into room.
+fn take_field(t: &[u8], from: usize, room: &mut [u8], to: usize) -> Piece
+    requires { ⌜ (from ≤ length (now t)) × (to + (length (now t) - from) ≤ length (now room)) ⌝ }
+    ensures { λ r. ⌜ Took Field (now (t .entry)) from (now (room .entry)) to (now (room .exit)) r ⌝ }
+{
+    if at(t, from) == 34 {
+        return take_inner(t, from + 1, room, to);
+    }
+    let c = copy_plain(t, from, room, to);
+    Piece::Value {
+        next: c.next,
+        size: c.to - to,
+    }
+}
+
+// The values of a row from a place on, into room behind `size` bytes, and their ends into marks behind `count` ends.
+fn take_rest(
+    t: &[u8],
+    width: usize,
+    start: usize,
+    size: usize,
+    count: usize,
+    room: &mut [u8],
+    marks: &mut [usize],
+) -> Scan
+    requires { ⌜ (size ≤ start) × (start ≤ length (now t)) × (length (now t) ≤ length (now room)) × (width ≤ length (now marks)) ⌝ }
+    ensures { λ r. ⌜ TookRow (now (t .entry)) start size count width (now (room .entry)) (now (marks .entry)) (now (room .exit)) (now (marks .exit)) r ⌝ }
+{
+    let mut from = start;
+    let mut to = size;
+    let mut k = count;
+    while k < width {
+        let Piece::Value { next, size: n } = take_field(t, from, room, to) else {
+            return Scan::Broken;
+        };
+        to += n;
+        marks[k] = to;
+        k += 1;
+        let behind = at(t, next);
+        if k == width {
+            if behind == 10 {
+                return Scan::Whole {
+                    next: next + 1,
+                    size: to,
+                };
+            }
+            return Scan::Broken;
+        }
+        if behind != 44 {
+            return Scan::Broken;
+        }
+        from = next + 1;
+    }
+    Scan::Broken
+}
+
+// The row of so many values, of which n without quotes stand before e, into room and marks.
+fn take_row(
+    t: &[u8],
+    width: usize,
+    e: usize,
+    n: usize,
+    room: &mut [u8],
+    marks: &mut [usize],
+) -> Scan
+    requires { ⌜ Opens (now t) e n × (n < width) × (length (now t) ≤ length (now room)) × (width ≤ length (now marks)) ⌝ }
+    ensures { λ r. ⌜ TookRow (now (t .entry)) 0 0 0 width (now (room .entry)) (now (marks .entry)) (now (room .exit)) (now (marks .exit)) r ⌝ }
+{
+    let to = copy_before(&t[0..e], room, marks);
+    take_rest(t, width, e, to, n, room, marks)
+}
+
+// The first ends, into ends.
+fn copy_ends(marks: &[usize], n: usize, ends: &mut [usize])
+    requires { ⌜ (n ≤ length (now marks)) × (n ≤ length (now ends)) ⌝ }
+    ensures { λ _. ⌜ now (ends .exit) ≡ sets (now (ends .entry)) 0 (take n (now (marks .entry))) ⌝ }
+{
+    let mut i: usize = 0;
+    while i < n {
+        ends[i] = marks[i];
+        i += 1;
+    }
+}
+
+// A row out of room and marks, where it fits.
+fn hand_out(
+    scan: Scan,
+    width: usize,
+    room: &[u8],
+    marks: &[usize],
+    out: &mut [u8],
+    ends: &mut [usize],
+) -> Quick
+    requires { ⌜ Within (length (now room)) scan × (width ≤ length (now marks)) ⌝ }
+    ensures { λ r. ⌜ Handed scan width (now (room .entry)) (now (marks .entry)) (now (out .entry)) (now (ends .entry)) (now (out .exit)) (now (ends .exit)) r ⌝ }
+{
+    let Scan::Whole { next, size } = scan else {
+        return Quick::Not;
+    };
+    if out.len() < size {
+        return Quick::Not;
+    }
+    if ends.len() < width {
+        return Quick::Not;
+    }
+    copy_part(room, 0, size, out, 0);
+    copy_ends(marks, width, ends);
+    Quick::Read { next, size }
+}
+
+// The row of so many values, of which n without quotes stand before e, by way of a little room.
+fn by_little(
+    t: &[u8],
+    width: usize,
+    e: usize,
+    n: usize,
+    out: &mut [u8],
+    ends: &mut [usize],
+) -> Quick
+    requires { ⌜ Opens (now t) e n × (n < width) × (width ≤ 10) × (length (now t) ≤ 256) ⌝ }
+    ensures { λ r. ⌜ Quickly (now (t .entry)) width (now (out .entry)) (now (ends .entry)) (now (out .exit)) (now (ends .exit)) r ⌝ }
+{
+    let mut room = [0u8; 256];
+    let mut marks = [0usize; 10];
+    let found = take_row(t, width, e, n, &mut room, &mut marks);
+    hand_out(found, width, &room, &marks, out, ends)
+}
+
+// The same, by way of much.
+fn by_much(t: &[u8], width: usize, e: usize, n: usize, out: &mut [u8], ends: &mut [usize]) -> Quick
+    requires { ⌜ Opens (now t) e n × (n < width) × (width ≤ 10) × (length (now t) ≤ 1024) ⌝ }
+    ensures { λ r. ⌜ Quickly (now (t .entry)) width (now (out .entry)) (now (ends .entry)) (now (out .exit)) (now (ends .exit)) r ⌝ }
+{
+    let mut room = [0u8; 1024];
+    let mut marks = [0usize; 10];
+    let found = take_row(t, width, e, n, &mut room, &mut marks);
+    hand_out(found, width, &room, &marks, out, ends)
+}
+
+// Whether a little room will do: an LF or the end is near. Either way gives the same row.
+fn short(t: &[u8], from: usize) -> bool
+    requires { ⌜ from ≤ length (now t) ⌝ }
+{
+    if t.len() - from < 64 {
+        return true;
+    }
+    let end = from + 64;
+    few(&t[from..end], 10) != 0
+}
+
+// The row of so many values, of which n without quotes stand before e, by way of room of our own.
+fn by_room(t: &[u8], width: usize, e: usize, n: usize, out: &mut [u8], ends: &mut [usize]) -> Quick
+    requires { ⌜ Opens (now t) e n × (n < width) ⌝ }
+    ensures { λ r. ⌜ Quickly (now (t .entry)) width (now (out .entry)) (now (ends .entry)) (now (out .exit)) (now (ends .exit)) r ⌝ }
+{
+    if 10 < width {
+        return Quick::Not;
+    }
+    if short(t, e) {
+        let end = near(t.len(), 0, 256);
+        if end < e {
+            return Quick::Not;
+        }
+        return by_little(&t[0..end], width, e, n, out, ends);
+    }
+    let end = near(t.len(), 0, 1024);
+    if end < e {
+        return Quick::Not;
+    }
+    by_much(&t[0..end], width, e, n, out, ends)
+}
+
 // The row of so many values at the front, quickly where it has quotes and is short; the first stop stands at e.
 fn quick_row(t: &[u8], width: usize, e: usize, out: &mut [u8], ends: &mut [usize]) -> Quick
     requires { ⌜ (length (now t) ≤ 8192) × (e ≡ length (lineOf (now t))) ⌝ }
@@ -563,7 +801,7 @@ fn quick_row(t: &[u8], width: usize, e: usize, out: &mut [u8], ends: &mut [usize
             return quote_last(t, e, c, n, out, ends);
         }
     }
-    Quick::Not
+    by_room(t, width, e, n, out, ends)
 }
 
 // The row of so many values at a place of a table: its values, joined, into out, and where each ends into ends.

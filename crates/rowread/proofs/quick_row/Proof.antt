@@ -74,11 +74,21 @@ same-length-2 c = search needs
 returns-4 : tie.Need-returns-4
 returns-4 c = rw (c .before .before .before .before .before .before .before .before .before .if4 .taken) (c .before .before .before .before .quote-last .ensures)
 
+by-room-requires : tie.Need-by-room-requires
+by-room-requires c κs =
+    let s = c .before .before .before .before .before .before .before .before .before .before .before .before .before in
+    let a = s .args in
+    let t = a .t .now in
+    (opens t (a .e) _ (s .pre .1) (c .before .before .before .before .before .before .before .after-comma .ensures (not-false _ (c .before .before .before .before .before .before .if2 .left))) (c .before .before .before .before .commas .ensures), c .before .before .before .if3 .left)
+
+same-length-3 : tie.Need-same-length-3
+same-length-3 c = search needs
+
+same-length-4 : tie.Need-same-length-4
+same-length-4 c = search needs
+
 returns-5 : tie.Need-returns-5
 returns-5 c = search needs
-
-returns-6 : tie.Need-returns-6
-returns-6 c = search needs
 
 pub quick-row-spec : {M : Type 1} → statement M
 quick-row-spec =
@@ -99,5 +109,7 @@ quick-row-spec =
     same-length
     same-length-2
     returns-4
-    returns-5
-    returns-6)
+    by-room-requires
+    same-length-3
+    same-length-4
+    returns-5)

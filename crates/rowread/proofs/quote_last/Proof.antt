@@ -6,7 +6,7 @@ use lib.Seq.{length-sets}
 use Rattle.rowread.specs.Steps.{textIn}
 use Rattle.rowread.proofs.Lines.{text-size, stop-inside, front-part}
 use Rattle.rowread.proofs.Laws.{past}
-use Rattle.rowread.proofs.Takes.{gone-start, gone-run, gone-close, quoted, behind, behind-last}
+use Rattle.rowread.proofs.Takes.{quote-before}
 use borrow.Author.Needs.{needs}
 use Rattle.rowread.proofs.quote_last.Statement.{statement}
 use Rattle.rowread.proofs.quote_last.Tie as tie
@@ -86,14 +86,9 @@ returns-3 c =
     let t = a .t .now in
     let e = c .before .before .before .before .before .before .before .before .copy-before in
     let p = c .before .before .copy-part in
-    let h : a .e + 1 ≤ length t = omega (arith, past t (a .e) 33 (s .pre .1)) in
-    let f = front-part t (a .e) in
-    let m : e .result ≡ length (textIn (take (a .e) t)) = e .ensures .0 ∙ rw f in
-    let y = behind t (a .e) (a .n) (a .out .now) (a .ends .now) _ _ (e .result) (s .pre .0) m (e .ensures .1 ∙ rw f) (e .ensures .2 ∙ rw f) in
-    let g = gone-run (gone-start t (a .e + 1) _ (e .result) h) (a .c) (s .pre .2 .0) in
-    let i = quoted (s .pre .1) (gone-close g (a .c - (a .e + 1)) refl (s .pre .2 .1)) in
+    let m : e .result ≡ length (textIn (take (a .e) t)) = e .ensures .0 ∙ rw (front-part t (a .e)) in
     let l : p .result ≤ length (a .out .now) = omega (arith, m, p .ensures .0, s .pre .0 .count, text-size (take (a .e) t), length-take (a .e) t, c .before .before .before .before .before .before .before .before .before .before .before .before .before .if1 .left) in
-    rw (p .ensures .1) (behind-last y i (a .n + 1) (a .c + 2) (p .result) refl (omega arith) (p .ensures .0) (s .pre .2 .2) l (omega (arith, c .before .before .before .before .before .before .before .before .before .before .before .before .if2 .left)))
+    quote-before t (a .e) (a .n) (s .pre .0) (a .out .now) (a .ends .now) _ _ (e .result) (e .ensures .0) (e .ensures .1) (e .ensures .2) (a .c) (p .result) _ (s .pre .1) (s .pre .2) (p .ensures .0) (p .ensures .1) l (c .before .before .before .before .before .before .before .before .before .before .before .before .if2 .left)
 
 pub quote-last-spec : {M : Type 1} → statement M
 quote-last-spec =
