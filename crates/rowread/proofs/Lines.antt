@@ -18,7 +18,7 @@ use Rattle.csv.proofs.Grammar.{complete}
 use Rattle.csv.proofs.Laws.{sets-append}
 use Rattle.rowread.specs.declared.Scan.the-variants.{Whole}
 use Rattle.rowread.specs.Stored.{valuesOf, joined, endsOf}
-use Rattle.rowread.specs.Steps.{pieceOf, scanOf, isStop, FirstStop, lineOf, commasIn, textIn, cutsIn, marksIn, IsLine, anyStop, Opens, Closes}
+use Rattle.rowread.specs.Steps.{pieceOf, scanOf, isStop, FirstStop, lineOf, commasIn, textIn, cutsIn, marksIn, anyStop, Opens, Holds}
 use Rattle.rowread.proofs.Laws.{past, add, add-push}
 
 -- ---- the bytes before the first one
@@ -301,16 +301,6 @@ line-take (b ∷ t) = go (isStop b) (line-take t)
     go true e = refl
     go false e = ap (λ (l : List ℕ). b ∷ l) e
 
-line-row : (t : List ℕ) (width line : ℕ) → IsLine t width line → values width t ≡ row (valuesIn (lineOf t)) (drop line t)
-line-row t width line (p, q, w) =
-    let v = lineOf t in
-    let i : length v < length t = past t (length v) 9 q in
-    let d : drop (length v) t ≡ 10 ∷ drop line t = drop-cons t (length v) 0 i ∙ rw (q, p, add-one (length v)) in
-    let a : v ++ (10 ∷ drop line t) ≡ t = ap (λ (l : List ℕ). v ++ l) (sym d) ∙ line-all t in
-    let r : Record t (valuesIn v ++ []) (drop line t) = rw a at (plain-row 10 (drop line t) [] (drop line t) (λ bs g f. last f lf) v (line-clean t)) in
-    let m : length (valuesIn v) ≡ width = omega (arith, many-in v, w) in
-    rw m at (complete (rw append-nil at r))
-
 -- the first bytes, as a part of t
 pub front-part : (t : List ℕ) (n : ℕ) → take (n - 0) (drop 0 t) ≡ take n t
 front-part t n = let m : n - 0 ≡ n = omega arith in rw m
@@ -329,6 +319,9 @@ module _ (t : List ℕ) (p e : ℕ) (q : e ≡ p + length (lineOf (drop p t))) w
 
   pub run-split : drop p t ≡ lineOf (drop p t) ++ drop e t
   run-split = sym (ap (λ (l : List ℕ). lineOf (drop p t) ++ l) (sym run-end) ∙ line-all (drop p t))
+
+pub line-parts : (t : List ℕ) (e : ℕ) → e ≡ length (lineOf t) → (e ≤ length t) × (length (take (e - 0) (drop 0 t)) ≡ e) × (length (textIn (take (e - 0) (drop 0 t))) + commasIn (take (e - 0) (drop 0 t)) ≡ e)
+line-parts t e p = let m : length (take (e - 0) (drop 0 t)) ≡ e = ap length (line-part t e p) ∙ sym p in (omega (arith, p, line-size t), m, text-size (take (e - 0) (drop 0 t)) ∙ m)
 
 -- ---- a quoted value, from stop to stop
 
@@ -353,36 +346,6 @@ pub turn-run : (t : List ℕ) (i e k : ℕ) → e ≡ i + length (lineOf (drop i
 turn-run t i e k q =
     let m : length (lineOf (drop i t)) ≡ e - i = omega (arith, q) in
     run-piece (drop i t) k (length t) ∙ rw (run-end t i e q, m)
-
--- what a row without quotes has
-pub record IsPlain (t : List ℕ) (width line : ℕ) : Type 0 where
-  pub inside : line ≤ length t
-  pub bytes : joined (valuesOf (values width t)) ≡ textIn (lineOf t)
-  pub marks : endsOf 0 (valuesOf (values width t)) ≡ marksIn 0 (lineOf t)
-  pub scan : Whole line (length (lineOf t) - commasIn (lineOf t)) ≡ scanOf width t
-
-pub is-plain : (t : List ℕ) (width line : ℕ) → IsLine t width line → IsPlain t width line
-unfolding scanOf joined endsOf
-is-plain t width line (p, q, w) =
-    let v = lineOf t in
-    let i : length v < length t = past t (length v) 9 q in
-    let e = line-row t width line (p, q, w) in
-    let s : length t - length (drop line t) ≡ line = rw (length-drop line t) (omega (arith, p)) in
-    let z : length (firstIn v ++ joined (othersIn v)) ≡ length v - commasIn v = ap length (joined-in v) ∙ omega (arith, text-size v) in
-    let y : 0 + length (firstIn v ++ joined (othersIn v)) ≡ length v - commasIn v = omega (arith, z) in
-    record {
-      inside = omega (arith, p);
-      bytes = ap (λ (r : Row). joined (valuesOf r)) e ∙ joined-in v;
-      marks = ap (λ (r : Row). endsOf 0 (valuesOf r)) e ∙ ends-in 0 v;
-      scan = rw (e, s, y);
-    }
-
--- an LF behind the bytes before the first stop
-pub line-found : (t : List ℕ) (e b : ℕ) → e ≡ length (lineOf t) → b ≡ getD t e 0 → b ≡ 10
-    → (take (e - 0) (drop 0 t) ≡ lineOf t) × (e < length t) × (getD t (length (lineOf t)) 0 ≡ 10)
-line-found t e b p q r =
-    let g : getD t e 0 ≡ 10 = sym q ∙ r in
-    (line-part t e p, past t e 9 g, ap (λ (k : ℕ). getD t k 0) (sym p) ∙ g)
 
 -- ---- values without quotes before a place
 
@@ -443,4 +406,29 @@ before t (suc m) n o =
       many = omega (arith, many-in u, k);
       bytes = ap textIn w ∙ text-comma u ∙ sym (joined-in u);
       marks = ap (cutsIn 0) w ∙ cuts-comma 0 u ∙ sym (ends-in 0 u);
+    }
+
+-- ---- a row without quotes
+
+pub line-holds : (t : List ℕ) (e n width : ℕ) (out ends o s : List ℕ) → e ≡ length (lineOf t) → getD t e 0 ≡ 10 → n ≡ commasIn (take (e - 0) (drop 0 t)) → n + 1 ≡ width
+    → e - n ≤ length out → width ≤ length ends → o ≡ sets out 0 (textIn (take (e - 0) (drop 0 t))) → s ≡ sets ends 0 (marksIn 0 (take (e - 0) (drop 0 t))) → Holds t 0 0 0 width out ends o s (e + 1) (e - n)
+unfolding joined endsOf
+line-holds t e n width out ends o s p q c w l m x y =
+    let v = lineOf t in
+    let f : take (e - 0) (drop 0 t) ≡ v = line-part t e p in
+    let i : e < length t = past t e 9 q in
+    let d : drop e t ≡ 10 ∷ drop (e + 1) t = rw (add-one e) (drop-cons t e 0 i ∙ rw q) in
+    let a : v ++ (10 ∷ drop (e + 1) t) ≡ t = rw (← d, p) (line-all t) in
+    let r : Record t (valuesIn v ++ []) (drop (e + 1) t) = rw a at (plain-row 10 (drop (e + 1) t) [] (drop (e + 1) t) (λ bs g f. last f lf) v (line-clean t)) in
+    let k : n ≡ commasIn v = c ∙ rw f in
+    record {
+      values = valuesIn v;
+      read = rw append-nil at r;
+      many = omega (arith, many-in v, k, w);
+      sized = omega (arith, ap length (joined-in v), text-size v, k, p);
+      inside = omega arith;
+      fits = l;
+      slots = m;
+      bytes = x ∙ rw (f, joined-in v);
+      marks = y ∙ rw (f, ends-in 0 v);
     }

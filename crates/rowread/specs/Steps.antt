@@ -77,10 +77,6 @@ cutsIn n (b ∷ v) = pick (eqb b 44) (n ∷ cutsIn n v) (cutsIn (n + 1) v)
 abbrev pub marksIn : ℕ → List ℕ → List ℕ
 marksIn n v = cutsIn n v ++ ((n + length (textIn v)) ∷ [])
 
--- a row of so many values stands at the front without quotes, and ends before a place
-abbrev pub IsLine : List ℕ → ℕ → ℕ → Type 0
-IsLine t width line = (line ≡ length (lineOf t) + 1) × (getD t (length (lineOf t)) 0 ≡ 10) × (commasIn (lineOf t) + 1 ≡ width)
-
 -- ---- a row with quotes, in one pass
 
 unfoldable pub anyStop : List ℕ → Bool

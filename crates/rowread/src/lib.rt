@@ -8,7 +8,7 @@ ghost use Rattle.number.specs.Number.{pick};
 ghost use Rattle.csv.specs.Csv.{isText, Inner, Field};
 ghost use Rattle.csv.specs.Read.{plainValue, inner, fieldAt, rowEnd, values};
 ghost use Rattle.rowread.specs.Stored.{valuesOf, valuesAt, joined, endsOf, readAnswer, after};
-ghost use Rattle.rowread.specs.Steps.{pieceOf, valueOf, restOf, IsGot, scanOf, IsRow, isStop, FirstStop, lineOf, commasIn, textIn, cutsIn, marksIn, IsLine, Opens, Closes, Took, TookRow, Within, Handed, Quickly};
+ghost use Rattle.rowread.specs.Steps.{pieceOf, valueOf, restOf, IsGot, scanOf, IsRow, isStop, FirstStop, lineOf, commasIn, textIn, cutsIn, marksIn, Opens, Closes, Took, TookRow, Within, Handed, Quickly};
 use refusal::Refusal;
 
 pub enum ReadAnswer {
@@ -35,12 +35,6 @@ enum Scan {
 enum Quick {
     Read { next: usize, size: usize },
     Not,
-}
-
-// What was found of a row; line is the place behind it where it has no quotes, or 0.
-struct Found {
-    scan: Scan,
-    line: usize,
 }
 
 // Where a value that was copied ends: in the row, and in the output.
@@ -395,13 +389,6 @@ fn copy_row(t: &[u8], width: usize, out: &mut [u8], ends: &mut [usize])
     }
 }
 
-// Where the first stop stands, or the end.
-fn stop(t: &[u8]) -> usize
-    ensures { λ r. ⌜ r ≡ length (lineOf (now (t .entry))) ⌝ }
-{
-    stop_from(t, 0)
-}
-
 // How many commas there are among a few bytes.
 fn few_commas(v: &[u8]) -> u8
     requires { ⌜ length (now v) ≤ 64 ⌝ }
@@ -431,29 +418,6 @@ fn commas(v: &[u8]) -> usize
         i = end;
     }
     n + few_commas(&v[i..v.len()]) as usize
-}
-
-// The row of so many values at the front, quickly where it has no quotes; the first stop stands at e.
-fn find_row(t: &[u8], width: usize, e: usize) -> Found
-    requires { ⌜ (length (now t) ≤ 8192) × (e ≡ length (lineOf (now t))) ⌝ }
-    ensures { λ r. ⌜ (r .scan ≡ scanOf width (now (t .entry))) × ((r .line ≡ 0 → ⊥) → IsLine (now (t .entry)) width (r .line)) ⌝ }
-{
-    if at(t, e) == 10 {
-        let n = commas(&t[0..e]);
-        if n + 1 == width {
-            return Found {
-                scan: Scan::Whole {
-                    next: e + 1,
-                    size: e - n,
-                },
-                line: e + 1,
-            };
-        }
-    }
-    Found {
-        scan: scan_row(t, width),
-        line: 0,
-    }
 }
 
 // The values of bytes v without quotes, into out, and the ends of those that a comma follows; how many bytes they have.
@@ -486,18 +450,6 @@ fn copy_line(v: &[u8], out: &mut [u8], ends: &mut [usize])
     let n = copy_before(v, out, ends);
     let k = v.len() - n;
     ends[k] = n;
-}
-
-// The values of the row at the front, and their ends; line as it was found.
-fn copy_found(t: &[u8], width: usize, line: usize, out: &mut [u8], ends: &mut [usize])
-    requires { ⌜ IsRow (values width (now t)) × (length (joined (valuesOf (values width (now t)))) ≤ length (now out)) × (width ≤ length (now ends)) × ((line ≡ 0 → ⊥) → IsLine (now t) width line) ⌝ }
-    ensures { λ _. ⌜ (now (out .exit) ≡ sets (now (out .entry)) 0 (joined (valuesOf (values width (now (t .entry)))))) × (now (ends .exit) ≡ sets (now (ends .entry)) 0 (endsOf 0 (valuesOf (values width (now (t .entry)))))) ⌝ }
-{
-    if line == 0 {
-        copy_row(t, width, out, ends);
-        return;
-    }
-    copy_line(&t[0..line - 1], out, ends);
 }
 
 // Whether the bytes before a place are none or end in a comma.
@@ -694,17 +646,17 @@ fn copy_ends(marks: &[usize], n: usize, ends: &mut [usize])
 
 // A row out of room and marks, where it fits.
 fn hand_out(
-    scan: Scan,
+    found: Scan,
     width: usize,
     room: &[u8],
     marks: &[usize],
     out: &mut [u8],
     ends: &mut [usize],
 ) -> Quick
-    requires { ⌜ Within (length (now room)) scan × (width ≤ length (now marks)) ⌝ }
-    ensures { λ r. ⌜ Handed scan width (now (room .entry)) (now (marks .entry)) (now (out .entry)) (now (ends .entry)) (now (out .exit)) (now (ends .exit)) r ⌝ }
+    requires { ⌜ Within (length (now room)) found × (width ≤ length (now marks)) ⌝ }
+    ensures { λ r. ⌜ Handed found width (now (room .entry)) (now (marks .entry)) (now (out .entry)) (now (ends .entry)) (now (out .exit)) (now (ends .exit)) r ⌝ }
 {
-    let Scan::Whole { next, size } = scan else {
+    let Scan::Whole { next, size } = found else {
         return Quick::Not;
     };
     if out.len() < size {
@@ -780,14 +732,11 @@ fn by_room(t: &[u8], width: usize, e: usize, n: usize, out: &mut [u8], ends: &mu
     by_much(&t[0..end], width, e, n, out, ends)
 }
 
-// The row of so many values at the front, quickly where it has quotes and is short; the first stop stands at e.
-fn quick_row(t: &[u8], width: usize, e: usize, out: &mut [u8], ends: &mut [usize]) -> Quick
-    requires { ⌜ (length (now t) ≤ 8192) × (e ≡ length (lineOf (now t))) ⌝ }
+// A row whose first stop, at e, is a quote.
+fn quick_quoted(t: &[u8], width: usize, e: usize, out: &mut [u8], ends: &mut [usize]) -> Quick
+    requires { ⌜ (length (now t) ≤ 8192) × (e ≡ length (lineOf (now t))) × (getD (now t) e 0 ≡ 34) ⌝ }
     ensures { λ r. ⌜ Quickly (now (t .entry)) width (now (out .entry)) (now (ends .entry)) (now (out .exit)) (now (ends .exit)) r ⌝ }
 {
-    if at(t, e) != 34 {
-        return Quick::Not;
-    }
     if !after_comma(t, e) {
         return Quick::Not;
     }
@@ -802,6 +751,44 @@ fn quick_row(t: &[u8], width: usize, e: usize, out: &mut [u8], ends: &mut [usize
         }
     }
     by_room(t, width, e, n, out, ends)
+}
+
+// A row whose first stop, at e, is its LF.
+fn quick_line(t: &[u8], width: usize, e: usize, out: &mut [u8], ends: &mut [usize]) -> Quick
+    requires { ⌜ (length (now t) ≤ 8192) × (e ≡ length (lineOf (now t))) × (getD (now t) e 0 ≡ 10) ⌝ }
+    ensures { λ r. ⌜ Quickly (now (t .entry)) width (now (out .entry)) (now (ends .entry)) (now (out .exit)) (now (ends .exit)) r ⌝ }
+{
+    let n = commas(&t[0..e]);
+    if n + 1 == width {
+        if out.len() < e - n {
+            return Quick::Not;
+        }
+        if ends.len() < width {
+            return Quick::Not;
+        }
+        copy_line(&t[0..e], out, ends);
+        return Quick::Read {
+            next: e + 1,
+            size: e - n,
+        };
+    }
+    Quick::Not
+}
+
+// The row of so many values at the front, where it is read quickly.
+fn quick_row(t: &[u8], width: usize, out: &mut [u8], ends: &mut [usize]) -> Quick
+    requires { ⌜ length (now t) ≤ 8192 ⌝ }
+    ensures { λ r. ⌜ Quickly (now (t .entry)) width (now (out .entry)) (now (ends .entry)) (now (out .exit)) (now (ends .exit)) r ⌝ }
+{
+    let e = stop_from(t, 0);
+    let first = at(t, e);
+    if first == 10 {
+        return quick_line(t, width, e, out, ends);
+    }
+    if first == 34 {
+        return quick_quoted(t, width, e, out, ends);
+    }
+    Quick::Not
 }
 
 // The row of so many values at a place of a table: its values, joined, into out, and where each ends into ends.
@@ -822,16 +809,14 @@ pub fn read_row(
     }
     let end = near(table.len(), place, 8192);
     let t = &table[place..end];
-    let e = stop(t);
-    let quick = quick_row(t, width, e, out, ends);
+    let quick = quick_row(t, width, out, ends);
     if let Quick::Read { next, size } = quick {
         return ReadAnswer::Stored {
             next: place + next,
             size,
         };
     }
-    let found = find_row(t, width, e);
-    let scan = found.scan;
+    let scan = scan_row(t, width);
     let Scan::Whole { next, size } = scan else {
         return ReadAnswer::Refused(Refusal::Row);
     };
@@ -841,7 +826,7 @@ pub fn read_row(
     if ends.len() < width {
         return ReadAnswer::Refused(Refusal::Small);
     }
-    copy_found(t, width, found.line, out, ends);
+    copy_row(t, width, out, ends);
     ReadAnswer::Stored {
         next: place + next,
         size,

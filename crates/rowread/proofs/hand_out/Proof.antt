@@ -5,8 +5,8 @@ use borrow.Author.Needs.{needs}
 use Rattle.rowread.proofs.hand_out.Statement.{statement}
 use Rattle.rowread.proofs.hand_out.Tie as tie
 
-enum-known-scan : tie.Need-enum-known-scan
-enum-known-scan c = search needs
+enum-known-found : tie.Need-enum-known-found
+enum-known-found c = search needs
 
 enum-told : tie.Need-enum-told
 enum-told c = search needs
@@ -22,7 +22,7 @@ returns-3 c = search needs
 
 copy-part-requires : tie.Need-copy-part-requires
 copy-part-requires c κs =
-    let g = c .before .before .before .before .scan .given in
+    let g = c .before .before .before .before .found .given in
     omega (arith, rw (g .1) at (c .before .before .before .before .before .before .before .before .before .before .pre .0), c .before .before .if1 .left)
 
 copy-ends-requires : tie.Need-copy-ends-requires
@@ -37,14 +37,14 @@ same-length-2 c = search needs
 returns-4 : tie.Need-returns-4
 returns-4 c =
     let a = c .before .before .before .before .before .before .before .before .before .before .before .before .before .before .before .before .before .args in
-    let g = c .before .before .before .before .before .before .before .before .before .before .before .scan .given in
+    let g = c .before .before .before .before .before .before .before .before .before .before .before .found .given in
     (g .1, c .before .before .before .before .before .before .before .before .before .if1 .left, c .before .before .before .before .before .before .before .before .if2 .left, c .before .before .before .before .before .before .copy-part .ensures .1 ∙ rw (front-part (a .room .now) (g .0 .1 .0)), c .before .before .copy-ends .ensures)
 
 pub hand-out-spec : {M : Type 1} → statement M
 hand-out-spec =
     tie.close
     (tie.spec
-    enum-known-scan
+    enum-known-found
     enum-told
     returns
     returns-2

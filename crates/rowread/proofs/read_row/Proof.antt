@@ -34,22 +34,19 @@ part-t-start c = search needs
 part-t-end : tie.Need-part-t-end
 part-t-end c = search needs
 
-stop-requires : tie.Need-stop-requires
-stop-requires c κs = search needs
-
 quick-row-requires : tie.Need-quick-row-requires
 quick-row-requires c κs = search needs
 
 enum-known-quick : tie.Need-enum-known-quick
 enum-known-quick c = search needs
 
-add-t25 : tie.Need-add-t25
-add-t25 c =
-    let s = c .before .before .before .before .before .before .before .before .before .before .before .before .before .before .before .before .before .before in
+add-t23 : tie.Need-add-t23
+add-t23 c =
+    let s = c .before .before .before .before .before .before .before .before .before .before .before .before .before .before .before .before .before in
     let a = s .args in
-    let h : a .place ≤ length (a .table .now) = c .before .before .before .before .before .before .before .before .before .before .before .before .before .before .if1 .left in
-    let n : a .place ≡ length (a .table .now) → ⊥ = c .before .before .before .before .before .before .before .before .before .before .before .before .before .if2 .left in
-    let r = c .before .before .before .before .before .before .before .before .before .before .before .before .near in
+    let h : a .place ≤ length (a .table .now) = c .before .before .before .before .before .before .before .before .before .before .before .before .before .if1 .left in
+    let n : a .place ≡ length (a .table .now) → ⊥ = c .before .before .before .before .before .before .before .before .before .before .before .before .if2 .left in
+    let r = c .before .before .before .before .before .before .before .before .before .before .before .near in
     let e = part-is (a .table .now) (a .place) (r .result) h (r .ensures) in
     let g = c .before .quick .given in
     let x = rw e at (rw (g .1) at (c .before .before .before .before .before .before .before .quick-row .ensures)) in
@@ -63,11 +60,11 @@ same-length-2 c = search needs
 
 returns-3 : tie.Need-returns-3
 returns-3 c =
-    let s = c .before .before .before .before .before .before .before .before .before .before .before .before .before .before .before .before .before .before in
+    let s = c .before .before .before .before .before .before .before .before .before .before .before .before .before .before .before .before .before in
     let a = s .args in
-    let h : a .place ≤ length (a .table .now) = c .before .before .before .before .before .before .before .before .before .before .before .before .before .before .if1 .left in
-    let n : a .place ≡ length (a .table .now) → ⊥ = c .before .before .before .before .before .before .before .before .before .before .before .before .before .if2 .left in
-    let r = c .before .before .before .before .before .before .before .before .before .before .before .before .near in
+    let h : a .place ≤ length (a .table .now) = c .before .before .before .before .before .before .before .before .before .before .before .before .before .if1 .left in
+    let n : a .place ≡ length (a .table .now) → ⊥ = c .before .before .before .before .before .before .before .before .before .before .before .before .if2 .left in
+    let r = c .before .before .before .before .before .before .before .before .before .before .before .near in
     let e = part-is (a .table .now) (a .place) (r .result) h (r .ensures) in
     let g = c .before .quick .given in
     let x = rw e at (rw (g .1) at (c .before .before .before .before .before .before .before .quick-row .ensures)) in
@@ -77,8 +74,8 @@ returns-3 c =
 enum-told : tie.Need-enum-told
 enum-told c = search needs
 
-find-row-requires : tie.Need-find-row-requires
-find-row-requires c κs = search needs
+scan-row-requires : tie.Need-scan-row-requires
+scan-row-requires c κs = search needs
 
 enum-known-scan : tie.Need-enum-known-scan
 enum-known-scan c = search needs
@@ -94,14 +91,14 @@ same-length-4 c = search needs
 
 returns-4 : tie.Need-returns-4
 returns-4 c =
-    let s = c .before .before .before .before .before .before .before .before .before .before .before .before .before .before .before .before .before .before .before .before in
+    let s = c .before .before .before .before .before .before .before .before .before .before .before .before .before .before .before .before .before .before .before in
     let a = s .args in
-    let h : a .place ≤ length (a .table .now) = c .before .before .before .before .before .before .before .before .before .before .before .before .before .before .before .before .if1 .left in
-    let n : a .place ≡ length (a .table .now) → ⊥ = c .before .before .before .before .before .before .before .before .before .before .before .before .before .before .before .if2 .left in
-    let r = c .before .before .before .before .before .before .before .before .before .before .before .before .before .before .near in
+    let h : a .place ≤ length (a .table .now) = c .before .before .before .before .before .before .before .before .before .before .before .before .before .before .before .if1 .left in
+    let n : a .place ≡ length (a .table .now) → ⊥ = c .before .before .before .before .before .before .before .before .before .before .before .before .before .before .if2 .left in
+    let r = c .before .before .before .before .before .before .before .before .before .before .before .before .before .near in
     let e = part-is (a .table .now) (a .place) (r .result) h (r .ensures) in
     let k = rw (c .before .before .before .enum-told .given .1) at (c .before .before .before .before .before .before .before .before .before .quick-row .ensures) in
-    let w = since (k .0) (k .1) (read-broken (a .table .now) (a .width) (a .place) _ _ h n (sym (c .enum-told2 .given .1) ∙ c .before .before .find-row .ensures .0 ∙ ap (scanOf (a .width)) e)) in
+    let w = since (k .0) (k .1) (read-broken (a .table .now) (a .width) (a .place) _ _ h n (sym (c .enum-told2 .given .1) ∙ c .before .before .scan-row .ensures ∙ ap (scanOf (a .width)) e)) in
     (w .is, w .bytes, w .marks)
 
 same-length-5 : tie.Need-same-length-5
@@ -112,15 +109,15 @@ same-length-6 c = search needs
 
 returns-5 : tie.Need-returns-5
 returns-5 c =
-    let s = c .before .before .before .before .before .before .before .before .before .before .before .before .before .before .before .before .before .before .before .before .before .before in
+    let s = c .before .before .before .before .before .before .before .before .before .before .before .before .before .before .before .before .before .before .before .before .before in
     let a = s .args in
-    let h : a .place ≤ length (a .table .now) = c .before .before .before .before .before .before .before .before .before .before .before .before .before .before .before .before .before .before .if1 .left in
-    let n : a .place ≡ length (a .table .now) → ⊥ = c .before .before .before .before .before .before .before .before .before .before .before .before .before .before .before .before .before .if2 .left in
-    let r = c .before .before .before .before .before .before .before .before .before .before .before .before .before .before .before .before .near in
+    let h : a .place ≤ length (a .table .now) = c .before .before .before .before .before .before .before .before .before .before .before .before .before .before .before .before .before .if1 .left in
+    let n : a .place ≡ length (a .table .now) → ⊥ = c .before .before .before .before .before .before .before .before .before .before .before .before .before .before .before .before .if2 .left in
+    let r = c .before .before .before .before .before .before .before .before .before .before .before .before .before .before .before .near in
     let e = part-is (a .table .now) (a .place) (r .result) h (r .ensures) in
     let k = rw (c .before .before .before .before .before .enum-told .given .1) at (c .before .before .before .before .before .before .before .before .before .before .before .quick-row .ensures) in
     let g = c .before .before .scan .given in
-    let q : Whole (g .0 .0) (g .0 .1 .0) ≡ scanOf (a .width) (partAt (a .table .now) (a .place)) = sym (g .1) ∙ c .before .before .before .before .find-row .ensures .0 ∙ ap (scanOf (a .width)) e in
+    let q : Whole (g .0 .0) (g .0 .1 .0) ≡ scanOf (a .width) (partAt (a .table .now) (a .place)) = sym (g .1) ∙ c .before .before .before .before .scan-row .ensures ∙ ap (scanOf (a .width)) e in
     let w = since (k .0) (k .1) (read-short (a .table .now) (a .width) (a .place) _ _ h n (g .0 .0) (g .0 .1 .0) q (c .if3 .taken)) in
     (w .is, w .bytes, w .marks)
 
@@ -132,43 +129,43 @@ same-length-8 c = search needs
 
 returns-6 : tie.Need-returns-6
 returns-6 c =
-    let s = c .before .before .before .before .before .before .before .before .before .before .before .before .before .before .before .before .before .before .before .before .before .before .before in
+    let s = c .before .before .before .before .before .before .before .before .before .before .before .before .before .before .before .before .before .before .before .before .before .before in
     let a = s .args in
-    let h : a .place ≤ length (a .table .now) = c .before .before .before .before .before .before .before .before .before .before .before .before .before .before .before .before .before .before .before .if1 .left in
-    let n : a .place ≡ length (a .table .now) → ⊥ = c .before .before .before .before .before .before .before .before .before .before .before .before .before .before .before .before .before .before .if2 .left in
-    let r = c .before .before .before .before .before .before .before .before .before .before .before .before .before .before .before .before .before .near in
+    let h : a .place ≤ length (a .table .now) = c .before .before .before .before .before .before .before .before .before .before .before .before .before .before .before .before .before .before .if1 .left in
+    let n : a .place ≡ length (a .table .now) → ⊥ = c .before .before .before .before .before .before .before .before .before .before .before .before .before .before .before .before .before .if2 .left in
+    let r = c .before .before .before .before .before .before .before .before .before .before .before .before .before .before .before .before .near in
     let e = part-is (a .table .now) (a .place) (r .result) h (r .ensures) in
     let k = rw (c .before .before .before .before .before .before .enum-told .given .1) at (c .before .before .before .before .before .before .before .before .before .before .before .before .quick-row .ensures) in
     let g = c .before .before .before .scan .given in
-    let q : Whole (g .0 .0) (g .0 .1 .0) ≡ scanOf (a .width) (partAt (a .table .now) (a .place)) = sym (g .1) ∙ c .before .before .before .before .before .find-row .ensures .0 ∙ ap (scanOf (a .width)) e in
+    let q : Whole (g .0 .0) (g .0 .1 .0) ≡ scanOf (a .width) (partAt (a .table .now) (a .place)) = sym (g .1) ∙ c .before .before .before .before .before .scan-row .ensures ∙ ap (scanOf (a .width)) e in
     let w = since (k .0) (k .1) (read-few (a .table .now) (a .width) (a .place) _ _ h n (g .0 .0) (g .0 .1 .0) q (c .before .if3 .left) (c .if4 .taken)) in
     (w .is, w .bytes, w .marks)
 
-copy-found-requires : tie.Need-copy-found-requires
-copy-found-requires c κs =
-    let s = c .before .before .before .before .before .before .before .before .before .before .before .before .before .before .before .before .before .before .before .before .before .before .before .before .before in
+copy-row-requires : tie.Need-copy-row-requires
+copy-row-requires c κs =
+    let s = c .before .before .before .before .before .before .before .before .before .before .before .before .before .before .before .before .before .before .before .before .before .before .before .before in
     let a = s .args in
-    let h : a .place ≤ length (a .table .now) = c .before .before .before .before .before .before .before .before .before .before .before .before .before .before .before .before .before .before .before .before .before .if1 .left in
-    let n : a .place ≡ length (a .table .now) → ⊥ = c .before .before .before .before .before .before .before .before .before .before .before .before .before .before .before .before .before .before .before .before .if2 .left in
-    let r = c .before .before .before .before .before .before .before .before .before .before .before .before .before .before .before .before .before .before .before .near in
+    let h : a .place ≤ length (a .table .now) = c .before .before .before .before .before .before .before .before .before .before .before .before .before .before .before .before .before .before .before .before .if1 .left in
+    let n : a .place ≡ length (a .table .now) → ⊥ = c .before .before .before .before .before .before .before .before .before .before .before .before .before .before .before .before .before .before .before .if2 .left in
+    let r = c .before .before .before .before .before .before .before .before .before .before .before .before .before .before .before .before .before .before .near in
     let e = part-is (a .table .now) (a .place) (r .result) h (r .ensures) in
     let k = rw (c .before .before .before .before .before .before .before .before .enum-told .given .1) at (c .before .before .before .before .before .before .before .before .before .before .before .before .before .before .quick-row .ensures) in
     let g = c .before .before .before .before .before .scan .given in
-    let q : Whole (g .0 .0) (g .0 .1 .0) ≡ scanOf (a .width) (partAt (a .table .now) (a .place)) = sym (g .1) ∙ c .before .before .before .before .before .before .before .find-row .ensures .0 ∙ ap (scanOf (a .width)) e in
+    let q : Whole (g .0 .0) (g .0 .1 .0) ≡ scanOf (a .width) (partAt (a .table .now) (a .place)) = sym (g .1) ∙ c .before .before .before .before .before .before .before .scan-row .ensures ∙ ap (scanOf (a .width)) e in
     let y = row-bytes (a .table .now) (a .width) (a .place) (a .out .now) (a .ends .now) h n (g .0 .0) (g .0 .1 .0) q in
-    rw e (is-row (a .table .now) (a .width) (a .place) (a .out .now) (a .ends .now) h n (g .0 .0) (g .0 .1 .0) q, omega (arith, y, c .before .before .before .if3 .left), c .before .before .if4 .left, rw e at (c .before .before .before .before .before .before .before .find-row .ensures .1))
+    rw e (is-row (a .table .now) (a .width) (a .place) (a .out .now) (a .ends .now) h n (g .0 .0) (g .0 .1 .0) q, omega (arith, y, c .before .before .before .if3 .left), c .before .before .if4 .left)
 
-add-t16 : tie.Need-add-t16
-add-t16 c =
-    let s = c .before .before .before .before .before .before .before .before .before .before .before .before .before .before .before .before .before .before .before .before .before .before .before .before .before .before .before .before .before .before in
+add-t14 : tie.Need-add-t14
+add-t14 c =
+    let s = c .before .before .before .before .before .before .before .before .before .before .before .before .before .before .before .before .before .before .before .before .before .before .before .before .before .before .before .before .before in
     let a = s .args in
-    let h : a .place ≤ length (a .table .now) = c .before .before .before .before .before .before .before .before .before .before .before .before .before .before .before .before .before .before .before .before .before .before .before .before .before .before .if1 .left in
-    let n : a .place ≡ length (a .table .now) → ⊥ = c .before .before .before .before .before .before .before .before .before .before .before .before .before .before .before .before .before .before .before .before .before .before .before .before .before .if2 .left in
-    let r = c .before .before .before .before .before .before .before .before .before .before .before .before .before .before .before .before .before .before .before .before .before .before .before .before .near in
+    let h : a .place ≤ length (a .table .now) = c .before .before .before .before .before .before .before .before .before .before .before .before .before .before .before .before .before .before .before .before .before .before .before .before .before .if1 .left in
+    let n : a .place ≡ length (a .table .now) → ⊥ = c .before .before .before .before .before .before .before .before .before .before .before .before .before .before .before .before .before .before .before .before .before .before .before .before .if2 .left in
+    let r = c .before .before .before .before .before .before .before .before .before .before .before .before .before .before .before .before .before .before .before .before .before .before .before .near in
     let e = part-is (a .table .now) (a .place) (r .result) h (r .ensures) in
     let k = rw (c .before .before .before .before .before .before .before .before .before .before .before .before .before .enum-told .given .1) at (c .before .before .before .before .before .before .before .before .before .before .before .before .before .before .before .before .before .before .before .quick-row .ensures) in
     let g = c .before .before .before .before .before .before .before .before .before .before .scan .given in
-    let q : Whole (g .0 .0) (g .0 .1 .0) ≡ scanOf (a .width) (partAt (a .table .now) (a .place)) = sym (g .1) ∙ c .before .before .before .before .before .before .before .before .before .before .before .before .find-row .ensures .0 ∙ ap (scanOf (a .width)) e in
+    let q : Whole (g .0 .0) (g .0 .1 .0) ≡ scanOf (a .width) (partAt (a .table .now) (a .place)) = sym (g .1) ∙ c .before .before .before .before .before .before .before .before .before .before .before .before .scan-row .ensures ∙ ap (scanOf (a .width)) e in
     let y = next-inside (a .table .now) (a .width) (a .place) (a .out .now) (a .ends .now) h n (g .0 .0) (g .0 .1 .0) q in
     omega (arith, y, length-take 8192 (drop (a .place) (a .table .now)), length-drop (a .place) (a .table .now))
 
@@ -180,16 +177,16 @@ same-length-10 c = search needs
 
 returns-7 : tie.Need-returns-7
 returns-7 c =
-    let s = c .before .before .before .before .before .before .before .before .before .before .before .before .before .before .before .before .before .before .before .before .before .before .before .before .before .before .before .before .before .before in
+    let s = c .before .before .before .before .before .before .before .before .before .before .before .before .before .before .before .before .before .before .before .before .before .before .before .before .before .before .before .before .before in
     let a = s .args in
-    let h : a .place ≤ length (a .table .now) = c .before .before .before .before .before .before .before .before .before .before .before .before .before .before .before .before .before .before .before .before .before .before .before .before .before .before .if1 .left in
-    let n : a .place ≡ length (a .table .now) → ⊥ = c .before .before .before .before .before .before .before .before .before .before .before .before .before .before .before .before .before .before .before .before .before .before .before .before .before .if2 .left in
-    let r = c .before .before .before .before .before .before .before .before .before .before .before .before .before .before .before .before .before .before .before .before .before .before .before .before .near in
+    let h : a .place ≤ length (a .table .now) = c .before .before .before .before .before .before .before .before .before .before .before .before .before .before .before .before .before .before .before .before .before .before .before .before .before .if1 .left in
+    let n : a .place ≡ length (a .table .now) → ⊥ = c .before .before .before .before .before .before .before .before .before .before .before .before .before .before .before .before .before .before .before .before .before .before .before .before .if2 .left in
+    let r = c .before .before .before .before .before .before .before .before .before .before .before .before .before .before .before .before .before .before .before .before .before .before .before .near in
     let e = part-is (a .table .now) (a .place) (r .result) h (r .ensures) in
     let k = rw (c .before .before .before .before .before .before .before .before .before .before .before .before .before .enum-told .given .1) at (c .before .before .before .before .before .before .before .before .before .before .before .before .before .before .before .before .before .before .before .quick-row .ensures) in
     let g = c .before .before .before .before .before .before .before .before .before .before .scan .given in
-    let q : Whole (g .0 .0) (g .0 .1 .0) ≡ scanOf (a .width) (partAt (a .table .now) (a .place)) = sym (g .1) ∙ c .before .before .before .before .before .before .before .before .before .before .before .before .find-row .ensures .0 ∙ ap (scanOf (a .width)) e in
-    let m = c .before .before .before .before .copy-found .ensures in
+    let q : Whole (g .0 .0) (g .0 .1 .0) ≡ scanOf (a .width) (partAt (a .table .now) (a .place)) = sym (g .1) ∙ c .before .before .before .before .before .before .before .before .before .before .before .before .scan-row .ensures ∙ ap (scanOf (a .width)) e in
+    let m = c .before .before .before .before .copy-row .ensures in
     let w = since (k .0) (k .1) (read-whole (a .table .now) (a .width) (a .place) _ _ h n (g .0 .0) (g .0 .1 .0) q (c .before .before .before .before .before .before .before .before .if3 .left) (c .before .before .before .before .before .before .before .if4 .left) _ _ (m .0 ∙ rw e) (m .1 ∙ rw e)) in
     (w .is, w .bytes, w .marks)
 
@@ -203,15 +200,14 @@ read-row-spec =
     sub-t
     part-t-start
     part-t-end
-    stop-requires
     quick-row-requires
     enum-known-quick
-    add-t25
+    add-t23
     same-length
     same-length-2
     returns-3
     enum-told
-    find-row-requires
+    scan-row-requires
     enum-known-scan
     enum-told-2
     same-length-3
@@ -223,8 +219,8 @@ read-row-spec =
     same-length-7
     same-length-8
     returns-6
-    copy-found-requires
-    add-t16
+    copy-row-requires
+    add-t14
     same-length-9
     same-length-10
     returns-7)
