@@ -9,7 +9,7 @@ use mathlib.Core.List.{List, [], _∷_, _++_}
 use lib.ListN.{length, take, drop, getD, set, drop-of-length-le, length-drop, length-append}
 use lib.Seq.{sets, drop-cons, drop-drop}
 use Rattle.csv.specs.Csv.{isText, lf, Record, last, more}
-use Rattle.csv.specs.Read.{plainValue, plainRest, Got, got, bad, push, inner, fieldAt, Row, row, malformed, values}
+use Rattle.csv.specs.Read.{plainValue, Got, got, bad, push, inner, fieldAt, Row, row, malformed, values}
 use Rattle.csv.proofs.Grammar.{field-complete, comma-stops, lf-stops, sound}
 use Rattle.csv.proofs.Laws.{sets-append}
 use Rattle.csv.proofs.Places.{field-place}

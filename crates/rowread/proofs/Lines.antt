@@ -13,12 +13,10 @@ use lib.Seq.{sets, drop-cons, drop-drop, take-all, take-suc, split-at}
 use borrow.Author.Tests.{eq-eqb, ne-eqb, eqb-true}
 use Rattle.number.specs.Number.{pick}
 use Rattle.csv.specs.Csv.{isText, NonEscaped, none, text, Field, nonEscaped, lf, Record, last, more}
-use Rattle.csv.specs.Read.{Got, push, inner, Row, row, values}
-use Rattle.csv.proofs.Grammar.{complete}
+use Rattle.csv.specs.Read.{Got, push, inner}
 use Rattle.csv.proofs.Laws.{sets-append}
-use Rattle.rowread.specs.declared.Scan.the-variants.{Whole}
-use Rattle.rowread.specs.Stored.{valuesOf, joined, endsOf}
-use Rattle.rowread.specs.Steps.{pieceOf, scanOf, isStop, FirstStop, lineOf, commasIn, textIn, cutsIn, marksIn, anyStop, Opens, Holds}
+use Rattle.rowread.specs.Stored.{joined, endsOf}
+use Rattle.rowread.specs.Steps.{pieceOf, isStop, FirstStop, lineOf, commasIn, textIn, cutsIn, marksIn, anyStop, Opens, Holds}
 use Rattle.rowread.proofs.Laws.{past, add, add-push}
 
 -- ---- the bytes before the first one
@@ -374,6 +372,12 @@ pub opens : (t : List ℕ) (e n : ℕ) → e ≡ length (lineOf t) → ((e ≡ 0
 opens t e n p q r =
     let m : take e t ≡ lineOf t = rw p (line-take t) in
     record { inside = omega (arith, p, line-size t); clean = rw m (line-clean t); comma = q; count = r ∙ rw (front-part t e) }
+
+pub opens-size : {t : List ℕ} {e n : ℕ} → Opens t e n → (n ≤ e) × (length (textIn (take (e - 0) (drop 0 t))) ≡ e - n) × (commasIn (take (e - 0) (drop 0 t)) ≡ n)
+opens-size {t} {e} {n} o =
+    let k = text-size (take e t) in
+    let m = length-take e t in
+    rw (front-part t e) (omega (arith, o .count, k, m), omega (arith, o .count, o .inside, k, m), sym (o .count))
 
 pub more-of : {bs v cs r : List ℕ} {ws : List (List ℕ)} → Field bs v (44 ∷ cs) → Record cs ws r → Record bs (v ∷ ws) r
 more-of f (last g e) = more f (last g e)

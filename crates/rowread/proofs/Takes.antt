@@ -9,7 +9,7 @@ use mathlib.Core.List.{List, [], _∷_, _++_, append-nil, append-assoc}
 use lib.ListN.{length, take, drop, getD, set, length-append, length-set, length-take, take-append-drop}
 use lib.Seq.{sets, length-sets, sets-eq, drop-cons, take-at, take-take, getD-take, drop-append-le}
 use borrow.Author.Tests.{ne-eqb}
-use Rattle.csv.specs.Csv.{Inner, close, byte, twice, Field, escaped, lf, Record, last}
+use Rattle.csv.specs.Csv.{Inner, close, byte, twice, Field, escaped, lf, last}
 use Rattle.csv.specs.Read.{plainValue, plainRest}
 use Rattle.csv.proofs.Grammar.{field-sound}
 use Rattle.csv.proofs.Places.{field-place}
@@ -76,13 +76,17 @@ module _ {t : List ℕ} {from : ℕ} {out : List ℕ} {to : ℕ} {o : List ℕ} 
       let h : p + 1 < length t = past t (p + 1) 33 f in
       rw e (gone-more (34 ∷ []) (p + 1 + 1) (λ v r i. rw (at-place t p 33 e, at-place t (p + 1) 33 f) (twice i)) (omega arith) (omega arith))
 
-  -- a run without stops
-  pub gone-run : (e : ℕ) → e ≡ p + length (lineOf (drop p t)) → Gone t from out to (sets o n (take (e - p) (drop p t))) e (n + (e - p))
-  gone-run e q =
-      let w = run-part t p e q in
-      let m : length (lineOf (drop p t)) ≡ e - p = omega (arith, q) in
-      let f = run-split t p e q in
-      rw (w, ← m) (gone-more (lineOf (drop p t)) e (λ v r i. rw (← f) at (inner-run (lineOf (drop p t)) (line-clean (drop p t)) i)) (omega (arith, q)) (stop-inside t p e (g .inside) q .1))
+  -- a run without stops, as it was put out
+  pub gone-run : (e m : ℕ) (q : List ℕ) → e ≡ p + length (lineOf (drop p t)) → (m ≡ n + (e - p)) × (q ≡ sets o n (take (e - p) (drop p t))) → Gone t from out to q e m
+  gone-run e m q h x =
+      let k : length (lineOf (drop p t)) ≡ e - p = omega (arith, h) in
+      let f = run-split t p e h in
+      let i : (v r : List ℕ) → Inner (drop e t) v r → Inner (drop p t) (lineOf (drop p t) ++ v) r = λ v r y. rw (← f) at (inner-run (lineOf (drop p t)) (line-clean (drop p t)) y) in
+      rw (x .0, x .1, run-part t p e h, ← k) (gone-more (lineOf (drop p t)) e i (omega (arith, h)) (stop-inside t p e (g .inside) h .1))
+
+  -- there is room for one byte more
+  pub gone-room : to + (length t - from) ≤ length out → p < length t → n < length o
+  gone-room h l = omega (arith, gone-same, g .upto, g .grows)
 
   pub gone-close : (size : ℕ) → n ≡ to + size → getD t p 0 ≡ 34 → Into Inner t from out to o (p + 1) size
   gone-close size m e =
@@ -207,9 +211,9 @@ module _ (t : List ℕ) (e n : ℕ) (h : Opens t e n) (out ends o s : List ℕ) 
   pub quote-before : (c size : ℕ) (p : List ℕ) → getD t e 0 ≡ 34 → Closes t e c → size ≡ to + (c - (e + 1)) → p ≡ sets o to (take (c - (e + 1)) (drop (e + 1) t)) → size ≤ length out → n < length ends
       → Holds t 0 0 0 (n + 1) out ends p (set s n size) (c + 2) size
   quote-before c size p q k z w l r =
-      let g = gone-run (gone-start t (e + 1) o to (omega (arith, past t e 33 q))) c (k .0) in
-      let i = quoted q (gone-close g (c - (e + 1)) refl (k .1)) in
-      rw w (holds-before (holds-last i (n + 1) (c + 2) size refl (omega arith) z (k .2) (omega (arith, l, same-out)) (omega (arith, r, same-ends))))
+      let g = gone-run (gone-start t (e + 1) o to (omega (arith, past t e 33 q))) c size p (k .0) (z, w) in
+      let i = quoted q (gone-close g (c - (e + 1)) z (k .1)) in
+      holds-before (holds-last i (n + 1) (c + 2) size refl (omega arith) z (k .2) (omega (arith, l, same-out)) (omega (arith, r, same-ends)))
 
 -- ---- a row out of room of our own
 

@@ -1,4 +1,4 @@
-// A stored row is read, by RFC 4180. The row is gone through before anything is handed out, so that a refusal leaves the outputs alone.
+// A stored row is read, by RFC 4180. Nothing is handed out before the whole row was gone through, so that a refusal leaves the outputs alone.
 ghost use mathlib.Core.Path.{_≡_};
 ghost use mathlib.Core.Bool.{true};
 ghost use Prim.Native.Nat.{_+_, _-_, _≤_, _<_, min};

@@ -1,7 +1,7 @@
-use mathlib.Core.Path.{_≡_, ap}
+use mathlib.Core.Path.{_≡_}
 use Prim.Native.Nat.{_≤_, _-_, _+_}
 use native.Mathlib.Omega.{arith}
-use lib.ListN.{length, take, drop, length-drop, length-take}
+use lib.ListN.{length, drop, length-drop, length-take}
 use Rattle.rowread.specs.Steps.{commasIn}
 use Rattle.rowread.proofs.Lines.{text-size, part-length, commas-turn, commas-end}
 use borrow.Author.Needs.{needs}

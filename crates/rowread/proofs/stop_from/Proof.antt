@@ -1,7 +1,7 @@
 use mathlib.Core.Path.{_≡_, refl, sym, _∙_}
 use Prim.Native.Nat.{_≤_, _-_, _+_}
 use native.Mathlib.Omega.{arith}
-use lib.ListN.{length, take, drop, length-take, length-drop}
+use lib.ListN.{length, drop, length-take, length-drop}
 use Rattle.rowread.specs.Steps.{lineOf}
 use Rattle.rowread.proofs.Lines.{line-out, line-in, stop-none}
 use borrow.Author.Needs.{needs}

@@ -1,10 +1,10 @@
-use mathlib.Core.Path.{_≡_, sym, _∙_}
+use mathlib.Core.Path.{sym, _∙_}
 use mathlib.Core.Logic.{⊎-elim}
 use Prim.Native.Nat.{_-_, _+_}
 use native.Mathlib.Omega.{arith}
-use lib.ListN.{length, getD}
+use lib.ListN.{length}
 use Rattle.rowread.proofs.Laws.{past}
-use Rattle.rowread.proofs.Takes.{Gone, gone-start, gone-same, gone-byte, gone-twice, gone-close}
+use Rattle.rowread.proofs.Takes.{Gone, gone-start, gone-same, gone-room, gone-byte, gone-twice, gone-close}
 use borrow.Author.Needs.{needs}
 use Rattle.rowread.proofs.take_bytes.Statement.{statement}
 use Rattle.rowread.proofs.take_bytes.Tie as tie
@@ -55,13 +55,13 @@ slice-write-room : tie.Need-slice-write-room Inv-loop μ-loop
 slice-write-room c =
     let s = c .before .before .before .before .before .before in
     let l = c .before .before .before .loop in
-    omega (arith, s .pre .1, l .inv .upto, l .inv .grows, gone-same (l .inv), c .before .before .loop-test .taken)
+    gone-room (l .inv) (s .pre .1) (c .before .before .loop-test .taken)
 
 add-n : tie.Need-add-n Inv-loop μ-loop
 add-n c =
     let s = c .before .before .before .before .before .before in
     let l = c .before .before .before .loop in
-    omega (arith, s .pre .1, l .inv .upto, l .inv .grows, gone-same (l .inv), c .before .before .loop-test .taken)
+    omega (arith, gone-room (l .inv) (s .pre .1) (c .before .before .loop-test .taken))
 
 loop-less : tie.Need-loop-less Inv-loop μ-loop
 loop-less c = ⊎-elim (λ w. omega arith) (λ w. omega arith) (c .if1 .came)

@@ -2,7 +2,7 @@ use mathlib.Core.Path.{_≡_, refl, sym, _∙_}
 use mathlib.Core.List.{List}
 use Prim.Native.Nat.{ℕ, _≤_, _-_, _+_}
 use native.Mathlib.Omega.{arith}
-use lib.ListN.{length, getD, length-set}
+use lib.ListN.{length, length-set}
 use Rattle.rowread.specs.Steps.{Holds}
 use Rattle.rowread.proofs.Laws.{past}
 use Rattle.rowread.proofs.Takes.{holds-more, holds-last}

@@ -1,8 +1,5 @@
-use mathlib.Core.Path.{_≡_, _∙_}
 use native.Mathlib.Omega.{arith}
-use lib.ListN.{length, take, length-take}
-use Rattle.rowread.specs.Steps.{textIn}
-use Rattle.rowread.proofs.Lines.{text-size, front-part}
+use Rattle.rowread.proofs.Lines.{opens-size}
 use Rattle.rowread.proofs.Takes.{took-before}
 use borrow.Author.Needs.{needs}
 use Rattle.rowread.proofs.take_row.Statement.{statement}
@@ -20,19 +17,14 @@ part-copy-before-end c = search needs
 copy-before-requires : tie.Need-copy-before-requires
 copy-before-requires c κs =
     let s = c .before .before .before .before .before .before in
-    let a = s .args in
-    let t = a .t .now in
-    let k = text-size (take (a .e) t) in
-    rw (front-part t (a .e)) (omega (arith, k, length-take (a .e) t, s .pre .2), omega (arith, s .pre .0 .count, s .pre .1, s .pre .3))
+    let k = opens-size (s .pre .0) in
+    (omega (arith, k .1, s .pre .0 .inside, s .pre .2), omega (arith, k .2, s .pre .1, s .pre .3))
 
 take-rest-requires : tie.Need-take-rest-requires
 take-rest-requires c κs =
     let s = c .before .before .before .before .before .before .before .before .before .before .before .before .before in
-    let a = s .args in
-    let t = a .t .now in
     let r = c .before .before .before .before .before .before .copy-before in
-    let m : r .result ≡ length (textIn (take (a .e) t)) = r .ensures .0 ∙ rw (front-part t (a .e)) in
-    (omega (arith, m, text-size (take (a .e) t), length-take (a .e) t), s .pre .0 .inside, omega (arith, s .pre .2, r .kept .1 .0), omega (arith, s .pre .3, r .kept .1 .1 .0))
+    (omega (arith, opens-size (s .pre .0) .1, r .ensures .0), s .pre .0 .inside, omega (arith, s .pre .2, r .kept .1 .0), omega (arith, s .pre .3, r .kept .1 .1 .0))
 
 same-length : tie.Need-same-length
 same-length c = search needs
@@ -44,10 +36,9 @@ returns : tie.Need-returns
 returns c =
     let s = c .before .before .before .before .before .before .before .before .before .before .before .before .before .before .before .before .before .before in
     let a = s .args in
-    let t = a .t .now in
     let r = c .before .before .before .before .before .before .before .before .before .before .before .copy-before in
     let w = c .before .before .before .before .take-rest in
-    took-before t (a .e) (a .n) (s .pre .0) (a .room .now) (a .marks .now) _ _ (r .result) (r .ensures .0) (r .ensures .1) (r .ensures .2) (a .width) _ _ (w .result) (w .ensures)
+    took-before (a .t .now) (a .e) (a .n) (s .pre .0) (a .room .now) (a .marks .now) _ _ (r .result) (r .ensures .0) (r .ensures .1) (r .ensures .2) (a .width) _ _ (w .result) (w .ensures)
 
 pub take-row-spec : {M : Type 1} → statement M
 take-row-spec =

@@ -1,11 +1,11 @@
-use mathlib.Core.Path.{_≡_, sym, ap, _∙_}
+use mathlib.Core.Path.{sym, _∙_}
 use mathlib.Core.Logic.{⊎-elim}
 use Prim.Native.Nat.{_-_, _+_}
 use native.Mathlib.Omega.{arith}
-use lib.ListN.{length, getD}
+use lib.ListN.{length}
 use Rattle.rowread.proofs.Laws.{past}
-use Rattle.rowread.proofs.Lines.{stop-inside, stop-less}
-use Rattle.rowread.proofs.Takes.{Gone, gone-start, gone-same, gone-byte, gone-twice, gone-run, gone-close}
+use Rattle.rowread.proofs.Lines.{stop-inside}
+use Rattle.rowread.proofs.Takes.{Gone, gone-start, gone-same, gone-room, gone-byte, gone-twice, gone-run, gone-close}
 use borrow.Author.Needs.{needs}
 use Rattle.rowread.proofs.take_runs.Statement.{statement}
 use Rattle.rowread.proofs.take_runs.Tie as tie
@@ -28,158 +28,91 @@ stop-from-requires c κs = c .before .loop .inv .inside
 copy-part-requires : tie.Need-copy-part-requires Inv-loop μ-loop
 copy-part-requires c κs =
     let s = c .before .before .before .before .before .before in
-    let t = s .args .t .now in
     let l = c .before .before .before .loop in
-    let e = c .before .stop-from .result in
-    let q = c .before .stop-from .ensures in
-    let j = stop-inside t (l .p) e (l .inv .inside) q in
+    let r = c .before .stop-from in
+    let j = stop-inside (s .args .t .now) (l .p) (r .result) (l .inv .inside) (r .ensures) in
     (j .0, j .1, omega (arith, s .pre .1, l .inv .upto, l .inv .grows, gone-same (l .inv), j .0, j .1))
 
 same-length : tie.Need-same-length Inv-loop μ-loop
 same-length c =
-    let s = c .before .before .before .before .before .before .before .before .before .before in
-    let t = s .args .t .now in
     let l = c .before .before .before .before .before .before .before .loop in
-    let e = c .before .before .before .before .before .stop-from .result in
-    let q = c .before .before .before .before .before .stop-from .ensures in
-    let j = stop-inside t (l .p) e (l .inv .inside) q in
-    let g = gone-run (l .inv) e q in
-    let f = c .before .before .before .copy-part .ensures in
-    ap length (f .1) ∙ gone-same g
+    let r = c .before .before .before .before .before .stop-from in
+    let g = gone-run (l .inv) (r .result) _ _ (r .ensures) (c .before .before .before .copy-part .ensures) in
+    gone-same g
 
 returns : tie.Need-returns Inv-loop μ-loop
 returns c = tt
 
 shared-slice-read-last : tie.Need-shared-slice-read-last Inv-loop μ-loop
 shared-slice-read-last c =
-    let s = c .before .before .before .before .before .before .before .before .before .before .before in
-    let t = s .args .t .now in
     let l = c .before .before .before .before .before .before .before .before .loop in
-    let e = c .before .before .before .before .before .before .stop-from .result in
-    let q = c .before .before .before .before .before .before .stop-from .ensures in
-    let j = stop-inside t (l .p) e (l .inv .inside) q in
-    let g = gone-run (l .inv) e q in
-    let f = c .before .before .before .before .copy-part .ensures in
-    let h = stop-less t (l .p) e (l .inv .inside) q (c .before .if1 .left) in
-    h
+    let r = c .before .before .before .before .before .before .stop-from in
+    let g = gone-run (l .inv) (r .result) _ _ (r .ensures) (c .before .before .before .before .copy-part .ensures) in
+    omega (arith, g .inside, c .before .if1 .left)
 
 add-p : tie.Need-add-p Inv-loop μ-loop
 add-p c =
-    let s = c .before .before .before .before .before .before .before .before .before .before .before in
-    let t = s .args .t .now in
     let l = c .before .before .before .before .before .before .before .before .loop in
-    let e = c .before .before .before .before .before .before .stop-from .result in
-    let q = c .before .before .before .before .before .before .stop-from .ensures in
-    let j = stop-inside t (l .p) e (l .inv .inside) q in
-    let g = gone-run (l .inv) e q in
-    let f = c .before .before .before .before .copy-part .ensures in
-    let h = stop-less t (l .p) e (l .inv .inside) q (c .before .if1 .left) in
-    omega (arith, h)
+    let r = c .before .before .before .before .before .before .stop-from in
+    let g = gone-run (l .inv) (r .result) _ _ (r .ensures) (c .before .before .before .before .copy-part .ensures) in
+    omega (arith, g .inside, c .before .if1 .left)
 
 at-requires : tie.Need-at-requires Inv-loop μ-loop
 at-requires c κs = search needs
 
 sub-t17 : tie.Need-sub-t17 Inv-loop μ-loop
 sub-t17 c =
-    let s = c .before .before .before .before .before .before .before .before .before .before .before .before .before .before in
-    let t = s .args .t .now in
     let l = c .before .before .before .before .before .before .before .before .before .before .before .loop in
-    let e = c .before .before .before .before .before .before .before .before .before .stop-from .result in
-    let q = c .before .before .before .before .before .before .before .before .before .stop-from .ensures in
-    let j = stop-inside t (l .p) e (l .inv .inside) q in
-    let g = gone-run (l .inv) e q in
-    let f = c .before .before .before .before .before .before .before .copy-part .ensures in
-    omega (arith, f .0, l .inv .upto)
+    let r = c .before .before .before .before .before .before .before .before .before .stop-from in
+    let g = gone-run (l .inv) (r .result) _ _ (r .ensures) (c .before .before .before .before .before .before .before .copy-part .ensures) in
+    omega (arith, g .upto)
 
 same-length-2 : tie.Need-same-length-2 Inv-loop μ-loop
 same-length-2 c =
-    let s = c .before .before .before .before .before .before .before .before .before .before .before .before .before .before in
-    let t = s .args .t .now in
     let l = c .before .before .before .before .before .before .before .before .before .before .before .loop in
-    let e = c .before .before .before .before .before .before .before .before .before .stop-from .result in
-    let q = c .before .before .before .before .before .before .before .before .before .stop-from .ensures in
-    let j = stop-inside t (l .p) e (l .inv .inside) q in
-    let g = gone-run (l .inv) e q in
-    let f = c .before .before .before .before .before .before .before .copy-part .ensures in
-    ap length (f .1) ∙ gone-same g
+    let r = c .before .before .before .before .before .before .before .before .before .stop-from in
+    let g = gone-run (l .inv) (r .result) _ _ (r .ensures) (c .before .before .before .before .before .before .before .copy-part .ensures) in
+    gone-same g
 
 returns-2 : tie.Need-returns-2 Inv-loop μ-loop
 returns-2 c =
-    let s = c .before .before .before .before .before .before .before .before .before .before .before .before .before .before in
-    let t = s .args .t .now in
     let l = c .before .before .before .before .before .before .before .before .before .before .before .loop in
-    let e = c .before .before .before .before .before .before .before .before .before .stop-from .result in
-    let q = c .before .before .before .before .before .before .before .before .before .stop-from .ensures in
-    let j = stop-inside t (l .p) e (l .inv .inside) q in
-    let g = gone-run (l .inv) e q in
-    let f = c .before .before .before .before .before .before .before .copy-part .ensures in
-    rw (f .1) (gone-close g (c .before .before .before .before .before .before .before .copy-part .result - s .args .to) (omega (arith, f .0, l .inv .upto)) (c .before .before .if2 .taken))
+    let r = c .before .before .before .before .before .before .before .before .before .stop-from in
+    let g = gone-run (l .inv) (r .result) _ _ (r .ensures) (c .before .before .before .before .before .before .before .copy-part .ensures) in
+    gone-close g (c .before .before .before .before .before .before .before .copy-part .result - c .before .before .before .before .before .before .before .before .before .before .before .before .before .before .args .to) (omega (arith, g .upto)) (c .before .before .if2 .taken)
 
 add-p-2 : tie.Need-add-p-2 Inv-loop μ-loop
-add-p-2 c =
-    let s = c .before .before .before .before .before .before .before .before .before .before .before .before .before .before in
-    let t = s .args .t .now in
-    let l = c .before .before .before .before .before .before .before .before .before .before .before .loop in
-    let e = c .before .before .before .before .before .before .before .before .before .stop-from .result in
-    let q = c .before .before .before .before .before .before .before .before .before .stop-from .ensures in
-    let j = stop-inside t (l .p) e (l .inv .inside) q in
-    let g = gone-run (l .inv) e q in
-    let f = c .before .before .before .before .before .before .before .copy-part .ensures in
-    omega (arith, past t (e + 1) 33 (sym (c .before .at .ensures) ∙ c .if3 .left))
+add-p-2 c = omega (arith, past (c .before .before .before .before .before .before .before .before .before .before .before .before .before .before .args .t .now) (c .before .before .before .before .before .before .before .before .before .stop-from .result + 1) 33 (sym (c .before .at .ensures) ∙ c .if3 .left))
 
 slice-write-room : tie.Need-slice-write-room Inv-loop μ-loop
 slice-write-room c =
-    let s = c .before .before .before .before .before .before .before .before .before .before .before .before in
-    let t = s .args .t .now in
     let l = c .before .before .before .before .before .before .before .before .before .loop in
-    let e = c .before .before .before .before .before .before .before .stop-from .result in
-    let q = c .before .before .before .before .before .before .before .stop-from .ensures in
-    let j = stop-inside t (l .p) e (l .inv .inside) q in
-    let g = gone-run (l .inv) e q in
-    let f = c .before .before .before .before .before .copy-part .ensures in
-    let h = stop-less t (l .p) e (l .inv .inside) q (c .before .before .if1 .left) in
-    omega (arith, s .pre .1, f .0, g .upto, g .grows, h, ap length (f .1), gone-same g)
+    let r = c .before .before .before .before .before .before .before .stop-from in
+    let g = gone-run (l .inv) (r .result) _ _ (r .ensures) (c .before .before .before .before .before .copy-part .ensures) in
+    gone-room g (c .before .before .before .before .before .before .before .before .before .before .before .before .pre .1) (omega (arith, g .inside, c .before .before .if1 .left))
 
 add-n : tie.Need-add-n Inv-loop μ-loop
 add-n c =
-    let s = c .before .before .before .before .before .before .before .before .before .before .before .before in
-    let t = s .args .t .now in
     let l = c .before .before .before .before .before .before .before .before .before .loop in
-    let e = c .before .before .before .before .before .before .before .stop-from .result in
-    let q = c .before .before .before .before .before .before .before .stop-from .ensures in
-    let j = stop-inside t (l .p) e (l .inv .inside) q in
-    let g = gone-run (l .inv) e q in
-    let f = c .before .before .before .before .before .copy-part .ensures in
-    let h = stop-less t (l .p) e (l .inv .inside) q (c .before .before .if1 .left) in
-    omega (arith, s .pre .1, f .0, g .upto, g .grows, h, ap length (f .1), gone-same g)
+    let r = c .before .before .before .before .before .before .before .stop-from in
+    let g = gone-run (l .inv) (r .result) _ _ (r .ensures) (c .before .before .before .before .before .copy-part .ensures) in
+    omega (arith, gone-room g (c .before .before .before .before .before .before .before .before .before .before .before .before .pre .1) (omega (arith, g .inside, c .before .before .if1 .left)))
 
 loop-less : tie.Need-loop-less Inv-loop μ-loop
 loop-less c =
-    let s = c .before .before .before .before .before .before .before .before .before .before .before .before in
-    let t = s .args .t .now in
     let l = c .before .before .before .before .before .before .before .before .before .loop in
-    let e = c .before .before .before .before .before .before .before .stop-from .result in
-    let q = c .before .before .before .before .before .before .before .stop-from .ensures in
-    let j = stop-inside t (l .p) e (l .inv .inside) q in
-    let g = gone-run (l .inv) e q in
-    let f = c .before .before .before .before .before .copy-part .ensures in
-    let h = stop-less t (l .p) e (l .inv .inside) q (c .before .before .if1 .left) in
-    ⊎-elim (λ w. omega (arith, j .0, h, w .3)) (λ w. omega (arith, j .0, h, w .1)) (c .if2 .came)
+    let r = c .before .before .before .before .before .before .before .stop-from in
+    let g = gone-run (l .inv) (r .result) _ _ (r .ensures) (c .before .before .before .before .before .copy-part .ensures) in
+    ⊎-elim (λ w. omega (arith, r .ensures, g .inside, c .before .before .if1 .left, w .3)) (λ w. omega (arith, r .ensures, g .inside, c .before .before .if1 .left, w .1)) (c .if2 .came)
 
 loop-again : tie.Need-loop-again Inv-loop μ-loop
 loop-again c =
-    let s = c .before .before .before .before .before .before .before .before .before .before .before .before in
-    let t = s .args .t .now in
     let l = c .before .before .before .before .before .before .before .before .before .loop in
-    let e = c .before .before .before .before .before .before .before .stop-from .result in
-    let q = c .before .before .before .before .before .before .before .stop-from .ensures in
-    let j = stop-inside t (l .p) e (l .inv .inside) q in
-    let g = gone-run (l .inv) e q in
-    let f = c .before .before .before .before .before .copy-part .ensures in
-    let h = stop-less t (l .p) e (l .inv .inside) q (c .before .before .if1 .left) in
+    let r = c .before .before .before .before .before .before .before .stop-from in
+    let g = gone-run (l .inv) (r .result) _ _ (r .ensures) (c .before .before .before .before .before .copy-part .ensures) in
     ⊎-elim
-    (λ w. rw (w .3, f .0, f .1) (gone-twice g (w .0 .taken) (sym (w .1 .ensures) ∙ w .2 .left)))
-    (λ w. rw (w .1, f .0, f .1) (gone-byte g h (w .0 .left)))
+    (λ w. rw (w .3) (gone-twice g (w .0 .taken) (sym (w .1 .ensures) ∙ w .2 .left)))
+    (λ w. rw (w .1) (gone-byte g (omega (arith, g .inside, c .before .before .if1 .left)) (w .0 .left)))
     (c .if2 .came)
 
 same-length-3 : tie.Need-same-length-3 Inv-loop μ-loop
