@@ -34,6 +34,14 @@ unfolding endsOf
 length-ends from [] = refl
 length-ends from (v ∷ vs) = ap Prim.Native.Nat.suc (length-ends (from + length v) vs)
 
+pub scan-inside : (width : ℕ) (t : List ℕ) (next size : ℕ) → Whole next size ≡ scanOf width t → next ≤ length t
+unfolding scanOf
+scan-inside width t next size q = go (Csv.values width t) q
+  where
+    go : (g : Csv.Row) → Whole next size ≡ scanFrom (length t) 0 g → next ≤ length t
+    go Csv.malformed i = absurd (let z : _≡_ {A = ℕ} 0 1 = cc in omega arith)
+    go (Csv.row vs r) i = let a : next ≡ length t - length r = cc in omega arith
+
 -- what the call promises: the answer, and both outputs
 pub record Answers (table : List ℕ) (width place : ℕ) (out ends : List ℕ) (r : ReadAnswer) (o e : List ℕ) : Type 0 where
   pub is : r ≡ readAnswer table width place (length out) (length ends)
@@ -91,9 +99,6 @@ module _ (table : List ℕ) (width place : ℕ) (out ends : List ℕ) where
 
       pub row-bytes : length (joined (valuesAt table width place)) ≡ size
       row-bytes = rw (the-row .is) (sym (the-row .bytes))
-
-      pub next-inside : next ≤ length (partAt table place)
-      next-inside = omega (arith, the-row .to)
 
       here : readAnswer table width place (length out) (length ends) ≡ found place (length (partAt table place)) (length out) (length ends) (Csv.row (the-row .values) (the-row .rest))
       here = inside ∙ rw (the-row .is)

@@ -1,11 +1,11 @@
 use mathlib.Core.Path.{_≡_, sym, ap, _∙_}
-use Prim.Native.Nat.{_≤_}
+use Prim.Native.Nat.{_≤_, _-_}
 use native.Mathlib.Omega.{arith}
-use lib.ListN.{length, drop, length-take, length-drop}
+use lib.ListN.{length, drop, length-take}
 use Rattle.rowread.specs.declared.Scan.the-variants.{Whole}
 use Rattle.rowread.specs.Stored.{partAt}
 use Rattle.rowread.specs.Steps.{scanOf}
-use Rattle.rowread.proofs.Calls.{part-is, since, read-past, read-end, read-broken, is-row, row-bytes, next-inside, read-short, read-few, read-whole, read-quick}
+use Rattle.rowread.proofs.Calls.{part-is, scan-inside, since, read-past, read-end, read-broken, is-row, row-bytes, read-short, read-few, read-whole, read-quick}
 use borrow.Author.Needs.{needs}
 use Rattle.rowread.proofs.read_row.Statement.{statement}
 use Rattle.rowread.proofs.read_row.Tie as tie
@@ -42,15 +42,11 @@ enum-known-quick c = search needs
 
 add-t23 : tie.Need-add-t23
 add-t23 c =
-    let s = c .before .before .before .before .before .before .before .before .before .before .before .before .before .before .before .before .before in
-    let a = s .args in
-    let h : a .place ≤ length (a .table .now) = c .before .before .before .before .before .before .before .before .before .before .before .before .before .if1 .left in
-    let n : a .place ≡ length (a .table .now) → ⊥ = c .before .before .before .before .before .before .before .before .before .before .before .before .if2 .left in
+    let a = c .before .before .before .before .before .before .before .before .before .before .before .before .before .before .before .before .before .args in
     let r = c .before .before .before .before .before .before .before .before .before .before .before .near in
-    let e = part-is (a .table .now) (a .place) (r .result) h (r .ensures) in
     let g = c .before .quick .given in
-    let x = rw e at (rw (g .1) at (c .before .before .before .before .before .before .before .quick-row .ensures)) in
-    omega (arith, x .inside, length-take 8192 (drop (a .place) (a .table .now)), length-drop (a .place) (a .table .now))
+    let x = rw (g .1) at (c .before .before .before .before .before .before .before .quick-row .ensures) in
+    omega (arith, x .inside, length-take (r .result - a .place) (drop (a .place) (a .table .now)), r .ensures)
 
 same-length : tie.Need-same-length
 same-length c = search needs
@@ -157,17 +153,11 @@ copy-row-requires c κs =
 
 add-t14 : tie.Need-add-t14
 add-t14 c =
-    let s = c .before .before .before .before .before .before .before .before .before .before .before .before .before .before .before .before .before .before .before .before .before .before .before .before .before .before .before .before .before in
-    let a = s .args in
-    let h : a .place ≤ length (a .table .now) = c .before .before .before .before .before .before .before .before .before .before .before .before .before .before .before .before .before .before .before .before .before .before .before .before .before .if1 .left in
-    let n : a .place ≡ length (a .table .now) → ⊥ = c .before .before .before .before .before .before .before .before .before .before .before .before .before .before .before .before .before .before .before .before .before .before .before .before .if2 .left in
+    let a = c .before .before .before .before .before .before .before .before .before .before .before .before .before .before .before .before .before .before .before .before .before .before .before .before .before .before .before .before .before .args in
     let r = c .before .before .before .before .before .before .before .before .before .before .before .before .before .before .before .before .before .before .before .before .before .before .before .near in
-    let e = part-is (a .table .now) (a .place) (r .result) h (r .ensures) in
-    let k = rw (c .before .before .before .before .before .before .before .before .before .before .before .before .before .enum-told .given .1) at (c .before .before .before .before .before .before .before .before .before .before .before .before .before .before .before .before .before .before .before .quick-row .ensures) in
     let g = c .before .before .before .before .before .before .before .before .before .before .scan .given in
-    let q : Whole (g .0 .0) (g .0 .1 .0) ≡ scanOf (a .width) (partAt (a .table .now) (a .place)) = sym (g .1) ∙ c .before .before .before .before .before .before .before .before .before .before .before .before .scan-row .ensures ∙ ap (scanOf (a .width)) e in
-    let y = next-inside (a .table .now) (a .width) (a .place) (a .out .now) (a .ends .now) h n (g .0 .0) (g .0 .1 .0) q in
-    omega (arith, y, length-take 8192 (drop (a .place) (a .table .now)), length-drop (a .place) (a .table .now))
+    let x = scan-inside (a .width) _ (g .0 .0) (g .0 .1 .0) (sym (g .1) ∙ c .before .before .before .before .before .before .before .before .before .before .before .before .scan-row .ensures) in
+    omega (arith, x, length-take (r .result - a .place) (drop (a .place) (a .table .now)), r .ensures)
 
 same-length-9 : tie.Need-same-length-9
 same-length-9 c = search needs
