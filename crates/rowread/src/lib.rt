@@ -670,7 +670,25 @@ fn hand_out(
     Quick::Read { next, size }
 }
 
-// The row of so many values, of which n without quotes stand before e, by way of a little room.
+// The row of so many values, of which n without quotes stand before e, by way of room and marks.
+fn through(
+    t: &[u8],
+    width: usize,
+    e: usize,
+    n: usize,
+    room: &mut [u8],
+    marks: &mut [usize],
+    out: &mut [u8],
+    ends: &mut [usize],
+) -> Quick
+    requires { ⌜ Opens (now t) e n × (n < width) × (length (now t) ≤ length (now room)) × (width ≤ length (now marks)) ⌝ }
+    ensures { λ r. ⌜ Quickly (now (t .entry)) width (now (out .entry)) (now (ends .entry)) (now (out .exit)) (now (ends .exit)) r ⌝ }
+{
+    let found = take_row(t, width, e, n, room, marks);
+    hand_out(found, width, room, marks, out, ends)
+}
+
+// The same, by way of a little room.
 fn by_little(
     t: &[u8],
     width: usize,
@@ -684,8 +702,7 @@ fn by_little(
 {
     let mut room = [0u8; 256];
     let mut marks = [0usize; 10];
-    let found = take_row(t, width, e, n, &mut room, &mut marks);
-    hand_out(found, width, &room, &marks, out, ends)
+    through(t, width, e, n, &mut room, &mut marks, out, ends)
 }
 
 // The same, by way of much.
@@ -695,8 +712,7 @@ fn by_much(t: &[u8], width: usize, e: usize, n: usize, out: &mut [u8], ends: &mu
 {
     let mut room = [0u8; 1024];
     let mut marks = [0usize; 10];
-    let found = take_row(t, width, e, n, &mut room, &mut marks);
-    hand_out(found, width, &room, &marks, out, ends)
+    through(t, width, e, n, &mut room, &mut marks, out, ends)
 }
 
 // Whether a little room will do: an LF or the end is near. Either way gives the same row.
