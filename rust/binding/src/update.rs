@@ -238,6 +238,20 @@ impl State {
         *self = step.state;
         step.answer
     }
+    /// Takes the other's numbers: all that `due` changes.
+    #[doc(hidden)]
+    pub fn take_numbers(&mut self, other: &Self) {
+        (self.stage, self.bank) = (other.stage, other.bank);
+        (self.now, self.numbers) = (other.now, other.numbers);
+    }
+    /// Takes the other's numbers and tail: all that `append` and `upper_row`
+    /// change. These calls and `due` leave the sources, three quarters of a
+    /// state (crates/writer/specs/Parts.antt).
+    #[doc(hidden)]
+    pub fn take_parts(&mut self, other: &Self) {
+        self.take_numbers(other);
+        self.tail = other.tail;
+    }
     /// The bank that is written: the one that isn't active, 0 where none is.
     fn target(&self) -> usize {
         usize::from(self.stage[3] == 1 && self.bank.numbers[0] == 0)
@@ -259,6 +273,47 @@ impl State {
             }),
             _ => None,
         }
+    }
+}
+
+/// The calls that leave the sources, with the whole state as it crosses back.
+impl State {
+    fn appended(&self, bytes: &[u8]) -> Step {
+        unsafe { tt_update_bytes(*self, bytes.as_ptr(), bytes.len()) }
+    }
+    fn operated(&self, region: &mut [u8]) -> Step {
+        unsafe { tt_update_due(region.as_mut_ptr(), region.len(), *self) }
+    }
+    fn fed(&self, region: &mut [u8], values: Values) -> Step {
+        unsafe {
+            tt_upper_row(
+                region.as_mut_ptr(),
+                region.len(),
+                *self,
+                values.texts.as_ptr(),
+                values.texts.len(),
+                values.lengths.as_ptr(),
+                values.lengths.len(),
+            )
+        }
+    }
+    /// `append`, and all of the state taken back: for comparing.
+    #[doc(hidden)]
+    pub fn append_whole(&mut self, bytes: &[u8]) -> Answer {
+        let step = self.appended(bytes);
+        self.take(step)
+    }
+    /// `due`, and all of the state taken back.
+    #[doc(hidden)]
+    pub fn due_whole(&mut self, region: &mut [u8]) -> Answer {
+        let step = self.operated(region);
+        self.take(step)
+    }
+    /// `upper_row`, and all of the state taken back.
+    #[doc(hidden)]
+    pub fn upper_row_whole(&mut self, region: &mut [u8], values: Values) -> Answer {
+        let step = self.fed(region, values);
+        self.take(step)
     }
 }
 
@@ -291,8 +346,9 @@ impl State {
     /// Takes bytes until the tail is full, and says how many; none while an
     /// operation is due.
     pub fn append(&mut self, bytes: &[u8]) -> Answer {
-        let step = unsafe { tt_update_bytes(*self, bytes.as_ptr(), bytes.len()) };
-        self.take(step)
+        let step = self.appended(bytes);
+        self.take_parts(&step.state);
+        step.answer
     }
     /// Ends the open table.
     pub fn end(&mut self) -> Answer {
@@ -306,8 +362,9 @@ impl State {
     }
     /// Does the erase, write or comparison that is due, or says that none is.
     pub fn due(&mut self, region: &mut [u8]) -> Answer {
-        let step = unsafe { tt_update_due(region.as_mut_ptr(), region.len(), *self) };
-        self.take(step)
+        let step = self.operated(region);
+        self.take_numbers(&step.state);
+        step.answer
     }
     /// Whether the active bank is what was compared with it.
     pub fn unchanged(&mut self, region: &[u8]) -> Answer {
@@ -371,18 +428,9 @@ impl State {
     }
     /// Feeds a row of the open table.
     pub fn upper_row(&mut self, region: &mut [u8], values: Values) -> Answer {
-        let step = unsafe {
-            tt_upper_row(
-                region.as_mut_ptr(),
-                region.len(),
-                *self,
-                values.texts.as_ptr(),
-                values.texts.len(),
-                values.lengths.as_ptr(),
-                values.lengths.len(),
-            )
-        };
-        self.take(step)
+        let step = self.fed(region, values);
+        self.take_parts(&step.state);
+        step.answer
     }
     /// Ends the open table.
     pub fn upper_end(&mut self, region: &mut [u8]) -> Answer {

@@ -163,6 +163,39 @@ fn a_refused_call_leaves_the_writer() {
     assert!((image, writer) == before);
 }
 
+/// States of an update and forged ones: the calls that leave the sources take
+/// back all that can be other than before.
+#[test]
+fn what_a_call_leaves_is_not_taken_back() {
+    let mut region = sample("two-good");
+    let mut state = update::State::new(&region, false, 7).0;
+    let values = Values { texts: b"a,b\"", lengths: &[1, 2, 1] };
+    for i in 0..400u32 {
+        let (piece, n) = ([i as u8; 300], (i * 37 % 301) as usize);
+        let mut bytes = state.to_bytes();
+        bytes[(i * 1_009) as usize % update::SIZE] ^= 1 << (i % 8);
+        for was in [state, update::State::from_bytes(bytes)] {
+            let (mut part, mut whole) = (was, was);
+            assert_eq!(part.append(&piece[..n]), whole.append_whole(&piece[..n]));
+            assert!(part == whole);
+            let (mut here, mut there) = (region.clone(), region.clone());
+            assert_eq!(part.due(&mut here), whole.due_whole(&mut there));
+            assert!(part == whole && here == there);
+            let row = part.upper_row(&mut here, values);
+            assert_eq!(row, whole.upper_row_whole(&mut there, values));
+            assert!(part == whole && here == there);
+        }
+        state.append(&piece[..n]);
+        if i % 3 == 0 {
+            state.due(&mut region);
+        }
+        if i % 50 == 9 {
+            state.source(&[i as u8; 384]);
+            state.start(i % 8);
+        }
+    }
+}
+
 /// The flash model of document 01, on a chip that a driver writes.
 fn driven(chip: &mut [u8], operation: Operation, region: &[u8]) {
     match operation {

@@ -45,14 +45,27 @@ impl Call {
         let answer = self.ask(state, region);
         wrong::instead(self, answer, &before, region)
     }
+    /// The call, with the whole state as it crosses back. What the binding
+    /// takes of it must be all that is other than before.
     fn ask(&self, state: &mut State, region: &mut [u8]) -> Answer {
+        let mut taken = *state;
+        let answer = self.ask_whole(state, region);
+        match self {
+            Self::Bytes(_) | Self::Row(..) => taken.take_parts(state),
+            Self::Due => taken.take_numbers(state),
+            _ => return answer,
+        }
+        assert!(taken == *state, "the binding leaves a part of the state that {self:?} changed");
+        answer
+    }
+    fn ask_whole(&self, state: &mut State, region: &mut [u8]) -> Answer {
         match self {
             Self::Source(record) => state.source(record),
             Self::Table(table) => state.start(*table),
-            Self::Bytes(bytes) => state.append(bytes),
+            Self::Bytes(bytes) => state.append_whole(bytes),
             Self::End => state.end(),
             Self::Close => state.close(),
-            Self::Due => state.due(region),
+            Self::Due => state.due_whole(region),
             Self::Unchanged => state.unchanged(region),
             Self::Commit(stamp, current) => state.commit(region, *stamp, *current),
             Self::Word => state.commit_word(region),
@@ -63,7 +76,7 @@ impl Call {
         match self {
             Self::SourceWithDates(record) => state.upper_source(region, record),
             Self::TableWithNames(table) => state.upper_table(region, *table),
-            Self::Row(texts, lengths) => state.upper_row(region, Values { texts, lengths }),
+            Self::Row(texts, lengths) => state.upper_row_whole(region, Values { texts, lengths }),
             Self::TableEnd => state.upper_end(region),
             _ => state.upper_close(region),
         }
