@@ -18,9 +18,9 @@ use Rattle.writer.specs.declared.Tables.{Tables}
 use Rattle.writer.specs.declared.Writer.{Writer}
 use Rattle.writer.specs.declared.Step.{Step}
 use Rattle.writer.specs.State.{position, isDue, stageOf, aligned, takenOk, tablesOk, operationOk, stageOk, inRange}
-use Rattle.writer.proofs.Laws.{ranged, fill-fits, position-fits}
+use Rattle.writer.proofs.Laws.{ranged}
 use Rattle.lower.specs.Lower.{mayTake, room, takenMore, withBytes, bytesStep}
-use Rattle.lower.proofs.Laws.{bytes-took, took-some}
+use Rattle.lower.proofs.Laws.{bytes-took, took-some, takes-fits}
 use Rattle.feed.specs.Run.{lowerStep, lowerOps, ranWriter, ranRegion}
 use Rattle.feed.specs.Feed.{dues, feed}
 use Rattle.flash.specs.Flash.{performed}
@@ -210,7 +210,7 @@ module _ (region : List ℕ) (w : Writer) (bs : List ℕ) (m : mayTake w ≡ tru
 
   module _ (n : ℕ) (e : n ≡ min (length bs) (256 - w .taken .fill)) where
     some : (1 ≤ n) × (n ≤ length bs) × (w .taken .fill + n ≤ 256)
-    some = some-by (w .taken .fill) n (length bs) e l (fill-fits (w .taken) (ranged w (in-range w m) .taken)) full-not
+    some = some-by (w .taken .fill) n (length bs) e l (takes-fits w m .0) full-not
 
     module _ (s : Step) (f : s ≡ bytesStep w bs) (v : Writer) (r : List ℕ) (a : v ≡ ranWriter region (s .writer) dues) (b : r ≡ ranRegion region (s .writer) dues) where
       taken-is : s .writer ≡ withBytes w (take n bs)
@@ -224,9 +224,6 @@ module _ (region : List ℕ) (w : Writer) (bs : List ℕ) (m : mayTake w ≡ tru
             then-writer region (s .writer) dues (feed (drop n bs)) v r a b (ranWriter r v (feed (drop n bs))) refl ∙ ap (λ (x : Writer). ranWriter region x (dues ++ feed (drop n bs))) taken-is ∙ sym (q .0),
             then-region region (s .writer) dues (feed (drop n bs)) v r a b (ranRegion r v (feed (drop n bs))) refl ∙ ap (λ (x : Writer). ranRegion region x (dues ++ feed (drop n bs))) taken-is ∙ sym (q .1),
           )
-
-pub takes-fits : (w : Writer) → mayTake w ≡ true → (w .taken .fill ≤ 256) × (position (w .taken) ≤ 487424)
-takes-fits w m = let t = ranged w (in-range w m) .taken in (fill-fits (w .taken) t, position-fits (w .taken) t)
 
 -- ---- bytes that leave room in the tail, and nothing is due
 

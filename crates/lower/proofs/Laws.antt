@@ -11,7 +11,9 @@ use borrow.Author.Tests.{lt-ltb, le-ltb, le-leb, lt-leb}
 use Rattle.refusal.specs.declared.Refusal.the-variants.{Argument, Full, Turn}
 use Rattle.record.specs.declared.Source.{Source}
 use Rattle.writer.specs.declared.Writer.{Writer}
-use Rattle.writer.specs.State.{did, stays, position, isOpen, begunIn, isDue}
+use Rattle.header.proofs.Laws.{and-left}
+use Rattle.writer.specs.State.{did, stays, position, isOpen, begunIn, isDue, inRange}
+use Rattle.writer.proofs.Laws.{ranged, fill-fits, position-fits}
 use Rattle.lower.specs.Lower.{mayTake, mayBegin, withSource, sourceStep, withTable, tableStep, withEnd, endStep, withClosed, closeStep, room, withBytes, took, bytesStep}
 use Rattle.writer.specs.declared.Answer.the-variants.{Took}
 
@@ -79,6 +81,10 @@ module _ (w : Writer) (xs : List ℕ) where
   pub took-some : (n : ℕ) (v : Writer) → isDue (w .taken) ≡ false → n ≡ room (w .taken) (length xs) → v ≡ withBytes w (take n xs) → record { answer = Took n; writer = v } ≡ took w xs
   unfolding took
   took-some n v e h k = rw (e, ← h) (ap (λ (x : Writer). record { answer = Took n; writer = x }) k)
+
+-- the tail and the place of a state that takes bytes
+pub takes-fits : (w : Writer) → mayTake w ≡ true → (w .taken .fill ≤ 256) × (position (w .taken) ≤ 487424)
+takes-fits w m = let t = ranged w (and-left (inRange w) (not (w .taken .closed)) m) .taken in (fill-fits (w .taken) t, position-fits (w .taken) t)
 
 -- a bit by a shift
 pub shifted : (t : ℕ) → t ≤ 7 → (1 * 2 ^ t) % 4294967296 ≡ 2 ^ t

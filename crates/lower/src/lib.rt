@@ -1,22 +1,35 @@
 // What the lower layer's calls test: whether a state takes bytes, whether a table is open or may begin, and the tail's room.
 ghost use mathlib.Core.Path.{_≡_};
+ghost use mathlib.Core.List.{List};
 ghost use Prim.Native.Nat.{_≤_};
+ghost use Rattle.record.specs.declared.Source.{Source};
 ghost use Rattle.writer.specs.State as State;
+ghost use Rattle.writer.specs.Parts.{withSources};
 ghost use Rattle.lower.specs.Lower as Lower;
+use writer::Parts;
 use writer::Tables;
 use writer::Taken;
 use writer::Writer;
 use writer::parts_in_range;
+use writer::parts_of;
+
+// Whether a state takes bytes, sources and tables, by its parts: the sources don't count.
+pub fn may_take_parts(p: Parts) -> bool
+    ensures { λ r. ⌜ ((ss : List Source) → r ≡ Lower.mayTake (withSources p ss)) ⌝ }
+{
+    let b = p.beginning;
+    let t = p.taken;
+    let x = p.tables;
+    let s = p.stage;
+    parts_in_range(b, t, x, s) & !t.closed
+}
 
 // Whether a state takes bytes, sources and tables.
 pub fn may_take(w: Writer) -> bool
     ensures { λ r. ⌜ r ≡ Lower.mayTake w ⌝ }
 {
-    let b = w.beginning;
-    let t = w.taken;
-    let x = w.tables;
-    let s = w.stage;
-    parts_in_range(b, t, x, s) & !t.closed
+    let p = parts_of(w);
+    may_take_parts(p)
 }
 
 pub fn is_open(s: Tables) -> bool

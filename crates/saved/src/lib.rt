@@ -1,7 +1,9 @@
 // A writer's state and a call's answer as plain numbers, for callers outside: whatever bytes they hold are some State.
 ghost use mathlib.Core.Path.{_≡_};
+ghost use Rattle.number.specs.Number.{pick};
 ghost use Rattle.refusal.specs.Refusal.{numberOf};
 ghost use Rattle.writer.specs.declared.Stage.the-variants as Stages;
+ghost use Rattle.writer.specs.Parts.{partsOf, withSources, stepWith};
 ghost use Rattle.saved.specs.State as Saved;
 ghost use Rattle.saved.specs.Answers as Answers;
 use bank::Loaded;
@@ -11,11 +13,14 @@ use refusal::Refusal;
 use writer::Answer;
 use writer::Beginning;
 use writer::Operation;
+use writer::Parts;
+use writer::PartsStep;
 use writer::Stage;
 use writer::Step;
 use writer::Tables;
 use writer::Taken;
 use writer::Writer;
+use writer::with_sources;
 
 // The stage is 0 idle, 1 an erase, 2 a write, 3 a comparison due, 4 headed, 5 committed; first and second are the due operation's
 // numbers. Active is 0 with no active bank, 1 with one, 2 after a refused beginning. A flag is set where its number isn't 0.
@@ -83,9 +88,9 @@ fn is_set(flag: u32) -> bool
     !(flag == 0)
 }
 
-// The writer that a state means.
-pub fn writer_of(s: State) -> Writer
-    ensures { λ r. ⌜ r ≡ Saved.writerOf s ⌝ }
+// The writer that a state means, but for its sources.
+pub fn parts_of(s: State) -> Parts
+    ensures { λ r. ⌜ r ≡ partsOf (Saved.writerOf s) ⌝ }
 {
     let stage = stage_of(s.stage, s.first, s.second);
     let bank = s.bank;
@@ -103,16 +108,23 @@ pub fn writer_of(s: State) -> Writer
         closed: is_set(s.closed),
     };
     let tables = s.tables;
-    let sources = s.sources;
     let tail = s.tail;
-    Writer {
+    Parts {
         stage,
         beginning,
         taken,
         tables,
-        sources,
         tail,
     }
+}
+
+// The writer that a state means.
+pub fn writer_of(s: State) -> Writer
+    ensures { λ r. ⌜ r ≡ Saved.writerOf s ⌝ }
+{
+    let p = parts_of(s);
+    let sources = s.sources;
+    with_sources(p, sources)
 }
 
 // A stage's number and its operation's two.
@@ -208,20 +220,19 @@ fn flag(b: bool) -> u32
     if b { 1 } else { 0 }
 }
 
-// A writer as a state.
-pub fn state_of(w: Writer) -> State
-    ensures { λ r. ⌜ r ≡ Saved.savedOf w ⌝ }
+// A writer's parts, and its sources, as a state.
+fn state_with(p: Parts, sources: [Source; 3]) -> State
+    ensures { λ r. ⌜ r ≡ Saved.savedOf (withSources p sources) ⌝ }
 {
-    let b = w.beginning;
-    let t = w.taken;
-    let stage = w.stage;
+    let b = p.beginning;
+    let t = p.taken;
+    let stage = p.stage;
     let n = stage_numbers(stage);
     let loaded = b.active;
     let active = active_kind(loaded);
     let bank = bank_in(loaded);
-    let tables = w.tables;
-    let sources = w.sources;
-    let tail = w.tail;
+    let tables = p.tables;
+    let tail = p.tail;
     State {
         stage: n.kind,
         first: n.first,
@@ -239,6 +250,15 @@ pub fn state_of(w: Writer) -> State
         sources,
         tail,
     }
+}
+
+// A writer as a state.
+pub fn state_of(w: Writer) -> State
+    ensures { λ r. ⌜ r ≡ Saved.savedOf w ⌝ }
+{
+    let p = writer::parts_of(w);
+    let sources = w.sources;
+    state_with(p, sources)
 }
 
 // An answer: 0 done, 1 bytes were taken, 2 none is due, 3 the same, 4 different.
@@ -307,6 +327,31 @@ fn is_answer(a: Answer) -> bool
         Answer::Different => true,
         Answer::Refused(_) => false,
     }
+}
+
+// A state after a call on its parts.
+fn state_after(a: Answer, p: Parts, state: State) -> State
+    ensures { λ r. ⌜ r ≡ pick (Answers.isAnswer a) (Saved.savedOf (withSources p (state .sources))) state ⌝ }
+{
+    if is_answer(a) {
+        let sources = state.sources;
+        return state_with(p, sources);
+    }
+    state
+}
+
+// What crosses back of a call on a state's parts: the state is as it was where the call was refused.
+pub fn after_parts(s: PartsStep, state: State) -> UpdateStep
+    ensures { λ x. ⌜ x ≡ Answers.after (stepWith s (state .sources)) state ⌝ }
+{
+    let a = s.answer;
+    let p = s.parts;
+    let numbers = of_answer(a);
+    // the sources stay: taken from the state itself on both ways, which saves copies
+    let sources = state.sources;
+    let mut v = state_after(a, p, state);
+    v.sources = sources;
+    UpdateStep { numbers, state: v }
 }
 
 // What crosses back of a call on a state: the state is as it was where the call was refused.

@@ -1,21 +1,28 @@
 // The lower layer's call that takes bytes.
 ghost use mathlib.Core.Path.{_≡_};
+ghost use mathlib.Core.List.{List};
 ghost use Prim.Native.Nat.{_+_, _≤_};
 ghost use lib.ListN.{length};
 ghost use lib.Seq.{sets};
+ghost use Rattle.record.specs.declared.Source.{Source};
+ghost use Rattle.writer.specs.Parts.{withSources, stepWith};
 ghost use Rattle.lower.specs.Lower as Lower;
 use crcs::crc32_both;
-use lower::may_take;
+use lower::may_take_parts;
 use lower::room;
 use refusal::Refusal;
 use writer::Answer;
+use writer::Parts;
+use writer::PartsStep;
 use writer::Step;
 use writer::Tables;
 use writer::Taken;
 use writer::Writer;
 use writer::is_due;
+use writer::parts_of;
+use writer::parts_stay;
 use writer::stage_of;
-use writer::stays;
+use writer::step_with;
 
 // The tail with bytes behind those that it holds.
 fn tail_with(tail: [u8; 256], at: usize, bytes: &[u8]) -> [u8; 256]
@@ -31,14 +38,14 @@ fn tail_with(tail: [u8; 256], at: usize, bytes: &[u8]) -> [u8; 256]
     t
 }
 
-fn with_bytes(w: Writer, bytes: &[u8]) -> Writer
-    requires { ⌜ w .taken .fill + length (now bytes) ≤ 256 ⌝ }
-    ensures { λ r. ⌜ r ≡ Lower.withBytes w (now (bytes .entry)) ⌝ }
+fn with_bytes(p: Parts, bytes: &[u8]) -> Parts
+    requires { ⌜ p .taken .fill + length (now bytes) ≤ 256 ⌝ }
+    ensures { λ r. ⌜ ((ss : List Source) → withSources r ss ≡ Lower.withBytes (withSources p ss) (now (bytes .entry))) ⌝ }
 {
-    let t = w.taken;
-    let x = w.tables;
-    let b = w.beginning;
-    let old = w.tail;
+    let t = p.taken;
+    let x = p.tables;
+    let b = p.beginning;
+    let old = p.tail;
     let tail = tail_with(old, t.fill as usize, bytes);
     let crcs = crc32_both(t.crc, x.crc, bytes);
     let taken = Taken {
@@ -48,64 +55,54 @@ fn with_bytes(w: Writer, bytes: &[u8]) -> Writer
     };
     let tables = Tables { crc: crcs.b, ..x };
     let stage = stage_of(b.comparing, taken);
-    Writer {
+    Parts {
         stage,
         taken,
         tables,
         tail,
-        ..w
+        ..p
     }
 }
 
-fn take_some(w: Writer, bytes: &[u8]) -> Step
-    requires { ⌜ w .taken .fill ≤ 256 ⌝ }
-    ensures { λ r. ⌜ r ≡ Lower.took w (now (bytes .entry)) ⌝ }
+fn take_some(p: Parts, bytes: &[u8]) -> PartsStep
+    requires { ⌜ p .taken .fill ≤ 256 ⌝ }
+    ensures { λ r. ⌜ ((ss : List Source) → stepWith r ss ≡ Lower.took (withSources p ss) (now (bytes .entry))) ⌝ }
 {
-    if is_due(w.taken) {
-        return Step {
+    if is_due(p.taken) {
+        return PartsStep {
             answer: Answer::Took(0),
-            writer: w,
+            parts: p,
         };
     }
-    let n = room(w.taken, bytes.len());
+    let n = room(p.taken, bytes.len());
     let some = &bytes[0..n];
-    let writer = with_bytes(w, some);
-    Step {
+    let parts = with_bytes(p, some);
+    PartsStep {
         answer: Answer::Took(n as u32),
-        writer,
+        parts,
     }
 }
 
-fn take_bytes(w: Writer, offered: &[u8]) -> Step
-    ensures { λ r. ⌜ r ≡ Lower.bytesStep w (now (offered .entry)) ⌝ }
+// Takes bytes until the tail is full, and says how many; the sources, whichever they are, stay.
+pub fn take_parts(p: Parts, offered: &[u8]) -> PartsStep
+    ensures { λ r. ⌜ ((ss : List Source) → stepWith r ss ≡ Lower.bytesStep (withSources p ss) (now (offered .entry))) ⌝ }
 {
-    let t = w.taken;
-    if may_take(w) {
+    let t = p.taken;
+    if may_take_parts(p) {
         if offered.len() <= 487424 - (t.written + t.fill) as usize {
-            return take_some(w, offered);
+            return take_some(p, offered);
         }
-        return stays(w, Refusal::Full);
+        return parts_stay(p, Refusal::Full);
     }
-    stays(w, Refusal::Turn)
+    parts_stay(p, Refusal::Turn)
 }
 
-// Takes bytes until the tail is full, and says how many. What they leave as it was is taken from w itself, which saves copies of it.
+// Takes bytes until the tail is full, and says how many.
 pub fn bytes(w: Writer, offered: &[u8]) -> Step
     ensures { λ r. ⌜ r ≡ Lower.bytesStep w (now (offered .entry)) ⌝ }
 {
-    let x = take_bytes(w, offered);
-    let answer = x.answer;
-    let v = x.writer;
-    let stage = v.stage;
-    let taken = v.taken;
-    let tables = v.tables;
-    let tail = v.tail;
-    let writer = Writer {
-        stage,
-        taken,
-        tables,
-        tail,
-        ..w
-    };
-    Step { answer, writer }
+    let p = parts_of(w);
+    let s = take_parts(p, offered);
+    let sources = w.sources;
+    step_with(s, sources)
 }

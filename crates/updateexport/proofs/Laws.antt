@@ -7,8 +7,6 @@ use Rattle.number.specs.Number.{pick}
 use Rattle.record.specs.declared.Source.{Source}
 use Rattle.writer.specs.declared.Writer.{Writer}
 use Rattle.writer.specs.declared.Step.{Step}
-use Rattle.lower.specs.Lower.{bytesStep}
-use Rattle.take.proofs.Laws as taken
 use Rattle.due.specs.Due.{dueStep}
 use Rattle.due.proofs.Laws as due
 use Rattle.saved.specs.declared.State.{State}
@@ -56,14 +54,6 @@ module _ (w : Writer) (was : State) where
   same-tail false e = refl
 
 module _ (was : State) where
-  -- bytes leave the sources
-  pub bytes-kept : (xs : List ℕ) → let s = bytesStep (writerOf was) xs in with-kept (was .sources) (after s was .state .tail) (after s was) ≡ after s was
-  unfolding writerOf
-  bytes-kept xs =
-      let s = bytesStep (writerOf was) xs in
-      let e : s .writer .sources ≡ was .sources = sym (ap (λ (t : Step). t .writer .sources) (taken.bytes-rest (writerOf was) xs)) in
-      kept (after s was) (same-sources (s .writer) was (isAnswer (s .answer)) e) refl
-
   -- the due call leaves the sources and the tail
   pub due-kept : (region : List ℕ) → let s = dueStep region (writerOf was) in with-kept (was .sources) (was .tail) (after s was) ≡ after s was
   unfolding writerOf

@@ -14,7 +14,10 @@ use record::decode;
 use saved::State;
 use saved::UpdateStep;
 use saved::after;
+use saved::after_parts;
+use saved::parts_of;
 use saved::writer_of;
+use take::take_parts;
 
 // Begins an update: loads the region; in comparing mode nothing is written. It takes no key.
 #[no_mangle]
@@ -54,14 +57,9 @@ pub extern "C" fn tt_update_table(state: State, table: u32) -> UpdateStep
 pub extern "C" fn tt_update_bytes(state: State, bytes: &[u8]) -> UpdateStep
     ensures { λ x. ⌜ x ≡ Answers.after (Lower.bytesStep (writerOf state) (now (bytes .entry))) state ⌝ }
 {
-    let s = take::bytes(writer_of(state), bytes);
-    let x = after(s, state);
-    let numbers = x.numbers;
-    // the sources stay: taken from the state itself, which saves copies
-    let sources = state.sources;
-    let mut v = x.state;
-    v.sources = sources;
-    UpdateStep { numbers, state: v }
+    let p = parts_of(state);
+    let s = take_parts(p, bytes);
+    after_parts(s, state)
 }
 
 // Ends the open table.

@@ -2,6 +2,7 @@
 ghost use mathlib.Core.Path.{_≡_};
 ghost use mathlib.Core.Bool.{_&&_};
 ghost use Rattle.writer.specs.State as State;
+ghost use Rattle.writer.specs.Parts.{partsOf, withSources, stepWith, partsDid, partsStay};
 use bank::Loaded;
 use record::Source;
 use refusal::Refusal;
@@ -69,6 +70,21 @@ pub enum Answer {
 pub struct Step {
     pub answer: Answer,
     pub writer: Writer,
+}
+
+// A state but for its sources, which are most of its bytes and which most calls leave as they are.
+pub struct Parts {
+    pub stage: Stage,
+    pub beginning: Beginning,
+    pub taken: Taken,
+    pub tables: Tables,
+    pub tail: [u8; 256],
+}
+
+// The answer, and the state after a call that leaves the sources.
+pub struct PartsStep {
+    pub answer: Answer,
+    pub parts: Parts,
 }
 
 pub fn is_due(t: Taken) -> bool
@@ -222,5 +238,69 @@ pub fn stays(w: Writer, r: Refusal) -> Step
     Step {
         answer: Answer::Refused(r),
         writer: w,
+    }
+}
+
+pub fn parts_of(w: Writer) -> Parts
+    ensures { λ r. ⌜ r ≡ partsOf w ⌝ }
+{
+    let stage = w.stage;
+    let beginning = w.beginning;
+    let taken = w.taken;
+    let tables = w.tables;
+    let tail = w.tail;
+    Parts {
+        stage,
+        beginning,
+        taken,
+        tables,
+        tail,
+    }
+}
+
+pub fn with_sources(p: Parts, sources: [Source; 3]) -> Writer
+    ensures { λ r. ⌜ r ≡ withSources p sources ⌝ }
+{
+    let stage = p.stage;
+    let beginning = p.beginning;
+    let taken = p.taken;
+    let tables = p.tables;
+    let tail = p.tail;
+    Writer {
+        stage,
+        beginning,
+        taken,
+        tables,
+        sources,
+        tail,
+    }
+}
+
+pub fn step_with(s: PartsStep, sources: [Source; 3]) -> Step
+    ensures { λ r. ⌜ r ≡ stepWith s sources ⌝ }
+{
+    let answer = s.answer;
+    let p = s.parts;
+    let writer = with_sources(p, sources);
+    Step { answer, writer }
+}
+
+// A call on parts that is answered.
+pub fn parts_did(p: Parts) -> PartsStep
+    ensures { λ x. ⌜ x ≡ partsDid p ⌝ }
+{
+    PartsStep {
+        answer: Answer::Done,
+        parts: p,
+    }
+}
+
+// A call on parts that is refused: they are as they were.
+pub fn parts_stay(p: Parts, r: Refusal) -> PartsStep
+    ensures { λ x. ⌜ x ≡ partsStay p r ⌝ }
+{
+    PartsStep {
+        answer: Answer::Refused(r),
+        parts: p,
     }
 }

@@ -4,7 +4,8 @@ use native.Mathlib.Omega.{arith}
 use Rattle.header.proofs.Laws.{and-left, and-right}
 use Rattle.writer.specs.State.{isDue}
 use Rattle.lower.specs.Lower.{mayTake}
-use Rattle.feed.proofs.Chunk.{is-false, takes-fits}
+use Rattle.lower.proofs.Laws.{takes-fits}
+use Rattle.feed.proofs.Chunk.{is-false}
 use borrow.Author.Needs.{needs}
 use Rattle.feed.proofs.feed_some.Statement.{statement}
 use Rattle.feed.proofs.feed_some.Tie as tie

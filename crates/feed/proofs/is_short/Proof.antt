@@ -7,7 +7,8 @@ use borrow.Author.Tests.{leb-true, ltb-true}
 use Rattle.header.proofs.Laws.{and-left, and-right}
 use Rattle.writer.specs.State.{isDue}
 use Rattle.lower.specs.Lower.{mayTake}
-use Rattle.feed.proofs.Chunk.{is-false, takes-fits}
+use Rattle.lower.proofs.Laws.{takes-fits}
+use Rattle.feed.proofs.Chunk.{is-false}
 use borrow.Author.Needs.{needs}
 use Rattle.feed.proofs.is_short.Statement.{statement}
 use Rattle.feed.proofs.is_short.Tie as tie

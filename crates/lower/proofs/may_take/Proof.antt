@@ -1,16 +1,21 @@
-use mathlib.Core.Path.{ap}
-use mathlib.Core.Bool.{Bool, not, _&&_}
-use Rattle.writer.specs.State.{inRange}
+use mathlib.Core.Path.{ap, _∙_}
+use Rattle.writer.specs.declared.Parts.{Parts}
+use Rattle.writer.specs.Parts.{withSources}
+use Rattle.lower.specs.Lower.{mayTake}
 use borrow.Author.Needs.{needs}
 use Rattle.lower.proofs.may_take.Statement.{statement}
 use Rattle.lower.proofs.may_take.Tie as tie
 
-parts-in-range-requires : tie.Need-parts-in-range-requires
-parts-in-range-requires c κs = search needs
+parts-of-requires : tie.Need-parts-of-requires
+parts-of-requires c κs = search needs
+
+may-take-parts-requires : tie.Need-may-take-parts-requires
+may-take-parts-requires c κs = search needs
 
 returns : tie.Need-returns
-unfolding inRange
-returns c = ap (λ (t : Bool). t && not (c .before .before .before .before .before .args .w .taken .closed)) (c .before .parts-in-range .ensures)
+returns c =
+    let ss = c .before .before .args .w .sources in
+    c .may-take-parts .ensures ss ∙ ap (λ (p : Parts). mayTake (withSources p ss)) (c .before .parts-of .ensures)
 
 pub may-take-spec : {M : Type 1} → statement M
-may-take-spec = tie.close (tie.spec parts-in-range-requires returns)
+may-take-spec = tie.close (tie.spec parts-of-requires may-take-parts-requires returns)

@@ -1,61 +1,21 @@
-use mir.Syntax.{w64}
-use mir.ValLaws.{toZ-ofZ}
+use mathlib.Core.Path.{ap, _∙_}
+use Rattle.writer.specs.declared.Parts.{Parts}
+use Rattle.writer.specs.Parts.{withSources}
 use Rattle.saved.specs.State.{savedOf}
 use borrow.Author.Needs.{needs}
 use Rattle.saved.proofs.state_of.Statement.{statement}
 use Rattle.saved.proofs.state_of.Tie as tie
 
-stage-numbers-requires : tie.Need-stage-numbers-requires
-stage-numbers-requires c κs = search needs
+parts-of-requires : tie.Need-parts-of-requires
+parts-of-requires c κs = search needs
 
-active-kind-requires : tie.Need-active-kind-requires
-active-kind-requires c κs = search needs
-
-bank-in-requires : tie.Need-bank-in-requires
-bank-in-requires c κs = search needs
-
-flag-requires : tie.Need-flag-requires
-flag-requires c κs = search needs
-
-flag-requires-2 : tie.Need-flag-requires-2
-flag-requires-2 c κs = search needs
-
-flag-requires-3 : tie.Need-flag-requires-3
-flag-requires-3 c κs = search needs
+state-with-requires : tie.Need-state-with-requires
+state-with-requires c κs = search needs
 
 returns : tie.Need-returns
-unfolding savedOf
 returns c =
-    let n = c .before .before .before .before .before .before .before .before .before in
-    let w = n .before .before .before .args .w in
-    let t = toZ-ofZ w64 (w .beginning .now) (record { sfits = c .struct-told .given .1 .1 .0 .1 }) in
-    let e = n .stage-numbers .ensures in
-    λ i. record {
-      stage = e i .kind;
-      first = e i .first;
-      second = e i .second;
-      active = c .before .before .before .before .before .before .before .before .active-kind .ensures i;
-      bank = c .before .before .before .before .before .before .before .bank-in .ensures i;
-      now = t i;
-      comparing = c .before .before .before .flag .ensures i;
-      written = w .taken .written;
-      fill = w .taken .fill;
-      crc = w .taken .crc;
-      different = c .before .before .flag2 .ensures i;
-      closed = c .before .flag3 .ensures i;
-      tables = w .tables;
-      sources = w .sources;
-      tail = w .tail;
-    }
+    let p = c .before .before in
+    c .state-with .ensures ∙ ap (λ (q : Parts). savedOf (withSources q (p .before .args .w .sources))) (p .parts-of .ensures)
 
 pub state-of-spec : {M : Type 1} → statement M
-state-of-spec =
-    tie.close
-    (tie.spec
-    stage-numbers-requires
-    active-kind-requires
-    bank-in-requires
-    flag-requires
-    flag-requires-2
-    flag-requires-3
-    returns)
+state-of-spec = tie.close (tie.spec parts-of-requires state-with-requires returns)

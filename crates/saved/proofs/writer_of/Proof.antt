@@ -1,46 +1,22 @@
-use mir.Syntax.{w64}
-use mir.ValLaws.{toZ-ofZ}
+use mathlib.Core.Path.{ap, _∙_}
+use Rattle.writer.specs.declared.Parts.{Parts}
+use Rattle.writer.specs.Parts.{withSources}
 use Rattle.saved.specs.State.{writerOf}
 use borrow.Author.Needs.{needs}
 use Rattle.saved.proofs.writer_of.Statement.{statement}
 use Rattle.saved.proofs.writer_of.Tie as tie
 
-stage-of-requires : tie.Need-stage-of-requires
-stage-of-requires c κs = search needs
+parts-of-requires : tie.Need-parts-of-requires
+parts-of-requires c κs = search needs
 
-active-of-requires : tie.Need-active-of-requires
-active-of-requires c κs = search needs
-
-is-set-requires : tie.Need-is-set-requires
-is-set-requires c κs = search needs
-
-is-set-requires-2 : tie.Need-is-set-requires-2
-is-set-requires-2 c κs = search needs
-
-is-set-requires-3 : tie.Need-is-set-requires-3
-is-set-requires-3 c κs = search needs
+with-sources-requires : tie.Need-with-sources-requires
+with-sources-requires c κs = search needs
 
 returns : tie.Need-returns
 unfolding writerOf
 returns c =
-    let s = c .before .before .before .before .before .before .before .before .before .before .args .s in
-    let t = toZ-ofZ w64 (s .now) (record { sfits = c .before .before .before .before .before .struct-told .given .1 .1 .1 .1 .1 .0 .1 }) in
-    λ i. record {
-      stage = c .before .before .before .before .before .before .before .before .before .stage-of .ensures i;
-      beginning = record { active = c .before .before .before .before .before .before .before .active-of .ensures i; comparing = c .before .before .before .before .before .before .is-set .ensures i; now = t i };
-      taken = record { written = s .written; fill = s .fill; crc = s .crc; different = c .before .before .before .before .is-set2 .ensures i; closed = c .before .before .before .is-set3 .ensures i };
-      tables = s .tables;
-      sources = s .sources;
-      tail = s .tail;
-    }
+    let p = c .before .before in
+    c .with-sources .ensures ∙ ap (λ (q : Parts). withSources q (p .before .args .s .sources)) (p .parts-of .ensures)
 
 pub writer-of-spec : {M : Type 1} → statement M
-writer-of-spec =
-    tie.close
-    (tie.spec
-    stage-of-requires
-    active-of-requires
-    is-set-requires
-    is-set-requires-2
-    is-set-requires-3
-    returns)
+writer-of-spec = tie.close (tie.spec parts-of-requires with-sources-requires returns)

@@ -1,5 +1,6 @@
 use native.Mathlib.Nat.{sub-zero}
 use mathlib.Core.Path.{sym, _∙_}
+use Rattle.writer.specs.Parts.{withSources}
 use Rattle.lower.proofs.Laws.{took-none, took-some}
 use borrow.Author.Needs.{needs}
 use Rattle.take.proofs.take_some.Statement.{statement}
@@ -12,7 +13,7 @@ returns : tie.Need-returns
 returns c =
     let d = c .before in
     let a = d .before .before .args in
-    took-none (a .w) (a .bytes .now) (sym (d .is-due .ensures) ∙ c .if1 .taken)
+    λ ss. took-none (withSources (a .p) ss) (a .bytes .now) (sym (d .is-due .ensures) ∙ c .if1 .taken)
 
 room-requires : tie.Need-room-requires
 room-requires c κs = search needs
@@ -37,7 +38,7 @@ returns-2 c =
     let r = c .before .before in
     let d = r .before .before in
     let a = d .before .before .args in
-    took-some (a .w) (a .bytes .now) (r .room .result) (c .with-bytes .result) (sym (d .is-due .ensures) ∙ r .before .if1 .left) (r .room .ensures .0) (rw sub-zero at (c .with-bytes .ensures))
+    λ ss. took-some (withSources (a .p) ss) (a .bytes .now) (r .room .result) (withSources (c .with-bytes .result) ss) (sym (d .is-due .ensures) ∙ r .before .if1 .left) (r .room .ensures .0) (rw sub-zero at (c .with-bytes .ensures ss))
 
 pub take-some-spec : {M : Type 1} → statement M
 take-some-spec =

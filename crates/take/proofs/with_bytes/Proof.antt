@@ -28,17 +28,17 @@ stage-of-requires c κs = search needs
 returns : tie.Need-returns
 unfolding withBytes
 returns c =
-    let g = c .before .before in
+    let g = c .before in
     let k = g .before .before in
     let t = k .before in
     let a = t .before .before .before .before .before .before .before .args in
     let e = k .crc32-both .ensures in
-    λ i. record {
-      stage = (g .stage-of .ensures ∙ (λ j. stageOf (a .w .beginning .comparing) (record { written = a .w .taken .written; fill = a .w .taken .fill + length (a .bytes .now); crc = e .0 j; different = a .w .taken .different; closed = a .w .taken .closed }))) i;
-      beginning = a .w .beginning;
-      taken = record { written = a .w .taken .written; fill = a .w .taken .fill + length (a .bytes .now); crc = e .0 i; different = a .w .taken .different; closed = a .w .taken .closed };
-      tables = record { count = a .w .tables .count; table = a .w .tables .table; start = a .w .tables .start; crc = e .1 i; begun = a .w .tables .begun };
-      sources = a .w .sources;
+    λ ss. λ i. record {
+      stage = (g .stage-of .ensures ∙ (λ j. stageOf (a .p .beginning .comparing) (record { written = a .p .taken .written; fill = a .p .taken .fill + length (a .bytes .now); crc = e .0 j; different = a .p .taken .different; closed = a .p .taken .closed }))) i;
+      beginning = a .p .beginning;
+      taken = record { written = a .p .taken .written; fill = a .p .taken .fill + length (a .bytes .now); crc = e .0 i; different = a .p .taken .different; closed = a .p .taken .closed };
+      tables = record { count = a .p .tables .count; table = a .p .tables .table; start = a .p .tables .start; crc = e .1 i; begun = a .p .tables .begun };
+      sources = ss;
       tail = t .tail-with .ensures i;
     }
 
