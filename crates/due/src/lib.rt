@@ -1,12 +1,13 @@
 // The lower layer's due call: one erase, write or comparison, or none is due.
 ghost use mathlib.Core.Path.{_≡_};
 ghost use mathlib.Core.Bool.{Bool, true};
-ghost use mathlib.Core.List.{_++_};
+ghost use mathlib.Core.List.{List, [], _++_};
 ghost use Prim.Native.Nat.{_+_, _-_, _%_, _≤_};
 ghost use lib.Dec.{eqb};
 ghost use lib.ListN.{length, take};
 ghost use Rattle.number.specs.Number.{pick};
 ghost use Rattle.record.specs.Runs.{fill};
+ghost use Rattle.record.specs.declared.Source.{Source};
 ghost use Rattle.key.specs.Match.{same};
 ghost use Rattle.bank.specs.declared.Loaded.the-variants as Loadeds;
 ghost use Rattle.flash.specs.Flash.{writtenIn, performed};
@@ -14,6 +15,7 @@ ghost use Rattle.writer.specs.declared.Answer.the-variants as Answers;
 ghost use Rattle.writer.specs.declared.Operation.the-variants as Operations;
 ghost use Rattle.writer.specs.declared.Stage.the-variants as Stages;
 ghost use Rattle.writer.specs.State as State;
+ghost use Rattle.writer.specs.Parts.{withSources, stepWith};
 ghost use Rattle.due.specs.Due as Due;
 use bank::Loaded;
 use bank::bank_of;
@@ -24,14 +26,18 @@ use refusal::Refusal;
 use slice::part;
 use writer::Answer;
 use writer::Operation;
+use writer::Parts;
+use writer::PartsStep;
 use writer::Stage;
 use writer::Step;
 use writer::Taken;
 use writer::Writer;
 use writer::data_due;
-use writer::did;
-use writer::in_range;
-use writer::stays;
+use writer::parts_did;
+use writer::parts_in_range;
+use writer::parts_of;
+use writer::parts_stay;
+use writer::step_with;
 use writer::target;
 
 // The tail's first n bytes, and 255 behind them.
@@ -110,21 +116,21 @@ fn differs(region: &[u8], l: Loaded, t: Taken, tail: [u8; 256]) -> bool
     }
 }
 
-fn with_emptied(w: Writer, different: bool) -> Writer
-    requires { ⌜ State.position (w .taken) ≤ 487424 ⌝ }
-    ensures { λ r. ⌜ r ≡ Due.withEmptied w different ⌝ }
+fn with_emptied(p: Parts, different: bool) -> Parts
+    requires { ⌜ State.position (p .taken) ≤ 487424 ⌝ }
+    ensures { λ r. ⌜ ((ss : List Source) → withSources r ss ≡ Due.withEmptied (withSources p ss) different) ⌝ }
 {
-    let t = w.taken;
+    let t = p.taken;
     let taken = Taken {
         written: t.written + t.fill,
         fill: 0,
         different,
         ..t
     };
-    Writer {
+    Parts {
         stage: Stage::Idle,
         taken,
-        ..w
+        ..p
     }
 }
 
@@ -141,109 +147,123 @@ fn next_due(t: Taken, sector: u32) -> Operation
     }
 }
 
-fn after_erase(w: Writer, sector: u32) -> Writer
-    ensures { λ r. ⌜ r ≡ Due.withStage w (Stages.Due (pick (eqb sector 0) (State.dataDue (w .taken)) (State.writeDue (w .taken)))) ⌝ }
+fn after_erase(p: Parts, sector: u32) -> Parts
+    ensures { λ r. ⌜ ((ss : List Source) → withSources r ss ≡ Due.withStage (withSources p ss) (Stages.Due (pick (eqb sector 0) (State.dataDue (p .taken)) (State.writeDue (p .taken))))) ⌝ }
 {
-    let o = next_due(w.taken, sector);
-    Writer {
+    let o = next_due(p.taken, sector);
+    Parts {
         stage: Stage::Due(o),
-        ..w
+        ..p
     }
 }
 
-fn do_erase(w: Writer, region: &mut [u8], sector: u32) -> Step
+fn do_erase(p: Parts, region: &mut [u8], sector: u32) -> PartsStep
     requires { ⌜ (length (now region) ≡ 983040) × (sector ≤ 119) ⌝ }
-    ensures { λ r. ⌜ (r ≡ State.did (Due.operated (now (region .entry)) w (Operations.Erase sector))) × (now (region .exit) ≡ performed (State.target (w .beginning .active)) (Due.opsOf (w .tail) (Stages.Due (Operations.Erase sector))) (now (region .entry))) ⌝ }
+    ensures { λ r. ⌜ ((ss : List Source) → stepWith r ss ≡ State.did (Due.operated (now (region .entry)) (withSources p ss) (Operations.Erase sector))) × (now (region .exit) ≡ performed (State.target (p .beginning .active)) (Due.opsOf (p .tail) (Stages.Due (Operations.Erase sector))) (now (region .entry))) ⌝ }
 {
-    let b = w.beginning;
+    let b = p.beginning;
     let l = b.active;
     let bank = target(l);
     erase(region, bank, sector as usize * 4096);
-    let v = after_erase(w, sector);
-    did(v)
+    let v = after_erase(p, sector);
+    parts_did(v)
 }
 
-fn do_write(w: Writer, region: &mut [u8], offset: u32, n: u32) -> Step
-    requires { ⌜ (length (now region) ≡ 983040) × (n ≤ 256) × (offset ≤ 487168) × (State.position (w .taken) ≤ 487424) ⌝ }
-    ensures { λ r. ⌜ (r ≡ State.did (Due.operated (now (region .entry)) w (Operations.Write offset n))) × (now (region .exit) ≡ performed (State.target (w .beginning .active)) (Due.opsOf (w .tail) (Stages.Due (Operations.Write offset n))) (now (region .entry))) ⌝ }
+fn do_write(p: Parts, region: &mut [u8], offset: u32, n: u32) -> PartsStep
+    requires { ⌜ (length (now region) ≡ 983040) × (n ≤ 256) × (offset ≤ 487168) × (State.position (p .taken) ≤ 487424) ⌝ }
+    ensures { λ r. ⌜ ((ss : List Source) → stepWith r ss ≡ State.did (Due.operated (now (region .entry)) (withSources p ss) (Operations.Write offset n))) × (now (region .exit) ≡ performed (State.target (p .beginning .active)) (Due.opsOf (p .tail) (Stages.Due (Operations.Write offset n))) (now (region .entry))) ⌝ }
 {
-    let b = w.beginning;
+    let b = p.beginning;
     let l = b.active;
     let bank = target(l);
-    let tail = w.tail;
+    let tail = p.tail;
     write_tail(region, bank, tail, offset, n);
-    let t = w.taken;
-    let v = with_emptied(w, t.different);
-    did(v)
+    let t = p.taken;
+    let v = with_emptied(p, t.different);
+    parts_did(v)
 }
 
-fn do_compare(w: Writer, region: &[u8], offset: u32, n: u32) -> Step
-    requires { ⌜ (w .taken .fill ≤ 256) × (State.position (w .taken) ≤ 487424) ⌝ }
-    ensures { λ r. ⌜ r ≡ State.did (Due.operated (now (region .entry)) w (Operations.Compare offset n)) ⌝ }
+fn do_compare(p: Parts, region: &[u8], offset: u32, n: u32) -> PartsStep
+    requires { ⌜ (p .taken .fill ≤ 256) × (State.position (p .taken) ≤ 487424) ⌝ }
+    ensures { λ r. ⌜ ((ss : List Source) → stepWith r ss ≡ State.did (Due.operated (now (region .entry)) (withSources p ss) (Operations.Compare offset n))) ⌝ }
 {
-    let b = w.beginning;
+    let b = p.beginning;
     let l = b.active;
-    let t = w.taken;
-    let tail = w.tail;
+    let t = p.taken;
+    let tail = p.tail;
     let different = t.different | differs(region, l, t, tail);
-    let v = with_emptied(w, different);
-    did(v)
+    let v = with_emptied(p, different);
+    parts_did(v)
 }
 
-fn operate(w: Writer, region: &mut [u8], o: Operation) -> Step
-    requires { ⌜ (length (now region) ≡ 983040) × (State.inRange w ≡ true) × (w .stage ≡ Stages.Due o) ⌝ }
-    ensures { λ r. ⌜ (r ≡ State.did (Due.operated (now (region .entry)) w o)) × (now (region .exit) ≡ performed (State.target (w .beginning .active)) (Due.opsOf (w .tail) (Stages.Due o)) (now (region .entry))) ⌝ }
+fn operate(p: Parts, region: &mut [u8], o: Operation) -> PartsStep
+    requires { ⌜ (length (now region) ≡ 983040) × (State.inRange (withSources p []) ≡ true) × (p .stage ≡ Stages.Due o) ⌝ }
+    ensures { λ r. ⌜ ((ss : List Source) → stepWith r ss ≡ State.did (Due.operated (now (region .entry)) (withSources p ss) o)) × (now (region .exit) ≡ performed (State.target (p .beginning .active)) (Due.opsOf (p .tail) (Stages.Due o)) (now (region .entry))) ⌝ }
 {
     match o {
-        Operation::Erase { sector } => do_erase(w, region, sector),
-        Operation::Write { offset, length } => do_write(w, region, offset, length),
-        Operation::Compare { offset, length } => do_compare(w, region, offset, length),
+        Operation::Erase { sector } => do_erase(p, region, sector),
+        Operation::Write { offset, length } => do_write(p, region, offset, length),
+        Operation::Compare { offset, length } => do_compare(p, region, offset, length),
     }
 }
 
-fn none_due(w: Writer) -> Step
-    ensures { λ r. ⌜ r ≡ record { answer = Answers.NoneDue; writer = w } ⌝ }
+fn none_due(p: Parts) -> PartsStep
+    ensures { λ r. ⌜ r ≡ record { answer = Answers.NoneDue; parts = p } ⌝ }
 {
-    Step {
+    PartsStep {
         answer: Answer::NoneDue,
-        writer: w,
+        parts: p,
     }
 }
 
-fn in_stage(w: Writer, region: &mut [u8]) -> Step
-    requires { ⌜ (length (now region) ≡ 983040) × (State.inRange w ≡ true) ⌝ }
-    ensures { λ r. ⌜ (r ≡ Due.stepOf (now (region .entry)) w (w .stage)) × (now (region .exit) ≡ performed (State.target (w .beginning .active)) (Due.opsOf (w .tail) (w .stage)) (now (region .entry))) ⌝ }
+fn in_stage(p: Parts, region: &mut [u8]) -> PartsStep
+    requires { ⌜ (length (now region) ≡ 983040) × (State.inRange (withSources p []) ≡ true) ⌝ }
+    ensures { λ r. ⌜ ((ss : List Source) → stepWith r ss ≡ Due.stepOf (now (region .entry)) (withSources p ss) (p .stage)) × (now (region .exit) ≡ performed (State.target (p .beginning .active)) (Due.opsOf (p .tail) (p .stage)) (now (region .entry))) ⌝ }
 {
-    let s = w.stage;
+    let s = p.stage;
     match s {
-        Stage::Due(o) => operate(w, region, o),
-        Stage::Idle => none_due(w),
-        Stage::Headed => none_due(w),
-        Stage::Committed => none_due(w),
+        Stage::Due(o) => operate(p, region, o),
+        Stage::Idle => none_due(p),
+        Stage::Headed => none_due(p),
+        Stage::Committed => none_due(p),
     }
 }
 
-fn do_due(w: Writer, region: &mut [u8]) -> Step
-    ensures { λ r. ⌜ (r ≡ Due.dueStep (now (region .entry)) w) × (now (region .exit) ≡ Due.dueRegion (now (region .entry)) w) ⌝ }
+fn do_due(p: Parts, region: &mut [u8]) -> PartsStep
+    ensures { λ r. ⌜ ((ss : List Source) → (stepWith r ss ≡ Due.dueStep (now (region .entry)) (withSources p ss)) × (now (region .exit) ≡ Due.dueRegion (now (region .entry)) (withSources p ss))) ⌝ }
 {
+    let b = p.beginning;
+    let t = p.taken;
+    let x = p.tables;
+    let s = p.stage;
     if region.len() == 983040 {
-        if in_range(w) {
-            return in_stage(w, region);
+        if parts_in_range(b, t, x, s) {
+            return in_stage(p, region);
         }
-        return stays(w, Refusal::Turn);
+        return parts_stay(p, Refusal::Turn);
     }
-    stays(w, Refusal::Region)
+    parts_stay(p, Refusal::Region)
 }
 
-// Does the operation that is due, one a call. What it leaves as it was is taken from w itself, which saves copies of it.
+// Does the operation that is due, one a call. What it leaves as it was is taken from p itself, which saves copies of it.
+pub fn due_parts(p: Parts, region: &mut [u8]) -> PartsStep
+    ensures { λ r. ⌜ ((ss : List Source) → (stepWith r ss ≡ Due.dueStep (now (region .entry)) (withSources p ss)) × (now (region .exit) ≡ Due.dueRegion (now (region .entry)) (withSources p ss))) ⌝ }
+{
+    let x = do_due(p, region);
+    let answer = x.answer;
+    let v = x.parts;
+    let stage = v.stage;
+    let taken = v.taken;
+    let parts = Parts { stage, taken, ..p };
+    PartsStep { answer, parts }
+}
+
+// Does the operation that is due, one a call.
 pub fn due(w: Writer, region: &mut [u8]) -> Step
     ensures { λ r. ⌜ (r ≡ Due.dueStep (now (region .entry)) w) × (now (region .exit) ≡ Due.dueRegion (now (region .entry)) w) ⌝ }
 {
-    let x = do_due(w, region);
-    let answer = x.answer;
-    let v = x.writer;
-    let stage = v.stage;
-    let taken = v.taken;
-    let writer = Writer { stage, taken, ..w };
-    Step { answer, writer }
+    let p = parts_of(w);
+    let s = due_parts(p, region);
+    let sources = w.sources;
+    step_with(s, sources)
 }

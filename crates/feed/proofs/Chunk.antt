@@ -15,6 +15,10 @@ use Rattle.writer.specs.declared.Stage.{Stage}
 use Rattle.writer.specs.declared.Stage.the-variants.{Idle, Due, Headed, Committed}
 use Rattle.writer.specs.declared.Taken.{Taken}
 use Rattle.writer.specs.declared.Tables.{Tables}
+use Rattle.record.specs.declared.Source.{Source}
+use Rattle.writer.specs.declared.Parts.{Parts}
+use Rattle.writer.specs.declared.PartsStep.{PartsStep}
+use Rattle.writer.specs.Parts.{withSources, stepWith}
 use Rattle.writer.specs.declared.Writer.{Writer}
 use Rattle.writer.specs.declared.Step.{Step}
 use Rattle.writer.specs.State.{position, isDue, stageOf, aligned, takenOk, tablesOk, operationOk, stageOk, inRange}
@@ -23,6 +27,7 @@ use Rattle.lower.specs.Lower.{mayTake, room, takenMore, withBytes, bytesStep}
 use Rattle.lower.proofs.Laws.{bytes-took, took-some, takes-fits}
 use Rattle.feed.specs.Run.{lowerStep, lowerOps, ranWriter, ranRegion}
 use Rattle.feed.specs.Feed.{dues, feed}
+use Rattle.feed.specs.Parts.{Ran, Fed}
 use Rattle.flash.specs.Flash.{performed}
 use Rattle.feed.proofs.Laws.{quiet, quiet-settled, quiet-dues-writer, quiet-dues-ran, then-writer, then-region, fed-all-writer, fed-all-region}
 
@@ -216,7 +221,7 @@ module _ (region : List ℕ) (w : Writer) (bs : List ℕ) (m : mayTake w ≡ tru
       taken-is : s .writer ≡ withBytes w (take n bs)
       taken-is = ap (λ (x : Step). x .writer) f ∙ all-taken w bs m d k n e
 
-      pub chunk-fed : (1 ≤ n) × (n ≤ length bs) × (ranWriter r v (feed (drop n bs)) ≡ ranWriter region w (feed bs)) × (ranRegion r v (feed (drop n bs)) ≡ ranRegion region w (feed bs))
+      chunk-fed : (1 ≤ n) × (n ≤ length bs) × (ranWriter r v (feed (drop n bs)) ≡ ranWriter region w (feed bs)) × (ranRegion r v (feed (drop n bs)) ≡ ranRegion region w (feed bs))
       chunk-fed =
           let q = split region w bs n m d (some .0) (some .1) (some .2) (omega (arith, some .1)) in (
             some .0,
@@ -224,6 +229,14 @@ module _ (region : List ℕ) (w : Writer) (bs : List ℕ) (m : mayTake w ≡ tru
             then-writer region (s .writer) dues (feed (drop n bs)) v r a b (ranWriter r v (feed (drop n bs))) refl ∙ ap (λ (x : Writer). ranWriter region x (dues ++ feed (drop n bs))) taken-is ∙ sym (q .0),
             then-region region (s .writer) dues (feed (drop n bs)) v r a b (ranRegion r v (feed (drop n bs))) refl ∙ ap (λ (x : Writer). ranRegion region x (dues ++ feed (drop n bs))) taken-is ∙ sym (q .1),
           )
+
+-- the same on parts
+pub chunk-parts : (region : List ℕ) (p : Parts) (bs : List ℕ) → ((ss : List Source) → mayTake (withSources p ss) ≡ true) → isDue (p .taken) ≡ false → position (p .taken) + length bs ≤ 487424 → 1 ≤ length bs
+    → (n : ℕ) → n ≡ min (length bs) (256 - p .taken .fill) → (s : PartsStep) → ((ss : List Source) → stepWith s ss ≡ bytesStep (withSources p ss) bs) → (q : Parts) (r : List ℕ) → Ran region (s .parts) dues q r → Fed region p bs n q r
+chunk-parts region p bs m d k l n e s f q r g = (at [] .0, at [] .1, λ ss. (at ss .2, at ss .3))
+  where
+    at : (ss : List Source) → (1 ≤ n) × (n ≤ length bs) × (ranWriter r (withSources q ss) (feed (drop n bs)) ≡ ranWriter region (withSources p ss) (feed bs)) × (ranRegion r (withSources q ss) (feed (drop n bs)) ≡ ranRegion region (withSources p ss) (feed bs))
+    at ss = chunk-fed region (withSources p ss) bs (m ss) d k l n e (stepWith s ss) (f ss) (withSources q ss) r (g ss .0) (g ss .1)
 
 -- ---- bytes that leave room in the tail, and nothing is due
 

@@ -13,13 +13,16 @@ use Rattle.header.specs.Region.{regionSize}
 use Rattle.flash.specs.Flash.{Op, performed}
 use Rattle.writer.specs.declared.Stage.{Stage}
 use Rattle.writer.specs.declared.Stage.the-variants.{Idle, Due, Headed, Committed}
+use Rattle.writer.specs.declared.Parts.{Parts}
 use Rattle.writer.specs.declared.Writer.{Writer}
+use Rattle.writer.specs.Parts.{partsOf, withSources}
 use Rattle.writer.specs.declared.Step.{Step}
 use Rattle.writer.specs.State.{stays, inRange, target}
 use Rattle.lower.specs.Lower.{bytesStep}
 use Rattle.due.specs.Due.{dueStep, dueOps, dueRegion, stepOf, opsOf}
 use Rattle.feed.specs.Run.{Lower, bytes, due, lowerStep, lowerOps, lowerRegion, ranWriter, ranRegion}
 use Rattle.feed.specs.Feed.{dues, feed}
+use Rattle.feed.specs.Parts.{Ran}
 
 -- ---- what is due
 
@@ -145,3 +148,9 @@ module _ (region : List ℕ) (w : Writer) (bs : List ℕ) (i : ℕ) (h : length 
   pub fed-all-region : (x : List ℕ) → ranRegion region w (feed (drop i bs)) ≡ x → region ≡ x
   unfolding feed ranRegion
   fed-all-region x e = ap (λ (l : List ℕ). ranRegion region w (feed l)) (sym (drop-of-length-le bs h)) ∙ e
+
+-- a run on a whole state, by its parts
+pub joined : (region : List ℕ) (w : Writer) (cs : List Lower) (p q : Parts) (v : Writer) (r : List ℕ) → p ≡ partsOf w → Ran region p cs q r → v ≡ withSources q (w .sources) → (v ≡ ranWriter region w cs) × (r ≡ ranRegion region w cs)
+joined region w cs p q v r e f h =
+    let ss = w .sources in
+    (h ∙ f ss .0 ∙ ap (λ (x : Parts). ranWriter region (withSources x ss) cs) e, f ss .1 ∙ ap (λ (x : Parts). ranRegion region (withSources x ss) cs) e)

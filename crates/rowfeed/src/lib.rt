@@ -2,26 +2,36 @@
 ghost use mathlib.Core.Path.{_≡_};
 ghost use mathlib.Core.Bool.{true};
 ghost use Prim.Native.Nat.{_≤_};
-ghost use mathlib.Core.List.{_∷_, _++_};
+ghost use mathlib.Core.List.{List, _∷_, _++_};
 ghost use lib.ListN.{length, take};
 ghost use Rattle.row.specs.Columns.{namesLine};
+ghost use Rattle.record.specs.declared.Source.{Source};
+ghost use Rattle.writer.specs.Parts.{withSources, stepWith};
 ghost use Rattle.feed.specs.Run as Run;
 ghost use Rattle.feed.specs.Run.{ranWriter, ranRegion};
 ghost use Rattle.feed.specs.Feed as Feed;
+ghost use Rattle.feed.specs.Parts as Partly;
 ghost use Rattle.update.specs.Upper as Upper;
-use feed::feed_line;
+use feed::feed_line_parts;
 use feed::settle;
 use feed::settle_feed;
 use lower::is_open;
 use lower::may_begin;
 use lower::may_take;
+use lower::may_take_parts;
 use refusal::Refusal;
 use row::RowAnswer;
 use update::fits;
+use writer::Parts;
+use writer::PartsStep;
 use writer::Step;
 use writer::Writer;
 use writer::did;
+use writer::parts_did;
+use writer::parts_of;
+use writer::parts_stay;
 use writer::stays;
+use writer::step_with;
 
 // A table's names line stands in the first n bytes.
 struct Line {
@@ -76,69 +86,69 @@ pub fn table(w: Writer, region: &mut [u8], table: u32) -> Step
 }
 
 // The run of a row, which stands in the first n bytes.
-fn run_row(w: Writer, region: &mut [u8], bytes: &[u8], n: usize) -> Writer
+fn run_row(p: Parts, region: &mut [u8], bytes: &[u8], n: usize) -> Parts
     requires { ⌜ n ≤ length (now bytes) ⌝ }
-    ensures { λ r. ⌜ (r ≡ ranWriter (now (region .entry)) w (Feed.dues ++ (Feed.dues ++ Feed.feed (take n (now (bytes .entry)))))) × (now (region .exit) ≡ ranRegion (now (region .entry)) w (Feed.dues ++ (Feed.dues ++ Feed.feed (take n (now (bytes .entry)))))) ⌝ }
+    ensures { λ r. ⌜ Partly.Ran (now (region .entry)) p (Feed.dues ++ (Feed.dues ++ Feed.feed (take n (now (bytes .entry))))) r (now (region .exit)) ⌝ }
 {
     let line = &bytes[0..n];
-    feed_line(w, region, line)
-}
-
-// The run of a long row, which stands in the first n bytes.
-fn run_long(w: Writer, region: &mut [u8], bytes: &[u8], n: usize) -> Writer
-    requires { ⌜ n ≤ length (now bytes) ⌝ }
-    ensures { λ r. ⌜ (r ≡ ranWriter (now (region .entry)) w (Feed.dues ++ (Feed.dues ++ Feed.feed (take n (now (bytes .entry)))))) × (now (region .exit) ≡ ranRegion (now (region .entry)) w (Feed.dues ++ (Feed.dues ++ Feed.feed (take n (now (bytes .entry)))))) ⌝ }
-{
-    let line = &bytes[0..n];
-    let v = settle(w, region);
-    settle_feed(v, region, line)
+    feed_line_parts(p, region, line)
 }
 
 // Feeds a row of the open table, where it is one and fits, of up to 8,192 bytes.
-fn long_row(w: Writer, region: &mut [u8], texts: &[u8], lengths: &[u32]) -> Step
-    requires { ⌜ (length (now region) ≡ 983040) × (Upper.orderOk w (Upper.row (now texts) (now lengths)) ≡ true) × (w .tables .table ≤ 7) ⌝ }
-    ensures { λ r. ⌜ (r ≡ Upper.upperStep (now (region .entry)) w (Upper.row (now (texts .entry)) (now (lengths .entry)))) × (now (region .exit) ≡ Upper.upperRegion (now (region .entry)) w (Upper.row (now (texts .entry)) (now (lengths .entry)))) ⌝ }
+fn long_row(p: Parts, region: &mut [u8], texts: &[u8], lengths: &[u32]) -> PartsStep
+    requires { ⌜ (length (now region) ≡ 983040) × ((ss : List Source) → Upper.orderOk (withSources p ss) (Upper.row (now texts) (now lengths)) ≡ true) × (p .tables .table ≤ 7) ⌝ }
+    ensures { λ r. ⌜ ((ss : List Source) → (stepWith r ss ≡ Upper.upperStep (now (region .entry)) (withSources p ss) (Upper.row (now (texts .entry)) (now (lengths .entry)))) × (now (region .exit) ≡ Upper.upperRegion (now (region .entry)) (withSources p ss) (Upper.row (now (texts .entry)) (now (lengths .entry))))) ⌝ }
 {
-    let x = w.tables;
+    let x = p.tables;
     let mut out = [0u8; 8192];
     let a = row::row(x.table, texts, lengths, &mut out);
     let RowAnswer::Written(n) = a else {
-        return stays(w, Refusal::Row);
+        return parts_stay(p, Refusal::Row);
     };
-    if fits(w.taken, n) {
-        let v = run_long(w, region, &out, n);
-        return did(v);
+    if fits(p.taken, n) {
+        let q = run_row(p, region, &out, n);
+        return parts_did(q);
     }
-    stays(w, Refusal::Full)
+    parts_stay(p, Refusal::Full)
 }
 
 // Feeds a row of the open table, where it is one and fits; first tried in few bytes, which are quickly made.
-fn row_in(w: Writer, region: &mut [u8], texts: &[u8], lengths: &[u32]) -> Step
-    requires { ⌜ (length (now region) ≡ 983040) × (Upper.orderOk w (Upper.row (now texts) (now lengths)) ≡ true) × (w .tables .table ≤ 7) ⌝ }
-    ensures { λ r. ⌜ (r ≡ Upper.upperStep (now (region .entry)) w (Upper.row (now (texts .entry)) (now (lengths .entry)))) × (now (region .exit) ≡ Upper.upperRegion (now (region .entry)) w (Upper.row (now (texts .entry)) (now (lengths .entry)))) ⌝ }
+fn row_in(p: Parts, region: &mut [u8], texts: &[u8], lengths: &[u32]) -> PartsStep
+    requires { ⌜ (length (now region) ≡ 983040) × ((ss : List Source) → Upper.orderOk (withSources p ss) (Upper.row (now texts) (now lengths)) ≡ true) × (p .tables .table ≤ 7) ⌝ }
+    ensures { λ r. ⌜ ((ss : List Source) → (stepWith r ss ≡ Upper.upperStep (now (region .entry)) (withSources p ss) (Upper.row (now (texts .entry)) (now (lengths .entry)))) × (now (region .exit) ≡ Upper.upperRegion (now (region .entry)) (withSources p ss) (Upper.row (now (texts .entry)) (now (lengths .entry))))) ⌝ }
 {
-    let x = w.tables;
+    let x = p.tables;
     let mut out = [0u8; 512];
     let a = row::row(x.table, texts, lengths, &mut out);
     let RowAnswer::Written(n) = a else {
-        return long_row(w, region, texts, lengths);
+        return long_row(p, region, texts, lengths);
     };
-    if fits(w.taken, n) {
-        let v = run_row(w, region, &out, n);
-        return did(v);
+    if fits(p.taken, n) {
+        let q = run_row(p, region, &out, n);
+        return parts_did(q);
     }
-    stays(w, Refusal::Full)
+    parts_stay(p, Refusal::Full)
 }
 
-// Feeds a row of the open table: its values one behind the other, and their lengths.
+// Feeds a row of the open table: its values one behind the other, and their lengths; the sources, whichever they are, stay.
+pub fn row_parts(p: Parts, region: &mut [u8], texts: &[u8], lengths: &[u32]) -> PartsStep
+    ensures { λ r. ⌜ ((ss : List Source) → (stepWith r ss ≡ Upper.upperStep (now (region .entry)) (withSources p ss) (Upper.row (now (texts .entry)) (now (lengths .entry)))) × (now (region .exit) ≡ Upper.upperRegion (now (region .entry)) (withSources p ss) (Upper.row (now (texts .entry)) (now (lengths .entry))))) ⌝ }
+{
+    if region.len() == 983040 {
+        if may_take_parts(p) & is_open(p.tables) {
+            return row_in(p, region, texts, lengths);
+        }
+        return parts_stay(p, Refusal::Turn);
+    }
+    parts_stay(p, Refusal::Region)
+}
+
+// Feeds a row of the open table.
 pub fn row(w: Writer, region: &mut [u8], texts: &[u8], lengths: &[u32]) -> Step
     ensures { λ r. ⌜ (r ≡ Upper.upperStep (now (region .entry)) w (Upper.row (now (texts .entry)) (now (lengths .entry)))) × (now (region .exit) ≡ Upper.upperRegion (now (region .entry)) w (Upper.row (now (texts .entry)) (now (lengths .entry)))) ⌝ }
 {
-    if region.len() == 983040 {
-        if may_take(w) & is_open(w.tables) {
-            return row_in(w, region, texts, lengths);
-        }
-        return stays(w, Refusal::Turn);
-    }
-    stays(w, Refusal::Region)
+    let p = parts_of(w);
+    let s = row_parts(p, region, texts, lengths);
+    let sources = w.sources;
+    step_with(s, sources)
 }

@@ -10,6 +10,7 @@ ghost use Rattle.saved.specs.State.{writerOf};
 ghost use Rattle.saved.specs.Answers as Answers;
 ghost use Rattle.updateexport.specs.Stamp.{stampOf};
 use commit::Stamp;
+use due::due_parts;
 use record::decode;
 use saved::State;
 use saved::UpdateStep;
@@ -86,16 +87,9 @@ pub extern "C" fn tt_update_due(region: &mut [u8], state: State) -> UpdateStep
     ensures { λ x. ⌜ x ≡ Answers.after (Due.dueStep (now (region .entry)) (writerOf state)) state ⌝ }
     ensures { λ _. ⌜ now (region .exit) ≡ Due.dueRegion (now (region .entry)) (writerOf state) ⌝ }
 {
-    let s = due::due(writer_of(state), region);
-    let x = after(s, state);
-    let numbers = x.numbers;
-    // the sources and the tail stay
-    let sources = state.sources;
-    let tail = state.tail;
-    let mut v = x.state;
-    v.sources = sources;
-    v.tail = tail;
-    UpdateStep { numbers, state: v }
+    let p = parts_of(state);
+    let s = due_parts(p, region);
+    after_parts(s, state)
 }
 
 // Whether the active bank is what was compared with it.

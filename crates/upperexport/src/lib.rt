@@ -6,9 +6,12 @@ ghost use Rattle.update.specs.Upper as Upper;
 ghost use Rattle.saved.specs.State.{writerOf};
 ghost use Rattle.saved.specs.Answers as Answers;
 use record::decode;
+use rowfeed::row_parts;
 use saved::State;
 use saved::UpdateStep;
 use saved::after;
+use saved::after_parts;
+use saved::parts_of;
 use saved::writer_of;
 
 // Begins an update and feeds the key of an identity and picks; five lengths to a pick.
@@ -61,8 +64,9 @@ pub extern "C" fn tt_upper_row(
     ensures { λ x. ⌜ x ≡ Answers.after (Upper.upperStep (now (region .entry)) (writerOf state) (Upper.row (now (texts .entry)) (now (lengths .entry)))) state ⌝ }
     ensures { λ _. ⌜ now (region .exit) ≡ Upper.upperRegion (now (region .entry)) (writerOf state) (Upper.row (now (texts .entry)) (now (lengths .entry))) ⌝ }
 {
-    let s = rowfeed::row(writer_of(state), region, texts, lengths);
-    after(s, state)
+    let p = parts_of(state);
+    let s = row_parts(p, region, texts, lengths);
+    after_parts(s, state)
 }
 
 // Ends the open table.

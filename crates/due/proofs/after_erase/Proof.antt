@@ -1,3 +1,4 @@
+use Rattle.writer.specs.Parts.{withSources}
 use mathlib.Core.Path.{ap}
 use Rattle.writer.specs.declared.Operation.{Operation}
 use Rattle.writer.specs.declared.Stage.the-variants.{Due}
@@ -11,8 +12,8 @@ next-due-requires c κs = search needs
 
 returns : tie.Need-returns
 returns c =
-    let n = c .before .before .before .before .before in
-    ap (λ (o : Operation). withStage (n .before .args .w) (Due o)) (n .next-due .ensures)
+    let n = c .before .before .before .before in
+    λ ss. ap (λ (o : Operation). withStage (withSources (n .before .args .p) ss) (Due o)) (n .next-due .ensures)
 
 pub after-erase-spec : {M : Type 1} → statement M
 after-erase-spec = tie.close (tie.spec next-due-requires returns)

@@ -1,3 +1,5 @@
+use Rattle.writer.specs.Parts.{withSources, stepWith}
+use Rattle.writer.specs.declared.PartsStep.{PartsStep}
 use mathlib.Core.Path.{ap, _∙_}
 use mathlib.Core.Bool.{Bool, _||_}
 use Rattle.writer.specs.State.{did}
@@ -13,14 +15,14 @@ differs-requires c κs = search needs
 with-emptied-requires : tie.Need-with-emptied-requires
 with-emptied-requires c κs = search needs
 
-did-requires : tie.Need-did-requires
-did-requires c κs = search needs
+parts-did-requires : tie.Need-parts-did-requires
+parts-did-requires c κs = search needs
 
 returns : tie.Need-returns
 returns c =
     let d = c .before .before .before in
     let a = d .before .before .before .before .before .args in
-    c .did .ensures ∙ ap did (c .before .with-emptied .ensures ∙ ap (λ (t : Bool). withEmptied (a .w) (a .w .taken .different || t)) (d .differs .ensures) ∙ compared (a .region .now) (a .w) (a .offset) (a .n))
+    λ ss. ap (λ (s : PartsStep). stepWith s ss) (c .parts-did .ensures) ∙ ap did (c .before .with-emptied .ensures ss ∙ ap (λ (t : Bool). withEmptied (withSources (a .p) ss) (a .p .taken .different || t)) (d .differs .ensures) ∙ compared (a .region .now) (withSources (a .p) ss) (a .offset) (a .n))
 
 pub do-compare-spec : {M : Type 1} → statement M
-do-compare-spec = tie.close (tie.spec differs-requires with-emptied-requires did-requires returns)
+do-compare-spec = tie.close (tie.spec differs-requires with-emptied-requires parts-did-requires returns)

@@ -1,56 +1,66 @@
-use mathlib.Core.Path.{sym, _∙_}
+use mathlib.Core.Path.{sym, ap, _∙_}
+use mathlib.Core.List.{[]}
 use native.Mathlib.Omega.{arith}
+use Rattle.writer.specs.declared.PartsStep.{PartsStep}
+use Rattle.writer.specs.State.{inRange}
+use Rattle.writer.specs.Parts.{withSources, stepWith}
 use Rattle.due.proofs.Laws.{due-stage, due-turn, due-region, region-stage, region-turn, region-other}
 use borrow.Author.Needs.{needs}
 use Rattle.due.proofs.do_due.Statement.{statement}
 use Rattle.due.proofs.do_due.Tie as tie
 
-in-range-requires : tie.Need-in-range-requires
-in-range-requires c κs = search needs
+parts-in-range-requires : tie.Need-parts-in-range-requires
+parts-in-range-requires c κs = search needs
 
 in-stage-requires : tie.Need-in-stage-requires
+unfolding inRange
 in-stage-requires c κs =
     let r = c .before .before in
-    (omega arith, sym (r .in-range .ensures) ∙ c .before .if2 .taken)
+    (omega arith, sym (r .parts-in-range .ensures) ∙ c .before .if2 .taken)
 
 same-length : tie.Need-same-length
 same-length c = search needs
 
 returns : tie.Need-returns
-returns c =
+unfolding inRange
+returns c = λ ss.
     let s = c .before .before in
     let r = s .before .before .before in
-    let a = r .before .before .before .args in
-    let h = sym (r .in-range .ensures) ∙ s .before .before .if2 .taken in
-    (s .in-stage .ensures .0 ∙ due-stage (a .region .now) (a .w) (omega arith) h, s .in-stage .ensures .1 ∙ region-stage (a .region .now) (a .w) (omega arith) h)
+    let a = r .before .before .before .before .before .before .args in
+    let w = withSources (a .p) ss in
+    let h = sym (r .parts-in-range .ensures) ∙ s .before .before .if2 .taken in
+    (s .in-stage .ensures .0 ss ∙ due-stage (a .region .now) w (omega arith) h, s .in-stage .ensures .1 ∙ region-stage (a .region .now) w (omega arith) h)
 
-stays-requires : tie.Need-stays-requires
-stays-requires c κs = search needs
+parts-stay-requires : tie.Need-parts-stay-requires
+parts-stay-requires c κs = search needs
 
 returns-2 : tie.Need-returns-2
-returns-2 c =
+unfolding inRange
+returns-2 c = λ ss.
     let r = c .before .before in
-    let a = r .before .before .before .args in
-    let h = sym (r .in-range .ensures) ∙ c .before .if2 .left in
-    (c .stays .ensures ∙ due-turn (a .region .now) (a .w) (omega arith) h, region-turn (a .region .now) (a .w) h)
+    let a = r .before .before .before .before .before .before .args in
+    let w = withSources (a .p) ss in
+    let h = sym (r .parts-in-range .ensures) ∙ c .before .if2 .left in
+    (ap (λ (s : PartsStep). stepWith s ss) (c .parts-stay .ensures) ∙ due-turn (a .region .now) w (omega arith) h, region-turn (a .region .now) w h)
 
-stays-requires-2 : tie.Need-stays-requires-2
-stays-requires-2 c κs = search needs
+parts-stay-requires-2 : tie.Need-parts-stay-requires-2
+parts-stay-requires-2 c κs = search needs
 
 returns-3 : tie.Need-returns-3
-returns-3 c =
-    let a = c .before .before .before .args in
-    (c .stays2 .ensures ∙ due-region (a .region .now) (a .w) (λ e. omega arith), region-other (a .region .now) (a .w) (λ e. omega arith))
+returns-3 c = λ ss.
+    let a = c .before .before .before .before .before .before .args in
+    let w = withSources (a .p) ss in
+    (ap (λ (s : PartsStep). stepWith s ss) (c .parts-stay2 .ensures) ∙ due-region (a .region .now) w (λ e. omega arith), region-other (a .region .now) w (λ e. omega arith))
 
 pub do-due-spec : {M : Type 1} → statement M
 do-due-spec =
     tie.close
     (tie.spec
-    in-range-requires
+    parts-in-range-requires
     in-stage-requires
     same-length
     returns
-    stays-requires
+    parts-stay-requires
     returns-2
-    stays-requires-2
+    parts-stay-requires-2
     returns-3)

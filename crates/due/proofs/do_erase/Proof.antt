@@ -1,3 +1,5 @@
+use Rattle.writer.specs.Parts.{withSources, stepWith}
+use Rattle.writer.specs.declared.PartsStep.{PartsStep}
 use mathlib.Core.Path.{ap, _∙_}
 use Prim.Native.Nat.{ℕ, _*_}
 use native.Mathlib.Omega.{arith}
@@ -20,8 +22,8 @@ erase-requires c κs = search needs
 after-erase-requires : tie.Need-after-erase-requires
 after-erase-requires c κs = search needs
 
-did-requires : tie.Need-did-requires
-did-requires c κs = search needs
+parts-did-requires : tie.Need-parts-did-requires
+parts-did-requires c κs = search needs
 
 same-length : tie.Need-same-length
 same-length c = search needs
@@ -32,8 +34,8 @@ returns c =
     let t = e .before .before in
     let s = t .before .before .before in
     let a = s .args in
-    let l = a .w .beginning .active in (
-      c .did .ensures ∙ ap did (c .before .after-erase .ensures ∙ erased (a .region .now) (a .w) (a .sector)),
+    let l = a .p .beginning .active in (
+      λ ss. ap (λ (s : PartsStep). stepWith s ss) (c .parts-did .ensures) ∙ ap did (c .before .after-erase .ensures ss ∙ erased (a .region .now) (withSources (a .p) ss) (a .sector)),
       e .erase .ensures ∙ ap (λ (n : ℕ). erasedIn (a .region .now) n (a .sector * 4096)) (t .target .ensures) ∙ one-op (a .region .now) (target l) (erase (a .sector * 4096)) (s .pre .0) (target-fits l) (omega (arith, s .pre .1)),
     )
 
@@ -45,6 +47,6 @@ do-erase-spec =
     mul-erase
     erase-requires
     after-erase-requires
-    did-requires
+    parts-did-requires
     same-length
     returns)

@@ -1,3 +1,5 @@
+use Rattle.writer.specs.Parts.{withSources, stepWith}
+use Rattle.writer.specs.declared.PartsStep.{PartsStep}
 use mathlib.Core.Path.{ap, _∙_}
 use Prim.Native.Nat.{ℕ, _+_}
 use native.Mathlib.Omega.{arith}
@@ -19,8 +21,8 @@ write-tail-requires c κs = search needs
 with-emptied-requires : tie.Need-with-emptied-requires
 with-emptied-requires c κs = search needs
 
-did-requires : tie.Need-did-requires
-did-requires c κs = search needs
+parts-did-requires : tie.Need-parts-did-requires
+parts-did-requires c κs = search needs
 
 same-length : tie.Need-same-length
 same-length c = search needs
@@ -31,10 +33,10 @@ returns c =
     let t = v .before .before .before in
     let s = t .before .before .before in
     let a = s .args in
-    let l = a .w .beginning .active in
-    let y = length-padded (take (a .n) (a .w .tail)) (omega (arith, length-take (a .n) (a .w .tail), s .pre .1)) in (
-      c .did .ensures ∙ ap did (c .before .with-emptied .ensures ∙ written-tail (a .region .now) (a .w) (a .offset) (a .n)),
-      v .write-tail .ensures ∙ ap (λ (n : ℕ). writtenIn (a .region .now) n (4096 + a .offset) (padded (take (a .n) (a .w .tail)))) (t .target .ensures) ∙ one-op (a .region .now) (target l) (write (4096 + a .offset) (padded (take (a .n) (a .w .tail)))) (s .pre .0) (target-fits l) (omega (arith, y, s .pre .2)),
+    let l = a .p .beginning .active in
+    let y = length-padded (take (a .n) (a .p .tail)) (omega (arith, length-take (a .n) (a .p .tail), s .pre .1)) in (
+      λ ss. ap (λ (s : PartsStep). stepWith s ss) (c .parts-did .ensures) ∙ ap did (c .before .with-emptied .ensures ss ∙ written-tail (a .region .now) (withSources (a .p) ss) (a .offset) (a .n)),
+      v .write-tail .ensures ∙ ap (λ (n : ℕ). writtenIn (a .region .now) n (4096 + a .offset) (padded (take (a .n) (a .p .tail)))) (t .target .ensures) ∙ one-op (a .region .now) (target l) (write (4096 + a .offset) (padded (take (a .n) (a .p .tail)))) (s .pre .0) (target-fits l) (omega (arith, y, s .pre .2)),
     )
 
 pub do-write-spec : {M : Type 1} → statement M
@@ -44,6 +46,6 @@ do-write-spec =
     target-requires
     write-tail-requires
     with-emptied-requires
-    did-requires
+    parts-did-requires
     same-length
     returns)

@@ -1,3 +1,5 @@
+use Rattle.writer.specs.Parts.{withSources, stepWith}
+use Rattle.writer.specs.declared.PartsStep.{PartsStep}
 use mathlib.Core.Path.{sym, ap, _∙_}
 use Rattle.flash.specs.Flash.{performed}
 use Rattle.writer.specs.declared.Stage.{Stage}
@@ -41,8 +43,8 @@ returns c =
     let o = c .before .before .before .before .before in
     let a = o .before .before .before .args in
     let h = o .s .given .1 in (
-      c .before .before .operate .ensures .0 ∙ sym (ap (stepOf (a .region .now) (a .w)) h),
-      c .before .before .operate .ensures .1 ∙ sym (ap (λ (x : Stage). performed (target (a .w .beginning .active)) (opsOf (a .w .tail) x) (a .region .now)) h),
+      λ ss. c .before .before .operate .ensures .0 ss ∙ sym (ap (stepOf (a .region .now) (withSources (a .p) ss)) h),
+      c .before .before .operate .ensures .1 ∙ sym (ap (λ (x : Stage). performed (target (a .p .beginning .active)) (opsOf (a .p .tail) x) (a .region .now)) h),
     )
 
 returns-2 : tie.Need-returns-2
@@ -50,8 +52,8 @@ unfolding performed
 returns-2 c =
     let a = c .before .before .before .before .args in
     let h = c .before .enum-told .given .1 in (
-      c .none-due .ensures ∙ sym (ap (stepOf (a .region .now) (a .w)) h),
-      sym (ap (λ (x : Stage). performed (target (a .w .beginning .active)) (opsOf (a .w .tail) x) (a .region .now)) h),
+      λ ss. ap (λ (s : PartsStep). stepWith s ss) (c .none-due .ensures) ∙ sym (ap (stepOf (a .region .now) (withSources (a .p) ss)) h),
+      sym (ap (λ (x : Stage). performed (target (a .p .beginning .active)) (opsOf (a .p .tail) x) (a .region .now)) h),
     )
 
 returns-3 : tie.Need-returns-3
@@ -59,8 +61,8 @@ unfolding performed
 returns-3 c =
     let a = c .before .before .before .before .args in
     let h = c .before .enum-told2 .given .1 in (
-      c .none-due2 .ensures ∙ sym (ap (stepOf (a .region .now) (a .w)) h),
-      sym (ap (λ (x : Stage). performed (target (a .w .beginning .active)) (opsOf (a .w .tail) x) (a .region .now)) h),
+      λ ss. ap (λ (s : PartsStep). stepWith s ss) (c .none-due2 .ensures) ∙ sym (ap (stepOf (a .region .now) (withSources (a .p) ss)) h),
+      sym (ap (λ (x : Stage). performed (target (a .p .beginning .active)) (opsOf (a .p .tail) x) (a .region .now)) h),
     )
 
 returns-4 : tie.Need-returns-4
@@ -68,8 +70,8 @@ unfolding performed
 returns-4 c =
     let a = c .before .before .before .before .args in
     let h = c .before .enum-told3 .given .1 in (
-      c .none-due3 .ensures ∙ sym (ap (stepOf (a .region .now) (a .w)) h),
-      sym (ap (λ (x : Stage). performed (target (a .w .beginning .active)) (opsOf (a .w .tail) x) (a .region .now)) h),
+      λ ss. ap (λ (s : PartsStep). stepWith s ss) (c .none-due3 .ensures) ∙ sym (ap (stepOf (a .region .now) (withSources (a .p) ss)) h),
+      sym (ap (λ (x : Stage). performed (target (a .p .beginning .active)) (opsOf (a .p .tail) x) (a .region .now)) h),
     )
 
 pub in-stage-spec : {M : Type 1} → statement M

@@ -1,3 +1,5 @@
+use mathlib.Core.List.{[]}
+use Rattle.writer.specs.Parts.{withSources}
 use mathlib.Core.Path.{sym, ap, _∙_}
 use Rattle.flash.specs.Flash.{performed}
 use Rattle.writer.specs.declared.Operation.{Operation}
@@ -18,7 +20,7 @@ do-erase-requires c κs =
     let o = c .before .before in
     let s = o .before .before .before in
     let a = s .args in
-    (s .pre .0, erase-ranged (a .w) _ (s .pre .1) (s .pre .2 ∙ ap Due (o .o .given .1)))
+    (s .pre .0, erase-ranged (withSources (a .p) []) _ (s .pre .1) (s .pre .2 ∙ ap Due (o .o .given .1)))
 
 enum-known-o-2 : tie.Need-enum-known-o-2
 enum-known-o-2 c = search needs
@@ -28,8 +30,8 @@ do-write-requires c κs =
     let o = c .before .before in
     let s = o .before .before .before in
     let a = s .args in
-    let f = write-ranged (a .w) _ _ (s .pre .1) (s .pre .2 ∙ ap Due (o .o2 .given .1)) in
-    (s .pre .0, f .0, f .1, position-fits (a .w .taken) (ranged (a .w) (s .pre .1) .taken))
+    let f = write-ranged (withSources (a .p) []) _ _ (s .pre .1) (s .pre .2 ∙ ap Due (o .o2 .given .1)) in
+    (s .pre .0, f .0, f .1, position-fits (a .p .taken) (ranged (withSources (a .p) []) (s .pre .1) .taken))
 
 enum-known-o-3 : tie.Need-enum-known-o-3
 enum-known-o-3 c = search needs
@@ -37,8 +39,8 @@ enum-known-o-3 c = search needs
 do-compare-requires : tie.Need-do-compare-requires
 do-compare-requires c κs =
     let s = c .before .before .before .before .before in
-    let r = ranged (s .args .w) (s .pre .1) .taken in
-    (fill-fits (s .args .w .taken) r, position-fits (s .args .w .taken) r)
+    let r = ranged (withSources (s .args .p) []) (s .pre .1) .taken in
+    (fill-fits (s .args .p .taken) r, position-fits (s .args .p .taken) r)
 
 same-length : tie.Need-same-length
 same-length c = search needs
@@ -49,8 +51,8 @@ returns c =
     let s = o .before .before .before in
     let a = s .args in
     let h = o .o .given .1 in (
-      c .before .before .do-erase .ensures .0 ∙ sym (ap (λ (x : Operation). did (operated (a .region .now) (a .w) x)) h),
-      c .before .before .do-erase .ensures .1 ∙ sym (ap (λ (x : Operation). performed (target (a .w .beginning .active)) (opsOf (a .w .tail) (Due x)) (a .region .now)) h),
+      λ ss. c .before .before .do-erase .ensures .0 ss ∙ sym (ap (λ (x : Operation). did (operated (a .region .now) (withSources (a .p) ss) x)) h),
+      c .before .before .do-erase .ensures .1 ∙ sym (ap (λ (x : Operation). performed (target (a .p .beginning .active)) (opsOf (a .p .tail) (Due x)) (a .region .now)) h),
     )
 
 same-length-2 : tie.Need-same-length-2
@@ -62,8 +64,8 @@ returns-2 c =
     let s = o .before .before .before in
     let a = s .args in
     let h = o .o2 .given .1 in (
-      c .before .before .do-write .ensures .0 ∙ sym (ap (λ (x : Operation). did (operated (a .region .now) (a .w) x)) h),
-      c .before .before .do-write .ensures .1 ∙ sym (ap (λ (x : Operation). performed (target (a .w .beginning .active)) (opsOf (a .w .tail) (Due x)) (a .region .now)) h),
+      λ ss. c .before .before .do-write .ensures .0 ss ∙ sym (ap (λ (x : Operation). did (operated (a .region .now) (withSources (a .p) ss) x)) h),
+      c .before .before .do-write .ensures .1 ∙ sym (ap (λ (x : Operation). performed (target (a .p .beginning .active)) (opsOf (a .p .tail) (Due x)) (a .region .now)) h),
     )
 
 same-length-3 : tie.Need-same-length-3
@@ -76,8 +78,8 @@ returns-3 c =
     let s = o .before .before .before in
     let a = s .args in
     let h = o .o3 .given .1 in (
-      c .do-compare .ensures ∙ sym (ap (λ (x : Operation). did (operated (a .region .now) (a .w) x)) h),
-      sym (ap (λ (x : Operation). performed (target (a .w .beginning .active)) (opsOf (a .w .tail) (Due x)) (a .region .now)) h),
+      λ ss. c .do-compare .ensures ss ∙ sym (ap (λ (x : Operation). did (operated (a .region .now) (withSources (a .p) ss) x)) h),
+      sym (ap (λ (x : Operation). performed (target (a .p .beginning .active)) (opsOf (a .p .tail) (Due x)) (a .region .now)) h),
     )
 
 pub operate-spec : {M : Type 1} → statement M

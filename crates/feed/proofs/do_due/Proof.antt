@@ -1,10 +1,11 @@
+use Rattle.writer.specs.Parts.{withSources, stepWith}
 use Rattle.feed.proofs.Laws.{one-two}
 use borrow.Author.Needs.{needs}
 use Rattle.feed.proofs.do_due.Statement.{statement}
 use Rattle.feed.proofs.do_due.Tie as tie
 
-due-requires : tie.Need-due-requires
-due-requires c κs = search needs
+due-parts-requires : tie.Need-due-parts-requires
+due-parts-requires c κs = search needs
 
 settle-two-requires : tie.Need-settle-two-requires
 settle-two-requires c κs = search needs
@@ -17,7 +18,7 @@ returns c =
     let y = c .before .before .settle-two in
     let z = c .before .before .before .before .before .before in
     let a = z .before .before .before .args in
-    one-two (a .region .now) (a .w) (z .due .result) (z .due .last .1 .0) (z .due .ensures .0) (z .due .ensures .1) (y .result) (y .last .1 .0) (y .ensures .0) (y .ensures .1)
+    λ ss. one-two (a .region .now) (withSources (a .p) ss) (stepWith (z .due-parts .result) ss) (z .due-parts .last .1 .0) (z .due-parts .ensures ss .0) (z .due-parts .ensures ss .1) (withSources (y .result) ss) (y .last .1 .0) (y .ensures ss .0) (y .ensures ss .1)
 
 pub do-due-spec : {M : Type 1} → statement M
-do-due-spec = tie.close (tie.spec due-requires settle-two-requires same-length returns)
+do-due-spec = tie.close (tie.spec due-parts-requires settle-two-requires same-length returns)

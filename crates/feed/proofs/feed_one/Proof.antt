@@ -1,3 +1,4 @@
+use Rattle.writer.specs.Parts.{withSources, stepWith}
 use native.Mathlib.Omega.{arith}
 use Rattle.feed.proofs.Laws.{one-fed}
 use borrow.Author.Needs.{needs}
@@ -13,11 +14,11 @@ part-one-start c = search needs
 part-one-end : tie.Need-part-one-end
 part-one-end c = search needs
 
-bytes-requires : tie.Need-bytes-requires
-bytes-requires c κs = search needs
+take-parts-requires : tie.Need-take-parts-requires
+take-parts-requires c κs = search needs
 
-settle-requires : tie.Need-settle-requires
-settle-requires c κs = search needs
+settle-parts-requires : tie.Need-settle-parts-requires
+settle-parts-requires c κs = search needs
 
 same-length : tie.Need-same-length
 same-length c = search needs
@@ -27,8 +28,9 @@ returns c =
     let t = c .before .before in
     let s = t .before .before in
     let a = s .before .before .before .before .args in
-    let f = one-fed (a .region .now) (a .w) (a .bytes .now) (omega arith) (s .bytes .result) (s .bytes .ensures) (t .settle .result) (t .settle .last .1 .0) (t .settle .ensures .0) (t .settle .ensures .1) in
-    (omega arith, omega arith, f .0, f .1)
+    let q = t .settle-parts in
+    let b = s .take-parts in
+    (omega arith, omega arith, λ ss. one-fed (a .region .now) (withSources (a .p) ss) (a .bytes .now) (omega arith) (stepWith (b .result) ss) (b .ensures ss) (withSources (q .result) ss) (q .last .1 .0) (q .ensures ss .0) (q .ensures ss .1))
 
 pub feed-one-spec : {M : Type 1} → statement M
 feed-one-spec =
@@ -37,7 +39,7 @@ feed-one-spec =
     sub-one
     part-one-start
     part-one-end
-    bytes-requires
-    settle-requires
+    take-parts-requires
+    settle-parts-requires
     same-length
     returns)

@@ -1,3 +1,5 @@
+use Rattle.writer.specs.Parts.{withSources}
+use mathlib.Core.List.{[]}
 use mathlib.Core.Path.{sym, _∙_}
 use mathlib.Core.Bool.{not, _&&_}
 use native.Mathlib.Omega.{arith}
@@ -10,8 +12,8 @@ use borrow.Author.Needs.{needs}
 use Rattle.feed.proofs.feed_some.Statement.{statement}
 use Rattle.feed.proofs.feed_some.Tie as tie
 
-may-take-requires : tie.Need-may-take-requires
-may-take-requires c κs = search needs
+may-take-parts-requires : tie.Need-may-take-parts-requires
+may-take-parts-requires c κs = search needs
 
 is-due-requires : tie.Need-is-due-requires
 is-due-requires c κs = search needs
@@ -22,9 +24,9 @@ add-if2 c =
     let d = t .before in
     let m = d .before in
     let a = m .before .before .before .before .args in
-    let h = (λ i. sym (m .may-take .ensures) i && not (sym (d .is-due .ensures) i)) ∙ t .if1 .taken in
-    let k = and-left (mayTake (a .w)) (not (isDue (a .w .taken))) h in
-    omega (arith, takes-fits (a .w) k .1)
+    let h = (λ i. sym (m .may-take-parts .ensures []) i && not (sym (d .is-due .ensures) i)) ∙ t .if1 .taken in
+    let k = and-left (mayTake (withSources (a .p) [])) (not (isDue (a .p .taken))) h in
+    omega (arith, takes-fits (withSources (a .p) []) k .1)
 
 cast-if2 : tie.Need-cast-if2
 cast-if2 c = search needs
@@ -35,9 +37,9 @@ sub-if2 c =
     let d = t .before in
     let m = d .before in
     let a = m .before .before .before .before .args in
-    let h = (λ i. sym (m .may-take .ensures) i && not (sym (d .is-due .ensures) i)) ∙ t .if1 .taken in
-    let k = and-left (mayTake (a .w)) (not (isDue (a .w .taken))) h in
-    omega (arith, takes-fits (a .w) k .1)
+    let h = (λ i. sym (m .may-take-parts .ensures []) i && not (sym (d .is-due .ensures) i)) ∙ t .if1 .taken in
+    let k = and-left (mayTake (withSources (a .p) [])) (not (isDue (a .p .taken))) h in
+    omega (arith, takes-fits (withSources (a .p) []) k .1)
 
 feed-chunk-requires : tie.Need-feed-chunk-requires
 feed-chunk-requires c κs =
@@ -45,9 +47,9 @@ feed-chunk-requires c κs =
     let d = t .before in
     let m = d .before in
     let a = m .before .before .before .before .args in
-    let h = (λ i. sym (m .may-take .ensures) i && not (sym (d .is-due .ensures) i)) ∙ t .if1 .taken in
-    let k = and-left (mayTake (a .w)) (not (isDue (a .w .taken))) h in
-    (k, is-false (isDue (a .w .taken)) (and-right (mayTake (a .w)) (not (isDue (a .w .taken))) h), omega (arith, c .before .if2 .taken, takes-fits (a .w) k .1), m .before .before .before .before .pre)
+    let h = (λ i. sym (m .may-take-parts .ensures []) i && not (sym (d .is-due .ensures) i)) ∙ t .if1 .taken in
+    let k = and-left (mayTake (withSources (a .p) [])) (not (isDue (a .p .taken))) h in
+    (λ ss. sym (m .may-take-parts .ensures ss) ∙ m .may-take-parts .ensures [] ∙ k, is-false (isDue (a .p .taken)) (and-right (mayTake (withSources (a .p) [])) (not (isDue (a .p .taken))) h), omega (arith, c .before .if2 .taken, takes-fits (withSources (a .p) []) k .1), m .before .before .before .before .pre)
 
 same-length : tie.Need-same-length
 same-length c = search needs
@@ -68,7 +70,7 @@ pub feed-some-spec : {M : Type 1} → statement M
 feed-some-spec =
     tie.close
     (tie.spec
-    may-take-requires
+    may-take-parts-requires
     is-due-requires
     add-if2
     cast-if2

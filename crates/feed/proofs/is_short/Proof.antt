@@ -1,3 +1,5 @@
+use Rattle.writer.specs.Parts.{withSources}
+use mathlib.Core.List.{[]}
 use mathlib.Core.Path.{sym, _∙_}
 use mathlib.Core.Bool.{not, _&&_, false≢true}
 use Prim.Native.Nat.{_+_, _-_}
@@ -13,8 +15,8 @@ use borrow.Author.Needs.{needs}
 use Rattle.feed.proofs.is_short.Statement.{statement}
 use Rattle.feed.proofs.is_short.Tie as tie
 
-may-take-requires : tie.Need-may-take-requires
-may-take-requires c κs = search needs
+may-take-parts-requires : tie.Need-may-take-parts-requires
+may-take-parts-requires c κs = search needs
 
 is-due-requires : tie.Need-is-due-requires
 is-due-requires c κs = search needs
@@ -25,9 +27,9 @@ sub-if2 c =
     let d = t .before in
     let m = d .before in
     let a = m .before .before .args in
-    let h = (λ i. sym (m .may-take .ensures) i && not (sym (d .is-due .ensures) i)) ∙ t .if1 .taken in
-    let k = and-left (mayTake (a .w)) (not (isDue (a .w .taken))) h in
-    omega (arith, takes-fits (a .w) k .0)
+    let h = (λ i. sym (m .may-take-parts .ensures []) i && not (sym (d .is-due .ensures) i)) ∙ t .if1 .taken in
+    let k = and-left (mayTake (withSources (a .p) [])) (not (isDue (a .p .taken))) h in
+    omega (arith, takes-fits (withSources (a .p) []) k .0)
 
 cast-if2 : tie.Need-cast-if2
 cast-if2 c = search needs
@@ -38,9 +40,9 @@ add-result c =
     let d = t .before in
     let m = d .before in
     let a = m .before .before .args in
-    let h = (λ i. sym (m .may-take .ensures) i && not (sym (d .is-due .ensures) i)) ∙ t .if1 .taken in
-    let k = and-left (mayTake (a .w)) (not (isDue (a .w .taken))) h in
-    omega (arith, takes-fits (a .w) k .1)
+    let h = (λ i. sym (m .may-take-parts .ensures []) i && not (sym (d .is-due .ensures) i)) ∙ t .if1 .taken in
+    let k = and-left (mayTake (withSources (a .p) [])) (not (isDue (a .p .taken))) h in
+    omega (arith, takes-fits (withSources (a .p) []) k .1)
 
 cast-result : tie.Need-cast-result
 cast-result c = search needs
@@ -51,9 +53,9 @@ sub-result c =
     let d = t .before in
     let m = d .before in
     let a = m .before .before .args in
-    let h = (λ i. sym (m .may-take .ensures) i && not (sym (d .is-due .ensures) i)) ∙ t .if1 .taken in
-    let k = and-left (mayTake (a .w)) (not (isDue (a .w .taken))) h in
-    omega (arith, takes-fits (a .w) k .1)
+    let h = (λ i. sym (m .may-take-parts .ensures []) i && not (sym (d .is-due .ensures) i)) ∙ t .if1 .taken in
+    let k = and-left (mayTake (withSources (a .p) [])) (not (isDue (a .p .taken))) h in
+    omega (arith, takes-fits (withSources (a .p) []) k .1)
 
 returns : tie.Need-returns
 returns c =
@@ -61,16 +63,16 @@ returns c =
     let d = t .before in
     let m = d .before in
     let a = m .before .before .args in
-    let h = (λ i. sym (m .may-take .ensures) i && not (sym (d .is-due .ensures) i)) ∙ t .if1 .taken in
-    let k = and-left (mayTake (a .w)) (not (isDue (a .w .taken))) h in
+    let h = (λ i. sym (m .may-take-parts .ensures []) i && not (sym (d .is-due .ensures) i)) ∙ t .if1 .taken in
+    let k = and-left (mayTake (withSources (a .p) [])) (not (isDue (a .p .taken))) h in
     let x = ltb 0 (a .n) in
-    let y = leb (a .n) (487424 - (a .w .taken .written + a .w .taken .fill)) in
+    let y = leb (a .n) (487424 - (a .p .taken .written + a .p .taken .fill)) in
     λ e. (
-      k,
-      is-false (isDue (a .w .taken)) (and-right (mayTake (a .w)) (not (isDue (a .w .taken))) h),
-      omega (arith, leb-true (a .n) (487424 - (a .w .taken .written + a .w .taken .fill)) (and-right x y e), takes-fits (a .w) k .1),
+      λ ss. sym (m .may-take-parts .ensures ss) ∙ m .may-take-parts .ensures [] ∙ k,
+      is-false (isDue (a .p .taken)) (and-right (mayTake (withSources (a .p) [])) (not (isDue (a .p .taken))) h),
+      omega (arith, leb-true (a .n) (487424 - (a .p .taken .written + a .p .taken .fill)) (and-right x y e), takes-fits (withSources (a .p) []) k .1),
       ltb-true 0 (a .n) (and-left x y e),
-      omega (arith, c .before .if2 .taken, takes-fits (a .w) k .0),
+      omega (arith, c .before .if2 .taken, takes-fits (withSources (a .p) []) k .0),
     )
 
 returns-2 : tie.Need-returns-2
@@ -80,4 +82,4 @@ returns-3 : tie.Need-returns-3
 returns-3 c = λ e. absurd (false≢true e)
 
 pub is-short-spec : {M : Type 1} → statement M
-is-short-spec = tie.close (tie.spec may-take-requires is-due-requires sub-if2 cast-if2 add-result cast-result sub-result returns returns-2 returns-3)
+is-short-spec = tie.close (tie.spec may-take-parts-requires is-due-requires sub-if2 cast-if2 add-result cast-result sub-result returns returns-2 returns-3)

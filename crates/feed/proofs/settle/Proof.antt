@@ -1,57 +1,28 @@
-use mathlib.Core.Path.{refl}
-use Rattle.writer.specs.declared.Stage.the-variants.{Idle, Headed, Committed}
-use Rattle.feed.proofs.Laws.{quiet-settled}
+use Rattle.feed.specs.Feed.{dues}
+use Rattle.feed.proofs.Laws.{joined}
 use borrow.Author.Needs.{needs}
 use Rattle.feed.proofs.settle.Statement.{statement}
 use Rattle.feed.proofs.settle.Tie as tie
 
-enum-told : tie.Need-enum-told
-enum-told c = search needs
+parts-of-requires : tie.Need-parts-of-requires
+parts-of-requires c κs = search needs
 
-do-due-requires : tie.Need-do-due-requires
-do-due-requires c κs = search needs
+settle-parts-requires : tie.Need-settle-parts-requires
+settle-parts-requires c κs = search needs
 
-enum-told-2 : tie.Need-enum-told-2
-enum-told-2 c = search needs
-
-enum-told-3 : tie.Need-enum-told-3
-enum-told-3 c = search needs
-
-enum-told-4 : tie.Need-enum-told-4
-enum-told-4 c = search needs
+with-sources-requires : tie.Need-with-sources-requires
+with-sources-requires c κs = search needs
 
 same-length : tie.Need-same-length
 same-length c = search needs
 
 returns : tie.Need-returns
-returns c = search needs
-
-returns-2 : tie.Need-returns-2
-returns-2 c =
-    let a = c .before .before .before .args in
-    quiet-settled (a .region .now) (a .w) Idle (c .enum-told2 .given .1) refl
-
-returns-3 : tie.Need-returns-3
-returns-3 c =
-    let a = c .before .before .before .args in
-    quiet-settled (a .region .now) (a .w) Headed (c .enum-told3 .given .1) refl
-
-returns-4 : tie.Need-returns-4
-returns-4 c =
-    let a = c .before .before .before .args in
-    quiet-settled (a .region .now) (a .w) Committed (c .enum-told4 .given .1) refl
+returns c =
+    let d = c .before .before .before .before in
+    let p = d .before .before in
+    let a = p .before .before .args in
+    let q = d .settle-parts in
+    joined (a .region .now) (a .w) (dues) (p .parts-of .result) (q .result) (c .with-sources .result) (q .last .1 .0) (p .parts-of .ensures) (q .ensures) (c .with-sources .ensures)
 
 pub settle-spec : {M : Type 1} → statement M
-settle-spec =
-    tie.close
-    (tie.spec
-    enum-told
-    do-due-requires
-    enum-told-2
-    enum-told-3
-    enum-told-4
-    same-length
-    returns
-    returns-2
-    returns-3
-    returns-4)
+settle-spec = tie.close (tie.spec parts-of-requires settle-parts-requires with-sources-requires same-length returns)

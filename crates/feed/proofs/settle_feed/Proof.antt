@@ -1,28 +1,29 @@
+use mathlib.Core.List.{_++_}
 use Rattle.feed.specs.Feed.{dues, feed}
-use Rattle.feed.proofs.Laws.{then-writer, then-region}
+use Rattle.feed.proofs.Laws.{joined}
 use borrow.Author.Needs.{needs}
 use Rattle.feed.proofs.settle_feed.Statement.{statement}
 use Rattle.feed.proofs.settle_feed.Tie as tie
 
-settle-requires : tie.Need-settle-requires
-settle-requires c κs = search needs
+parts-of-requires : tie.Need-parts-of-requires
+parts-of-requires c κs = search needs
 
-feed-requires : tie.Need-feed-requires
-feed-requires c κs = search needs
+settle-feed-parts-requires : tie.Need-settle-feed-parts-requires
+settle-feed-parts-requires c κs = search needs
+
+with-sources-requires : tie.Need-with-sources-requires
+with-sources-requires c κs = search needs
 
 same-length : tie.Need-same-length
 same-length c = search needs
 
 returns : tie.Need-returns
 returns c =
-    let z = c .before .before .feed in
-    let y = c .before .before .before .before .before .before in
-    let s = y .settle in
-    let a = y .before .before .before .before .args in
-    let r = s .last .1 .0 in (
-      then-writer (a .region .now) (a .w) dues (feed (a .bytes .now)) (s .result) r (s .ensures .0) (s .ensures .1) (z .result) (z .ensures .0),
-      then-region (a .region .now) (a .w) dues (feed (a .bytes .now)) (s .result) r (s .ensures .0) (s .ensures .1) (z .last .1 .0) (z .ensures .1),
-    )
+    let d = c .before .before .before .before in
+    let p = d .before .before in
+    let a = p .before .before .before .args in
+    let q = d .settle-feed-parts in
+    joined (a .region .now) (a .w) (dues ++ feed (a .bytes .now)) (p .parts-of .result) (q .result) (c .with-sources .result) (q .last .1 .0) (p .parts-of .ensures) (q .ensures) (c .with-sources .ensures)
 
 pub settle-feed-spec : {M : Type 1} → statement M
-settle-feed-spec = tie.close (tie.spec settle-requires feed-requires same-length returns)
+settle-feed-spec = tie.close (tie.spec parts-of-requires settle-feed-parts-requires with-sources-requires same-length returns)

@@ -1,3 +1,4 @@
+use Rattle.writer.specs.Parts.{withSources}
 use mathlib.Core.Path.{refl}
 use Rattle.writer.specs.declared.Stage.the-variants.{Idle, Headed, Committed}
 use Rattle.feed.proofs.Laws.{quiet-two}
@@ -29,17 +30,17 @@ returns c = search needs
 returns-2 : tie.Need-returns-2
 returns-2 c =
     let a = c .before .before .before .args in
-    quiet-two (a .region .now) (a .w) Idle (c .enum-told2 .given .1) refl
+    λ ss. quiet-two (a .region .now) (withSources (a .p) ss) Idle (c .enum-told2 .given .1) refl
 
 returns-3 : tie.Need-returns-3
 returns-3 c =
     let a = c .before .before .before .args in
-    quiet-two (a .region .now) (a .w) Headed (c .enum-told3 .given .1) refl
+    λ ss. quiet-two (a .region .now) (withSources (a .p) ss) Headed (c .enum-told3 .given .1) refl
 
 returns-4 : tie.Need-returns-4
 returns-4 c =
     let a = c .before .before .before .args in
-    quiet-two (a .region .now) (a .w) Committed (c .enum-told4 .given .1) refl
+    λ ss. quiet-two (a .region .now) (withSources (a .p) ss) Committed (c .enum-told4 .given .1) refl
 
 pub settle-two-spec : {M : Type 1} → statement M
 settle-two-spec =

@@ -4,6 +4,8 @@ use Prim.Native.Nat.{ℕ, _+_}
 use native.Mathlib.Omega.{arith}
 use lib.Dec.{leb}
 use lib.ListN.{replicate, length-replicate}
+use Rattle.writer.specs.declared.PartsStep.{PartsStep}
+use Rattle.writer.specs.Parts.{withSources, stepWith}
 use Rattle.writer.specs.State.{position}
 use Rattle.feed.specs.Run.{ranWriter, ranRegion}
 use Rattle.feed.specs.Feed.{dues, feed}
@@ -25,42 +27,42 @@ enum-known-a c = search needs
 enum-told : tie.Need-enum-told
 enum-told c = search needs
 
-stays-requires : tie.Need-stays-requires
-stays-requires c κs = search needs
+parts-stay-requires : tie.Need-parts-stay-requires
+parts-stay-requires c κs = search needs
 
 returns : tie.Need-returns
-returns c =
+returns c = λ ss.
     let r = c .before .before .before .before in
     let s = r .before .before .before .before .before .before in
     let y = s .args in
-    let d = upper-row (y .region .now) (y .w) (row (y .texts .now) (y .lengths .now)) (s .pre .0) refl (s .pre .1) (row-not (y .w .tables .table) (y .texts .now) (y .lengths .now) (replicate 8192 0) (r .row .last .1 .1 .1 .0) (r .row .result) (s .pre .2) (length-replicate {A = ℕ} 8192 0) (r .row .ensures .0) (r .row .ensures .1) (c .before .enum-told .given .0 .0) (c .before .enum-told .given .1)) in
-    (c .stays .ensures ∙ d .0, d .1)
+    let d = upper-row (y .region .now) (withSources (y .p) ss) (row (y .texts .now) (y .lengths .now)) (s .pre .0) refl (s .pre .1 ss) (row-not (y .p .tables .table) (y .texts .now) (y .lengths .now) (replicate 8192 0) (r .row .last .1 .1 .1 .0) (r .row .result) (s .pre .2) (length-replicate {A = ℕ} 8192 0) (r .row .ensures .0) (r .row .ensures .1) (c .before .enum-told .given .0 .0) (c .before .enum-told .given .1)) in
+    (ap (λ (z : PartsStep). stepWith z ss) (c .parts-stay .ensures) ∙ d .0, d .1)
 
 fits-requires : tie.Need-fits-requires
 fits-requires c κs = search needs
 
-slice-aggregate-run-long : tie.Need-slice-aggregate-run-long
-slice-aggregate-run-long c = search needs
+slice-aggregate-run-row : tie.Need-slice-aggregate-run-row
+slice-aggregate-run-row c = search needs
 
-run-long-requires : tie.Need-run-long-requires
-run-long-requires c κs =
+run-row-requires : tie.Need-run-row-requires
+run-row-requires c κs =
     let r = c .before .before .before .before .before .before .before .before in
     let s = r .before .before .before .before .before .before in
     let y = s .args in
     let n = c .before .before .before .before .before .a .given in
-    let h = row-short (y .w .tables .table) (y .texts .now) (y .lengths .now) (replicate 8192 0) (r .row .last .1 .1 .1 .0) (r .row .result) (s .pre .2) (length-replicate {A = ℕ} 8192 0) (r .row .ensures .0) (r .row .ensures .1) (n .0 .0) (n .1) in
-    let k = row-length (y .w .tables .table) (y .texts .now) (y .lengths .now) (replicate 8192 0) (r .row .last .1 .1 .1 .0) (r .row .result) (s .pre .2) (length-replicate {A = ℕ} 8192 0) (r .row .ensures .0) (r .row .ensures .1) (n .0 .0) (n .1) in
+    let h = row-short (y .p .tables .table) (y .texts .now) (y .lengths .now) (replicate 8192 0) (r .row .last .1 .1 .1 .0) (r .row .result) (s .pre .2) (length-replicate {A = ℕ} 8192 0) (r .row .ensures .0) (r .row .ensures .1) (n .0 .0) (n .1) in
+    let k = row-length (y .p .tables .table) (y .texts .now) (y .lengths .now) (replicate 8192 0) (r .row .last .1 .1 .1 .0) (r .row .result) (s .pre .2) (length-replicate {A = ℕ} 8192 0) (r .row .ensures .0) (r .row .ensures .1) (n .0 .0) (n .1) in
     omega (arith, h, k)
 
-did-requires : tie.Need-did-requires
-did-requires c κs = search needs
+parts-did-requires : tie.Need-parts-did-requires
+parts-did-requires c κs = search needs
 
 same-length : tie.Need-same-length
 same-length c = search needs
 
 returns-2 : tie.Need-returns-2
 unfolding taken runOf
-returns-2 c =
+returns-2 c = λ ss.
     let r = c .before .before .before .before .before .before .before .before .before .before .before .before in
     let s = r .before .before .before .before .before .before in
     let y = s .args in
@@ -68,32 +70,32 @@ returns-2 c =
     let t = x .before .before .before in
     let f = t .before in
     let n = f .before .before .a .given in
-    let w = row-written (y .w .tables .table) (y .texts .now) (y .lengths .now) (replicate 8192 0) (r .row .last .1 .1 .1 .0) (r .row .result) (s .pre .2) (length-replicate {A = ℕ} 8192 0) (r .row .ensures .0) (r .row .ensures .1) (n .0 .0) (n .1) in
-    let b = row-there (y .w .tables .table) (y .texts .now) (y .lengths .now) (replicate 8192 0) (r .row .last .1 .1 .1 .0) (r .row .result) (s .pre .2) (length-replicate {A = ℕ} 8192 0) (r .row .ensures .0) (r .row .ensures .1) (n .0 .0) (n .1) in
+    let w = row-written (y .p .tables .table) (y .texts .now) (y .lengths .now) (replicate 8192 0) (r .row .last .1 .1 .1 .0) (r .row .result) (s .pre .2) (length-replicate {A = ℕ} 8192 0) (r .row .ensures .0) (r .row .ensures .1) (n .0 .0) (n .1) in
+    let b = row-there (y .p .tables .table) (y .texts .now) (y .lengths .now) (replicate 8192 0) (r .row .last .1 .1 .1 .0) (r .row .result) (s .pre .2) (length-replicate {A = ℕ} 8192 0) (r .row .ensures .0) (r .row .ensures .1) (n .0 .0) (n .1) in
     let d =
-    upper-done (y .region .now) (y .w) (row (y .texts .now) (y .lengths .now)) (s .pre .0) refl (s .pre .1) (w .0)
-    (ap (λ (k : ℕ). leb (position (y .w .taken) + k) 487424) (sym (w .1)) ∙ sym (f .fits2 .ensures) ∙ t .if1 .taken)
-    (x .run-long .result)
-    (x .run-long .last .1 .0)
-    (x .run-long .ensures .0 ∙ ap (λ (l : List ℕ). ranWriter (y .region .now) (y .w) (dues ++ (dues ++ feed l))) b)
-    (x .run-long .ensures .1 ∙ ap (λ (l : List ℕ). ranRegion (y .region .now) (y .w) (dues ++ (dues ++ feed l))) b) in
-    (c .did .ensures ∙ d .0, d .1)
+    upper-done (y .region .now) (withSources (y .p) ss) (row (y .texts .now) (y .lengths .now)) (s .pre .0) refl (s .pre .1 ss) (w .0)
+    (ap (λ (k : ℕ). leb (position (y .p .taken) + k) 487424) (sym (w .1)) ∙ sym (f .fits2 .ensures) ∙ t .if1 .taken)
+    (withSources (x .run-row .result) ss)
+    (x .run-row .last .1 .0)
+    (x .run-row .ensures ss .0 ∙ ap (λ (l : List ℕ). ranWriter (y .region .now) (withSources (y .p) ss) (dues ++ (dues ++ feed l))) b)
+    (x .run-row .ensures ss .1 ∙ ap (λ (l : List ℕ). ranRegion (y .region .now) (withSources (y .p) ss) (dues ++ (dues ++ feed l))) b) in
+    (ap (λ (z : PartsStep). stepWith z ss) (c .parts-did .ensures) ∙ d .0, d .1)
 
-stays-requires-2 : tie.Need-stays-requires-2
-stays-requires-2 c κs = search needs
+parts-stay-requires-2 : tie.Need-parts-stay-requires-2
+parts-stay-requires-2 c κs = search needs
 
 returns-3 : tie.Need-returns-3
 unfolding taken
-returns-3 c =
+returns-3 c = λ ss.
     let r = c .before .before .before .before .before .before .before in
     let s = r .before .before .before .before .before .before in
     let y = s .args in
     let t = c .before in
     let f = t .before in
     let n = f .before .before .a .given in
-    let w = row-written (y .w .tables .table) (y .texts .now) (y .lengths .now) (replicate 8192 0) (r .row .last .1 .1 .1 .0) (r .row .result) (s .pre .2) (length-replicate {A = ℕ} 8192 0) (r .row .ensures .0) (r .row .ensures .1) (n .0 .0) (n .1) in
-    let d = upper-full (y .region .now) (y .w) (row (y .texts .now) (y .lengths .now)) (s .pre .0) refl (s .pre .1) (w .0) (ap (λ (k : ℕ). leb (position (y .w .taken) + k) 487424) (sym (w .1)) ∙ sym (f .fits2 .ensures) ∙ t .if1 .left) in
-    (c .stays2 .ensures ∙ d .0, d .1)
+    let w = row-written (y .p .tables .table) (y .texts .now) (y .lengths .now) (replicate 8192 0) (r .row .last .1 .1 .1 .0) (r .row .result) (s .pre .2) (length-replicate {A = ℕ} 8192 0) (r .row .ensures .0) (r .row .ensures .1) (n .0 .0) (n .1) in
+    let d = upper-full (y .region .now) (withSources (y .p) ss) (row (y .texts .now) (y .lengths .now)) (s .pre .0) refl (s .pre .1 ss) (w .0) (ap (λ (k : ℕ). leb (position (y .p .taken) + k) 487424) (sym (w .1)) ∙ sym (f .fits2 .ensures) ∙ t .if1 .left) in
+    (ap (λ (z : PartsStep). stepWith z ss) (c .parts-stay2 .ensures) ∙ d .0, d .1)
 
 pub long-row-spec : {M : Type 1} → statement M
 long-row-spec =
@@ -103,13 +105,13 @@ long-row-spec =
     row-requires
     enum-known-a
     enum-told
-    stays-requires
+    parts-stay-requires
     returns
     fits-requires
-    slice-aggregate-run-long
-    run-long-requires
-    did-requires
+    slice-aggregate-run-row
+    run-row-requires
+    parts-did-requires
     same-length
     returns-2
-    stays-requires-2
+    parts-stay-requires-2
     returns-3)

@@ -1,64 +1,34 @@
-use mathlib.Core.Path.{refl, sym, _∙_}
-use mathlib.Core.Bool.{_&&_}
-use native.Mathlib.Omega.{arith}
-use Rattle.update.specs.Upper.{row}
-use Rattle.update.proofs.Laws.{open-fits, upper-turn, upper-region}
+use mathlib.Core.Path.{ap, _∙_}
+use Rattle.writer.specs.declared.Parts.{Parts}
+use Rattle.writer.specs.Parts.{withSources}
+use Rattle.update.specs.Upper.{row, upperStep, upperRegion}
 use borrow.Author.Needs.{needs}
 use Rattle.rowfeed.proofs.row.Statement.{statement}
 use Rattle.rowfeed.proofs.row.Tie as tie
 
-may-take-requires : tie.Need-may-take-requires
-may-take-requires c κs = search needs
+parts-of-requires : tie.Need-parts-of-requires
+parts-of-requires c κs = search needs
 
-is-open-requires : tie.Need-is-open-requires
-is-open-requires c κs = search needs
+row-parts-requires : tie.Need-row-parts-requires
+row-parts-requires c κs = search needs
 
-row-in-requires : tie.Need-row-in-requires
-row-in-requires c κs =
-    let t = c .before in
-    let o = t .before in
-    let m = o .before in
-    let a = m .before .before .before .before .before .args in
-    let h = (λ i. sym (m .may-take .ensures) i && sym (o .is-open .ensures) i) ∙ t .if2 .taken in
-    (omega arith, h, open-fits (a .w) h)
+step-with-requires : tie.Need-step-with-requires
+step-with-requires c κs = search needs
 
 same-length : tie.Need-same-length
 same-length c = search needs
 
 returns : tie.Need-returns
-returns c = search needs
-
-stays-requires : tie.Need-stays-requires
-stays-requires c κs = search needs
-
-returns-2 : tie.Need-returns-2
-returns-2 c =
-    let t = c .before in
-    let o = t .before in
-    let m = o .before in
-    let a = m .before .before .before .before .before .args in
-    let d = upper-turn (a .region .now) (a .w) (row (a .texts .now) (a .lengths .now)) (omega arith) refl ((λ i. sym (m .may-take .ensures) i && sym (o .is-open .ensures) i) ∙ t .if2 .left) in
-    (c .stays .ensures ∙ d .0, d .1)
-
-stays-requires-2 : tie.Need-stays-requires-2
-stays-requires-2 c κs = search needs
-
-returns-3 : tie.Need-returns-3
-returns-3 c =
-    let a = c .before .before .before .before .before .args in
-    let d = upper-region (a .region .now) (a .w) (row (a .texts .now) (a .lengths .now)) (λ e. omega arith) in
-    (c .stays2 .ensures ∙ d .0, d .1)
+returns c =
+    let d = c .before .before .before .before in
+    let p = d .before .before in
+    let a = p .before .before .before .before .args in
+    let ss = a .w .sources in
+    let u = row (a .texts .now) (a .lengths .now) in
+    let x = d .row-parts .ensures ss in (
+      c .step-with .ensures ∙ x .0 ∙ ap (λ (q : Parts). upperStep (a .region .now) (withSources q ss) u) (p .parts-of .ensures),
+      x .1 ∙ ap (λ (q : Parts). upperRegion (a .region .now) (withSources q ss) u) (p .parts-of .ensures),
+    )
 
 pub row-spec : {M : Type 1} → statement M
-row-spec =
-    tie.close
-    (tie.spec
-    may-take-requires
-    is-open-requires
-    row-in-requires
-    same-length
-    returns
-    stays-requires
-    returns-2
-    stays-requires-2
-    returns-3)
+row-spec = tie.close (tie.spec parts-of-requires row-parts-requires step-with-requires same-length returns)

@@ -4,6 +4,8 @@ use Prim.Native.Nat.{ℕ, _+_}
 use native.Mathlib.Omega.{arith}
 use lib.Dec.{leb}
 use lib.ListN.{replicate, length-replicate}
+use Rattle.writer.specs.declared.PartsStep.{PartsStep}
+use Rattle.writer.specs.Parts.{withSources, stepWith}
 use Rattle.writer.specs.State.{position}
 use Rattle.feed.specs.Run.{ranWriter, ranRegion}
 use Rattle.feed.specs.Feed.{dues, feed}
@@ -36,7 +38,7 @@ same-length c = search needs
 returns : tie.Need-returns
 returns c =
     let l = c .before .before .long-row in
-    (l .ensures .0, l .ensures .1)
+    l .ensures
 
 fits-requires : tie.Need-fits-requires
 fits-requires c κs = search needs
@@ -50,19 +52,19 @@ run-row-requires c κs =
     let s = r .before .before .before .before .before .before in
     let y = s .args in
     let n = c .before .before .before .before .before .a .given in
-    let h = few-short (y .w .tables .table) (y .texts .now) (y .lengths .now) (replicate 512 0) (r .row .last .1 .1 .1 .0) (r .row .result) (s .pre .2) (r .row .ensures .0) (r .row .ensures .1) (n .0 .0) (n .1) in
-    let k = few-length (y .w .tables .table) (y .texts .now) (y .lengths .now) (replicate 512 0) (r .row .last .1 .1 .1 .0) (r .row .result) (s .pre .2) (r .row .ensures .0) (r .row .ensures .1) (n .0 .0) (n .1) in
+    let h = few-short (y .p .tables .table) (y .texts .now) (y .lengths .now) (replicate 512 0) (r .row .last .1 .1 .1 .0) (r .row .result) (s .pre .2) (r .row .ensures .0) (r .row .ensures .1) (n .0 .0) (n .1) in
+    let k = few-length (y .p .tables .table) (y .texts .now) (y .lengths .now) (replicate 512 0) (r .row .last .1 .1 .1 .0) (r .row .result) (s .pre .2) (r .row .ensures .0) (r .row .ensures .1) (n .0 .0) (n .1) in
     omega (arith, h, k, length-replicate {A = ℕ} 512 0)
 
-did-requires : tie.Need-did-requires
-did-requires c κs = search needs
+parts-did-requires : tie.Need-parts-did-requires
+parts-did-requires c κs = search needs
 
 same-length-2 : tie.Need-same-length-2
 same-length-2 c = search needs
 
 returns-2 : tie.Need-returns-2
 unfolding taken runOf
-returns-2 c =
+returns-2 c = λ ss.
     let r = c .before .before .before .before .before .before .before .before .before .before .before .before in
     let s = r .before .before .before .before .before .before in
     let y = s .args in
@@ -70,32 +72,32 @@ returns-2 c =
     let t = x .before .before .before in
     let f = t .before in
     let n = f .before .before .a .given in
-    let w = few-written (y .w .tables .table) (y .texts .now) (y .lengths .now) (replicate 512 0) (r .row .last .1 .1 .1 .0) (r .row .result) (s .pre .2) (r .row .ensures .0) (r .row .ensures .1) (n .0 .0) (n .1) in
-    let b = few-there (y .w .tables .table) (y .texts .now) (y .lengths .now) (replicate 512 0) (r .row .last .1 .1 .1 .0) (r .row .result) (s .pre .2) (r .row .ensures .0) (r .row .ensures .1) (n .0 .0) (n .1) in
+    let w = few-written (y .p .tables .table) (y .texts .now) (y .lengths .now) (replicate 512 0) (r .row .last .1 .1 .1 .0) (r .row .result) (s .pre .2) (r .row .ensures .0) (r .row .ensures .1) (n .0 .0) (n .1) in
+    let b = few-there (y .p .tables .table) (y .texts .now) (y .lengths .now) (replicate 512 0) (r .row .last .1 .1 .1 .0) (r .row .result) (s .pre .2) (r .row .ensures .0) (r .row .ensures .1) (n .0 .0) (n .1) in
     let d =
-    upper-done (y .region .now) (y .w) (row (y .texts .now) (y .lengths .now)) (s .pre .0) refl (s .pre .1) (w .0)
-    (ap (λ (k : ℕ). leb (position (y .w .taken) + k) 487424) (sym (w .1)) ∙ sym (f .fits2 .ensures) ∙ t .if1 .taken)
-    (x .run-row .result)
+    upper-done (y .region .now) (withSources (y .p) ss) (row (y .texts .now) (y .lengths .now)) (s .pre .0) refl (s .pre .1 ss) (w .0)
+    (ap (λ (k : ℕ). leb (position (y .p .taken) + k) 487424) (sym (w .1)) ∙ sym (f .fits2 .ensures) ∙ t .if1 .taken)
+    (withSources (x .run-row .result) ss)
     (x .run-row .last .1 .0)
-    (x .run-row .ensures .0 ∙ ap (λ (l : List ℕ). ranWriter (y .region .now) (y .w) (dues ++ (dues ++ feed l))) b)
-    (x .run-row .ensures .1 ∙ ap (λ (l : List ℕ). ranRegion (y .region .now) (y .w) (dues ++ (dues ++ feed l))) b) in
-    (c .did .ensures ∙ d .0, d .1)
+    (x .run-row .ensures ss .0 ∙ ap (λ (l : List ℕ). ranWriter (y .region .now) (withSources (y .p) ss) (dues ++ (dues ++ feed l))) b)
+    (x .run-row .ensures ss .1 ∙ ap (λ (l : List ℕ). ranRegion (y .region .now) (withSources (y .p) ss) (dues ++ (dues ++ feed l))) b) in
+    (ap (λ (z : PartsStep). stepWith z ss) (c .parts-did .ensures) ∙ d .0, d .1)
 
-stays-requires : tie.Need-stays-requires
-stays-requires c κs = search needs
+parts-stay-requires : tie.Need-parts-stay-requires
+parts-stay-requires c κs = search needs
 
 returns-3 : tie.Need-returns-3
 unfolding taken
-returns-3 c =
+returns-3 c = λ ss.
     let r = c .before .before .before .before .before .before .before in
     let s = r .before .before .before .before .before .before in
     let y = s .args in
     let t = c .before in
     let f = t .before in
     let n = f .before .before .a .given in
-    let w = few-written (y .w .tables .table) (y .texts .now) (y .lengths .now) (replicate 512 0) (r .row .last .1 .1 .1 .0) (r .row .result) (s .pre .2) (r .row .ensures .0) (r .row .ensures .1) (n .0 .0) (n .1) in
-    let d = upper-full (y .region .now) (y .w) (row (y .texts .now) (y .lengths .now)) (s .pre .0) refl (s .pre .1) (w .0) (ap (λ (k : ℕ). leb (position (y .w .taken) + k) 487424) (sym (w .1)) ∙ sym (f .fits2 .ensures) ∙ t .if1 .left) in
-    (c .stays .ensures ∙ d .0, d .1)
+    let w = few-written (y .p .tables .table) (y .texts .now) (y .lengths .now) (replicate 512 0) (r .row .last .1 .1 .1 .0) (r .row .result) (s .pre .2) (r .row .ensures .0) (r .row .ensures .1) (n .0 .0) (n .1) in
+    let d = upper-full (y .region .now) (withSources (y .p) ss) (row (y .texts .now) (y .lengths .now)) (s .pre .0) refl (s .pre .1 ss) (w .0) (ap (λ (k : ℕ). leb (position (y .p .taken) + k) 487424) (sym (w .1)) ∙ sym (f .fits2 .ensures) ∙ t .if1 .left) in
+    (ap (λ (z : PartsStep). stepWith z ss) (c .parts-stay .ensures) ∙ d .0, d .1)
 
 pub row-in-spec : {M : Type 1} → statement M
 row-in-spec =
@@ -111,8 +113,8 @@ row-in-spec =
     fits-requires
     slice-aggregate-run-row
     run-row-requires
-    did-requires
+    parts-did-requires
     same-length-2
     returns-2
-    stays-requires
+    parts-stay-requires
     returns-3)
