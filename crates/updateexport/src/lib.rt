@@ -60,7 +60,14 @@ pub extern "C" fn tt_update_bytes(state: State, bytes: &[u8]) -> UpdateStep
 {
     let p = parts_of(state);
     let s = take_parts(p, bytes);
-    after_parts(s, state)
+    // the tail is that of the parts, also where the bytes are refused
+    let q = s.parts;
+    let tail = q.tail;
+    let x = after_parts(s, state);
+    let numbers = x.numbers;
+    let mut v = x.state;
+    v.tail = tail;
+    UpdateStep { numbers, state: v }
 }
 
 // Ends the open table.
@@ -89,7 +96,13 @@ pub extern "C" fn tt_update_due(region: &mut [u8], state: State) -> UpdateStep
 {
     let p = parts_of(state);
     let s = due_parts(p, region);
-    after_parts(s, state)
+    // the tail stays
+    let tail = state.tail;
+    let x = after_parts(s, state);
+    let numbers = x.numbers;
+    let mut v = x.state;
+    v.tail = tail;
+    UpdateStep { numbers, state: v }
 }
 
 // Whether the active bank is what was compared with it.

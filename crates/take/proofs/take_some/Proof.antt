@@ -1,7 +1,10 @@
-use native.Mathlib.Nat.{sub-zero}
-use mathlib.Core.Path.{sym, _∙_}
-use Rattle.writer.specs.Parts.{withSources}
+use mathlib.Core.Path.{sym, ap, _∙_}
+use native.Mathlib.Omega.{arith}
+use Rattle.writer.specs.declared.Answer.{Answer}
+use Rattle.writer.specs.Parts.{withSources, stepWith}
 use Rattle.lower.proofs.Laws.{took-none, took-some}
+use Rattle.take.specs.declared.Took.{Took}
+use Rattle.take.specs.Took.{partsTook, stepTook}
 use borrow.Author.Needs.{needs}
 use Rattle.take.proofs.take_some.Statement.{statement}
 use Rattle.take.proofs.take_some.Tie as tie
@@ -9,47 +12,47 @@ use Rattle.take.proofs.take_some.Tie as tie
 is-due-requires : tie.Need-is-due-requires
 is-due-requires c κs = search needs
 
+none-taken-requires : tie.Need-none-taken-requires
+none-taken-requires c κs = search needs
+
 returns : tie.Need-returns
 returns c =
-    let d = c .before in
+    let e = c .none-taken .ensures in
+    let d = c .before .before in
     let a = d .before .before .args in
-    λ ss. took-none (withSources (a .p) ss) (a .bytes .now) (sym (d .is-due .ensures) ∙ c .if1 .taken)
+    let n = ap (λ (t : Took). t .n) e in (
+      omega (arith, n),
+      omega (arith, n, ap (λ (t : Took). t .at) e),
+      λ ss. ap (λ (t : Took). stepWith (stepTook (a .p) t (a .bytes .now)) ss) e ∙ took-none (withSources (a .p) ss) (a .bytes .now) (sym (d .is-due .ensures) ∙ c .before .if1 .taken),
+    )
 
 room-requires : tie.Need-room-requires
 room-requires c κs = search needs
 
-sub-some : tie.Need-sub-some
-sub-some c = search needs
-
-part-some-start : tie.Need-part-some-start
-part-some-start c = search needs
-
-part-some-end : tie.Need-part-some-end
-part-some-end c = search needs
-
-with-bytes-requires : tie.Need-with-bytes-requires
-with-bytes-requires c κs = search needs
-
-cast-t11 : tie.Need-cast-t11
-cast-t11 c = search needs
+first-taken-requires : tie.Need-first-taken-requires
+first-taken-requires c κs = search needs
 
 returns-2 : tie.Need-returns-2
 returns-2 c =
-    let r = c .before .before in
-    let d = r .before .before in
+    let f = c .first-taken in
+    let r = c .before .room in
+    let d = c .before .before .before in
     let a = d .before .before .args in
-    λ ss. took-some (withSources (a .p) ss) (a .bytes .now) (r .room .result) (withSources (c .with-bytes .result) ss) (sym (d .is-due .ensures) ∙ r .before .if1 .left) (r .room .ensures .0) (rw sub-zero at (c .with-bytes .ensures ss))
+    let xs = a .bytes .now in (
+      omega (arith, f .ensures .1, r .ensures .1),
+      f .ensures .2,
+      λ ss.
+      let v = withSources (partsTook (a .p) (f .result) xs) ss in
+      (λ i. record { answer = f .ensures .0 i; writer = v }) ∙ took-some (withSources (a .p) ss) xs (r .result) v (sym (d .is-due .ensures) ∙ c .before .before .if1 .left) (r .ensures .0) (f .ensures .3 ss),
+    )
 
 pub take-some-spec : {M : Type 1} → statement M
 take-some-spec =
     tie.close
     (tie.spec
     is-due-requires
+    none-taken-requires
     returns
     room-requires
-    sub-some
-    part-some-start
-    part-some-end
-    with-bytes-requires
-    cast-t11
+    first-taken-requires
     returns-2)

@@ -5,6 +5,7 @@ use Rattle.writer.specs.Parts.{withSources}
 use Rattle.lower.specs.Lower.{bytesStep}
 use Rattle.saved.specs.State.{writerOf}
 use Rattle.saved.specs.Answers.{after}
+use Rattle.updateexport.proofs.Laws.{with-tail, bytes-tail}
 use borrow.Author.Needs.{needs}
 use Rattle.updateexport.proofs.tt_update_bytes.Statement.{statement}
 use Rattle.updateexport.proofs.tt_update_bytes.Tie as tie
@@ -21,11 +22,13 @@ after-parts-requires c κs = search needs
 returns : tie.Need-returns
 unfolding writerOf
 returns c =
-    let t = c .before in
+    let x = c .before .before in
+    let t = x .before .before .before in
     let d = t .before in
     let a = d .before .before .args in
     let ss = a .state .sources in
-    c .after-parts .ensures ∙ ap (λ (s : Step). after s (a .state)) (t .take-parts .ensures ss ∙ ap (λ (p : Parts). bytesStep (withSources p ss) (a .bytes .now)) (d .parts-of .ensures))
+    let e = t .take-parts .ensures ss ∙ ap (λ (p : Parts). bytesStep (withSources p ss) (a .bytes .now)) (d .parts-of .ensures) in
+    ap (with-tail (t .take-parts .result .parts .tail)) (x .after-parts .ensures) ∙ ap (λ (s : Step). with-tail (s .writer .tail) (after s (a .state))) e ∙ bytes-tail (a .state) (a .bytes .now)
 
 pub tt-update-bytes-spec : {M : Type 1} → statement M
 tt-update-bytes-spec = tie.close (tie.spec parts-of-requires take-parts-requires after-parts-requires returns)

@@ -5,6 +5,7 @@ use Rattle.writer.specs.Parts.{withSources}
 use Rattle.due.specs.Due.{dueStep, dueRegion}
 use Rattle.saved.specs.State.{writerOf}
 use Rattle.saved.specs.Answers.{after}
+use Rattle.updateexport.proofs.Laws.{with-tail, due-tail}
 use borrow.Author.Needs.{needs}
 use Rattle.updateexport.proofs.tt_update_due.Statement.{statement}
 use Rattle.updateexport.proofs.tt_update_due.Tie as tie
@@ -24,12 +25,14 @@ same-length c = search needs
 returns : tie.Need-returns
 unfolding writerOf
 returns c =
-    let x = c .before .before .before in
-    let d = x .before .before in
+    let x = c .before .before in
+    let k = x .before .before .before .before in
+    let d = k .before .before in
     let a = d .before .before .args in
     let ss = a .state .sources in
-    let f = x .due-parts .ensures ss in (
-      c .after-parts .ensures ∙ ap (λ (s : Step). after s (a .state)) (f .0 ∙ ap (λ (p : Parts). dueStep (a .region .now) (withSources p ss)) (d .parts-of .ensures)),
+    let f = k .due-parts .ensures ss in
+    let e = f .0 ∙ ap (λ (p : Parts). dueStep (a .region .now) (withSources p ss)) (d .parts-of .ensures) in (
+      ap (with-tail (a .state .tail)) (x .after-parts .ensures ∙ ap (λ (s : Step). after s (a .state)) e) ∙ due-tail (a .state) (a .region .now),
       f .1 ∙ ap (λ (p : Parts). dueRegion (a .region .now) (withSources p ss)) (d .parts-of .ensures),
     )
 
