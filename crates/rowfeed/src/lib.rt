@@ -106,8 +106,8 @@ fn long_row(p: Parts, region: &mut [u8], texts: &[u8], lengths: &[u32]) -> Parts
         return parts_stay(p, Refusal::Row);
     };
     if fits(p.taken, n) {
-        let q = run_row(p, region, &out, n);
-        return parts_did(q);
+        let v = run_row(p, region, &out, n);
+        return parts_did(v);
     }
     parts_stay(p, Refusal::Full)
 }

@@ -330,10 +330,10 @@ fn is_answer(a: Answer) -> bool
 }
 
 // A state after a call on its parts.
-fn state_after(a: Answer, p: Parts, state: State) -> State
-    ensures { λ r. ⌜ r ≡ pick (Answers.isAnswer a) (Saved.savedOf (withSources p (state .sources))) state ⌝ }
+fn state_after(answer: Answer, p: Parts, state: State) -> State
+    ensures { λ r. ⌜ r ≡ pick (Answers.isAnswer answer) (Saved.savedOf (withSources p (state .sources))) state ⌝ }
 {
-    if is_answer(a) {
+    if is_answer(answer) {
         let sources = state.sources;
         return state_with(p, sources);
     }

@@ -42,8 +42,8 @@ returns-2 c =
       omega (arith, f .ensures .1, r .ensures .1),
       f .ensures .2,
       λ ss.
-      let v = withSources (partsTook (a .p) (f .result) xs) ss in
-      (λ i. record { answer = f .ensures .0 i; writer = v }) ∙ took-some (withSources (a .p) ss) xs (r .result) v (sym (d .is-due .ensures) ∙ c .before .before .if1 .left) (r .ensures .0) (f .ensures .3 ss),
+          let v = withSources (partsTook (a .p) (f .result) xs) ss in
+          (λ i. record { answer = f .ensures .0 i; writer = v }) ∙ took-some (withSources (a .p) ss) xs (r .result) v (sym (d .is-due .ensures) ∙ c .before .before .if1 .left) (r .ensures .0) (f .ensures .3 ss),
     )
 
 pub take-some-spec : {M : Type 1} → statement M
