@@ -182,13 +182,3 @@ pub fn feed_line_parts(p: Parts, region: &mut [u8], bytes: &[u8]) -> Parts
     let q = settle_parts(p, region);
     settle_feed_parts(q, region, bytes)
 }
-
-// The same on a whole state.
-pub fn feed_line(w: Writer, region: &mut [u8], bytes: &[u8]) -> Writer
-    ensures { λ r. ⌜ (r ≡ ranWriter (now (region .entry)) w (Feed.dues ++ (Feed.dues ++ Feed.feed (now (bytes .entry))))) × (now (region .exit) ≡ ranRegion (now (region .entry)) w (Feed.dues ++ (Feed.dues ++ Feed.feed (now (bytes .entry))))) ⌝ }
-{
-    let p = parts_of(w);
-    let q = feed_line_parts(p, region, bytes);
-    let sources = w.sources;
-    with_sources(q, sources)
-}

@@ -202,19 +202,12 @@ fn stage_ok(comparing: bool, t: Taken, s: Stage) -> bool
     }
 }
 
-// Whether what was taken, the tables and the stage are within their ranges.
-fn taken_in_range(comparing: bool, t: Taken, x: Tables, s: Stage) -> bool
-    ensures { λ r. ⌜ r ≡ (State.takenOk t && (State.tablesOk (State.position t) x && State.stageOk comparing t s)) ⌝ }
-{
-    taken_ok(t) & (tables_ok(position(t), x) & stage_ok(comparing, t, s))
-}
-
 // Whether the parts of a state are within their ranges; they are few bytes of it.
 pub fn parts_in_range(b: Beginning, t: Taken, x: Tables, s: Stage) -> bool
     ensures { λ r. ⌜ r ≡ (State.activeOk (b .active) && (State.takenOk t && (State.tablesOk (State.position t) x && State.stageOk (b .comparing) t s))) ⌝ }
 {
     let a = b.active;
-    active_ok(a) & taken_in_range(b.comparing, t, x, s)
+    active_ok(a) & (taken_ok(t) & (tables_ok(position(t), x) & stage_ok(b.comparing, t, s)))
 }
 
 // Whether a state, made by anyone, is within its ranges.

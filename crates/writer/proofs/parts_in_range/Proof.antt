@@ -5,11 +5,28 @@ use Rattle.writer.proofs.parts_in_range.Tie as tie
 active-ok-requires : tie.Need-active-ok-requires
 active-ok-requires c κs = search needs
 
-taken-in-range-requires : tie.Need-taken-in-range-requires
-taken-in-range-requires c κs = search needs
+taken-ok-requires : tie.Need-taken-ok-requires
+taken-ok-requires c κs = search needs
+
+position-requires : tie.Need-position-requires
+position-requires c κs = search needs
+
+tables-ok-requires : tie.Need-tables-ok-requires
+tables-ok-requires c κs = search needs
+
+stage-ok-requires : tie.Need-stage-ok-requires
+stage-ok-requires c κs = search needs
 
 returns : tie.Need-returns
-returns c = rw (c .before .active-ok .ensures, c .taken-in-range .ensures)
+returns c = rw (c .before .before .before .before .active-ok .ensures, c .before .before .before .taken-ok .ensures, c .before .tables-ok .ensures, c .before .before .position .ensures, c .stage-ok .ensures)
 
 pub parts-in-range-spec : {M : Type 1} → statement M
-parts-in-range-spec = tie.close (tie.spec active-ok-requires taken-in-range-requires returns)
+parts-in-range-spec =
+    tie.close
+    (tie.spec
+    active-ok-requires
+    taken-ok-requires
+    position-requires
+    tables-ok-requires
+    stage-ok-requires
+    returns)
