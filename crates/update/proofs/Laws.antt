@@ -168,81 +168,48 @@ module _ (t : ℕ) (out o : List ℕ) (a : RowAnswer) (h : t ≤ 7) (l : length 
 
 -- ---- a row
 
-by-two : (p q : Bool) (m : ℕ) (small : RowAnswer) → pick p (pick q (pick q (Written m) small) (RowRefused Row)) (RowRefused Row) ≡ pick (p && q) (Written m) (RowRefused Row)
-by-two true true m s = refl
-by-two true false m s = refl
-by-two false q m s = refl
+-- in room for the longest row: it is written, or it is none
+by-two : (p q : Bool) (m : ℕ) (x : Refusal) → pick p (pick q (pick q (Written m) (RowRefused Small)) (RowRefused Row)) (RowRefused Row) ≡ RowRefused x → (p && q) ≡ false
+by-two true true m x e = cc
+by-two true false m x e = refl
+by-two false q m x e = refl
 
-by-written : (p : Bool) (m n : ℕ) → pick p (Written m) (RowRefused Row) ≡ Written n → (p ≡ true) × (n ≡ m)
-by-written true m n e = (refl, cc)
-by-written false m n e = (cc, cc)
-
-by-refused : (p : Bool) (m : ℕ) (x : Refusal) → pick p (Written m) (RowRefused Row) ≡ RowRefused x → p ≡ false
-by-refused true m x e = cc
-by-refused false m x e = refl
-
-module _ (t : ℕ) (texts lengths out o : List ℕ) (a : RowAnswer) (h : t ≤ 7) (l : length out ≡ 8192) (e : a ≡ rowAnswer t texts lengths (length out)) (k : o ≡ after a (rowOf (handed texts lengths)) out) where
-  abbrev row-ok : Bool
-  row-ok = eqb (length lengths) (columnCount t) && leb (length (rowOf (handed texts lengths))) 8192
-
-  row-answer : a ≡ pick row-ok (Written (length (rowOf (handed texts lengths)))) (RowRefused Row)
-  unfolding rowAnswer within
-  row-answer = e ∙ rw (le-leb t 7 h, l) (by-two (eqb (length lengths) (columnCount t)) (leb (length (rowOf (handed texts lengths))) 8192) (length (rowOf (handed texts lengths))) (RowRefused Small))
-
-  pub row-not : (x : Refusal) → a ≡ RowRefused x → row-ok ≡ false
-  row-not x f = by-refused row-ok (length (rowOf (handed texts lengths))) x (sym row-answer ∙ f)
-
-  module _ (n : ℕ) (f : a ≡ Written n) where
-    pub row-written : (row-ok ≡ true) × (n ≡ length (rowOf (handed texts lengths)))
-    row-written = by-written row-ok (length (rowOf (handed texts lengths))) n (sym row-answer ∙ f)
-
-    pub row-short : n ≤ 8192
-    row-short =
-        omega
-        (arith, row-written .1, leb-true (length (rowOf (handed texts lengths))) 8192 (and-right (eqb (length lengths) (columnCount t)) (leb (length (rowOf (handed texts lengths))) 8192) (row-written .0)))
-
-    row-out : o ≡ written out 0 (rowOf (handed texts lengths))
-    row-out = k ∙ ap (λ (b : RowAnswer). after b (rowOf (handed texts lengths)) out) f
-
-    pub row-length : length o ≡ 8192
-    row-length = ap length row-out ∙ length-written out 0 (rowOf (handed texts lengths)) ∙ l
-
-    pub row-there : take n o ≡ rowOf (handed texts lengths)
-    row-there = (λ i. take (row-written .1 i) (row-out i)) ∙ start-is (rowOf (handed texts lengths)) out (omega (arith, row-written .1, row-short))
-
--- a row that was written to fewer bytes
-
+-- in any room: what is written is one, and fits
 by-three : (p q r : Bool) (m n : ℕ) → pick p (pick q (pick r (Written m) (RowRefused Small)) (RowRefused Row)) (RowRefused Row) ≡ Written n → ((p && q) ≡ true) × (n ≡ m) × (r ≡ true)
 by-three true true true m n e = (refl, cc, refl)
 by-three true true false m n e = (cc, cc, cc)
 by-three true false r m n e = (cc, cc, cc)
 by-three false q r m n e = (cc, cc, cc)
 
-module _ (t : ℕ) (texts lengths out o : List ℕ) (a : RowAnswer) (h : t ≤ 7) (e : a ≡ rowAnswer t texts lengths (length out)) (k : o ≡ after a (rowOf (handed texts lengths)) out) (n : ℕ) (f : a ≡ Written n) where
-  abbrev few-size : ℕ
-  few-size = length (rowOf (handed texts lengths))
+module _ (t : ℕ) (texts lengths out o : List ℕ) (a : RowAnswer) (h : t ≤ 7) (e : a ≡ rowAnswer t texts lengths (length out)) (k : o ≡ after a (rowOf (handed texts lengths)) out) where
+  abbrev row-size : ℕ
+  row-size = length (rowOf (handed texts lengths))
 
-  few-answer : a ≡ pick (eqb (length lengths) (columnCount t)) (pick (leb few-size 8192) (pick (leb few-size (length out)) (Written few-size) (RowRefused Small)) (RowRefused Row)) (RowRefused Row)
+  abbrev row-ok : Bool
+  row-ok = eqb (length lengths) (columnCount t) && leb row-size 8192
+
+  row-answer : a ≡ pick (eqb (length lengths) (columnCount t)) (pick (leb row-size 8192) (pick (leb row-size (length out)) (Written row-size) (RowRefused Small)) (RowRefused Row)) (RowRefused Row)
   unfolding rowAnswer within
-  few-answer = e ∙ rw (le-leb t 7 h)
+  row-answer = e ∙ rw (le-leb t 7 h)
 
-  few-all : ((eqb (length lengths) (columnCount t) && leb few-size 8192) ≡ true) × (n ≡ few-size) × (leb few-size (length out) ≡ true)
-  few-all = by-three (eqb (length lengths) (columnCount t)) (leb few-size 8192) (leb few-size (length out)) few-size n (sym few-answer ∙ f)
+  pub row-not : length out ≡ 8192 → (x : Refusal) → a ≡ RowRefused x → row-ok ≡ false
+  row-not l x f = by-two (eqb (length lengths) (columnCount t)) (leb row-size 8192) row-size x (sym (rw l at row-answer) ∙ f)
 
-  pub few-written : ((eqb (length lengths) (columnCount t) && leb few-size 8192) ≡ true) × (n ≡ few-size)
-  few-written = (few-all .0, few-all .1)
+  module _ (n : ℕ) (f : a ≡ Written n) where
+    row-all : (row-ok ≡ true) × (n ≡ row-size) × (leb row-size (length out) ≡ true)
+    row-all = by-three (eqb (length lengths) (columnCount t)) (leb row-size 8192) (leb row-size (length out)) row-size n (sym row-answer ∙ f)
 
-  pub few-short : n ≤ 8192
-  few-short = omega (arith, few-all .1, leb-true few-size 8192 (and-right (eqb (length lengths) (columnCount t)) (leb few-size 8192) (few-all .0)))
+    pub row-written : (row-ok ≡ true) × (n ≡ row-size)
+    row-written = (row-all .0, row-all .1)
 
-  few-out : o ≡ written out 0 (rowOf (handed texts lengths))
-  few-out = k ∙ ap (λ (b : RowAnswer). after b (rowOf (handed texts lengths)) out) f
+    row-out : o ≡ written out 0 (rowOf (handed texts lengths))
+    row-out = k ∙ ap (λ (b : RowAnswer). after b (rowOf (handed texts lengths)) out) f
 
-  pub few-length : n ≤ length o
-  few-length = omega (arith, few-all .1, leb-true few-size (length out) (few-all .2), ap length few-out, length-written out 0 (rowOf (handed texts lengths)))
+    pub row-length : n ≤ length o
+    row-length = omega (arith, row-all .1, leb-true row-size (length out) (row-all .2), ap length row-out, length-written out 0 (rowOf (handed texts lengths)))
 
-  pub few-there : take n o ≡ rowOf (handed texts lengths)
-  few-there = (λ i. take (few-all .1 i) (few-out i)) ∙ start-is (rowOf (handed texts lengths)) out (leb-true few-size (length out) (few-all .2))
+    pub row-there : take n o ≡ rowOf (handed texts lengths)
+    row-there = (λ i. take (row-all .1 i) (row-out i)) ∙ start-is (rowOf (handed texts lengths)) out (leb-true row-size (length out) (row-all .2))
 
 -- ---- the beginning
 

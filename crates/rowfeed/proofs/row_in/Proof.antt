@@ -3,14 +3,14 @@ use mathlib.Core.List.{List, _++_}
 use Prim.Native.Nat.{ℕ, _+_}
 use native.Mathlib.Omega.{arith}
 use lib.Dec.{leb}
-use lib.ListN.{replicate, length-replicate}
+use lib.ListN.{replicate}
 use Rattle.writer.specs.declared.PartsStep.{PartsStep}
 use Rattle.writer.specs.Parts.{withSources, stepWith}
 use Rattle.writer.specs.State.{position}
 use Rattle.feed.specs.Run.{ranWriter, ranRegion}
 use Rattle.feed.specs.Feed.{dues, feed}
 use Rattle.update.specs.Upper.{row, taken, runOf}
-use Rattle.update.proofs.Laws.{few-written, few-short, few-length, few-there, upper-done, upper-full}
+use Rattle.update.proofs.Laws.{row-written, row-length, row-there, upper-done, upper-full}
 use borrow.Author.Needs.{needs}
 use Rattle.rowfeed.proofs.row_in.Statement.{statement}
 use Rattle.rowfeed.proofs.row_in.Tie as tie
@@ -52,9 +52,8 @@ run-row-requires c κs =
     let s = r .before .before .before .before .before .before in
     let y = s .args in
     let n = c .before .before .before .before .before .a .given in
-    let h = few-short (y .p .tables .table) (y .texts .now) (y .lengths .now) (replicate 512 0) (r .row .last .1 .1 .1 .0) (r .row .result) (s .pre .2) (r .row .ensures .0) (r .row .ensures .1) (n .0 .0) (n .1) in
-    let k = few-length (y .p .tables .table) (y .texts .now) (y .lengths .now) (replicate 512 0) (r .row .last .1 .1 .1 .0) (r .row .result) (s .pre .2) (r .row .ensures .0) (r .row .ensures .1) (n .0 .0) (n .1) in
-    omega (arith, h, k, length-replicate {A = ℕ} 512 0)
+    let k = row-length (y .p .tables .table) (y .texts .now) (y .lengths .now) (replicate 512 0) (r .row .last .1 .1 .1 .0) (r .row .result) (s .pre .2) (r .row .ensures .0) (r .row .ensures .1) (n .0 .0) (n .1) in
+    omega (arith, k)
 
 parts-did-requires : tie.Need-parts-did-requires
 parts-did-requires c κs = search needs
@@ -72,8 +71,8 @@ returns-2 c = λ ss.
     let t = x .before .before .before in
     let f = t .before in
     let n = f .before .before .a .given in
-    let w = few-written (y .p .tables .table) (y .texts .now) (y .lengths .now) (replicate 512 0) (r .row .last .1 .1 .1 .0) (r .row .result) (s .pre .2) (r .row .ensures .0) (r .row .ensures .1) (n .0 .0) (n .1) in
-    let b = few-there (y .p .tables .table) (y .texts .now) (y .lengths .now) (replicate 512 0) (r .row .last .1 .1 .1 .0) (r .row .result) (s .pre .2) (r .row .ensures .0) (r .row .ensures .1) (n .0 .0) (n .1) in
+    let w = row-written (y .p .tables .table) (y .texts .now) (y .lengths .now) (replicate 512 0) (r .row .last .1 .1 .1 .0) (r .row .result) (s .pre .2) (r .row .ensures .0) (r .row .ensures .1) (n .0 .0) (n .1) in
+    let b = row-there (y .p .tables .table) (y .texts .now) (y .lengths .now) (replicate 512 0) (r .row .last .1 .1 .1 .0) (r .row .result) (s .pre .2) (r .row .ensures .0) (r .row .ensures .1) (n .0 .0) (n .1) in
     let d =
     upper-done (y .region .now) (withSources (y .p) ss) (row (y .texts .now) (y .lengths .now)) (s .pre .0) refl (s .pre .1 ss) (w .0)
     (ap (λ (k : ℕ). leb (position (y .p .taken) + k) 487424) (sym (w .1)) ∙ sym (f .fits2 .ensures) ∙ t .if1 .taken)
@@ -95,7 +94,7 @@ returns-3 c = λ ss.
     let t = c .before in
     let f = t .before in
     let n = f .before .before .a .given in
-    let w = few-written (y .p .tables .table) (y .texts .now) (y .lengths .now) (replicate 512 0) (r .row .last .1 .1 .1 .0) (r .row .result) (s .pre .2) (r .row .ensures .0) (r .row .ensures .1) (n .0 .0) (n .1) in
+    let w = row-written (y .p .tables .table) (y .texts .now) (y .lengths .now) (replicate 512 0) (r .row .last .1 .1 .1 .0) (r .row .result) (s .pre .2) (r .row .ensures .0) (r .row .ensures .1) (n .0 .0) (n .1) in
     let d = upper-full (y .region .now) (withSources (y .p) ss) (row (y .texts .now) (y .lengths .now)) (s .pre .0) refl (s .pre .1 ss) (w .0) (ap (λ (k : ℕ). leb (position (y .p .taken) + k) 487424) (sym (w .1)) ∙ sym (f .fits2 .ensures) ∙ t .if1 .left) in
     (ap (λ (z : PartsStep). stepWith z ss) (c .parts-stay .ensures) ∙ d .0, d .1)
 
