@@ -10,11 +10,12 @@ use borrow.Author.Tests.{eq-eqb, le-leb}
 use lib.Arith.{bin-ind}
 use lib.Bits.{bitAnd, and-step, and-zero-l, and-self, and-mask, and-comm}
 use lib.ListN.{take, drop, length, getD, length-append, length-take, length-drop, take-append-drop, List·getD-append}
-use lib.Seq.{take-at, drop-at, take-all, take-length, length-take-le, take-append-le, getD-take, getD-drop, getD-append-add, drop-drop}
+use lib.Seq.{take-at, drop-at, take-all, take-length, length-take-le, take-append-le, take-append-add, getD-take, getD-drop, getD-append-add, drop-drop}
 use Rattle.leaf.specs.Bytes.{byte}
 use Rattle.record.specs.Runs.{fill}
 use Rattle.header.specs.Region.{regionSize, bankSize, sectorSize, bankOf}
-use Rattle.flash.specs.Flash.{Op, erase, write, blank, clear, place, size, done, withBank, applied, performed, fits, after}
+use Rattle.flash.specs.Flash.{Op, erase, write, blank, clear, place, size, done, withBank, torn, applied, performed, fits, after}
+use Rattle.flash.specs.Claims.{FirstPart}
 
 -- every number of a list is a byte's
 abbrev pub Bytes : List ℕ → Type 0
@@ -166,6 +167,40 @@ cut-first j [] h = absurd (not-suc-le-zero h)
 cut-first zero (x ∷ b) h = inl refl
 cut-first (suc j) (x ∷ b) h = inr (rw (suc-min-suc j 4095))
 
+-- ---- the first part, the rest untouched
+
+-- bytes blanked or cleared in part: the first m as all of them, then what was there
+blank-part : (m n : ℕ) (b : List ℕ) → m ≤ n → n ≤ length b → blank m b ≡ take m (blank n b) ++ drop m b
+unfolding blank
+blank-part zero n b h l = refl
+blank-part (suc m) zero b h l = absurd (not-suc-le-zero h)
+blank-part (suc m) (suc n) [] h l = absurd (not-suc-le-zero l)
+blank-part (suc m) (suc n) (x ∷ b) h l = ap (λ (r : List ℕ). 255 ∷ r) (blank-part m n b (le-of-suc-le-suc h) (le-of-suc-le-suc l))
+
+clear-part : (m : ℕ) (ws b : List ℕ) → m ≤ length ws → length ws ≤ length b → clear (take m ws) b ≡ take m (clear ws b) ++ drop m b
+unfolding clear
+clear-part zero ws b h l = refl
+clear-part (suc m) [] b h l = absurd (not-suc-le-zero h)
+clear-part (suc m) (w ∷ ws) [] h l = absurd (not-suc-le-zero l)
+clear-part (suc m) (w ∷ ws) (x ∷ b) h l = ap (λ (r : List ℕ). bitAnd x w ∷ r) (clear-part m ws b (le-of-suc-le-suc h) (le-of-suc-le-suc l))
+
+-- the same from a place on: w is what the whole operation leaves there, and p what its first j bytes do
+part-at : (at j : ℕ) (b w p : List ℕ) → at ≤ length b → p ≡ take j w ++ drop j (drop at b) → take at b ++ p ≡ take (at + j) (take at b ++ w) ++ drop (at + j) b
+part-at at j b w p l e =
+    let k : length (take at b) ≡ at = length-take-le at b l in
+    let q : take (at + j) (take at b ++ w) ≡ take at b ++ take j w = ap (λ (n : ℕ). take (n + j) (take at b ++ w)) (sym k) ∙ take-append-add (take at b) w j in
+    rw (e, q, drop-drop j at b, append-assoc (take at b) (take j w) (drop (at + j) b))
+
+pub first-part : FirstPart
+unfolding done
+first-part j (erase at) b f h =
+    let l : sectorSize ≤ length (drop at b) = omega (arith, length-drop at b) in
+    let e : min j sectorSize ≡ j = omega arith in
+    part-at at j b (blank sectorSize (drop at b)) (blank (min j sectorSize) (drop at b)) (omega arith) (rw e (blank-part j sectorSize (drop at b) h l))
+first-part j (write at ws) b f h =
+    let l : length ws ≤ length (drop at b) = omega (arith, length-drop at b) in
+    rw (take-length ws) (part-at at j b (clear ws (drop at b)) (clear (take j ws) (drop at b)) (omega arith) (clear-part j ws (drop at b) h l))
+
 -- ---- whole operations
 
 -- past its size nothing more is done
@@ -272,21 +307,44 @@ other-with region n m b e f h k ne = other-by region n m b e f (other-of n m h k
 
 -- ---- operations on a bank of a region
 
-module _ (region : List ℕ) (n : ℕ) (e : length region ≡ regionSize) (h : n ≤ 1) (op : Op) where
-  length-whole : length (done (size op) op (bankOf region n)) ≡ bankSize
-  length-whole = length-done (size op) op (bankOf region n) ∙ length-bank region n e h
+module _ (region : List ℕ) (n : ℕ) (e : length region ≡ regionSize) (h : n ≤ 1) (j : ℕ) (op : Op) where
+  length-part : length (done j op (bankOf region n)) ≡ bankSize
+  length-part = length-done j op (bankOf region n) ∙ length-bank region n e h
 
+  pub length-torn : length (torn n j op region) ≡ regionSize
+  unfolding torn
+  length-torn = length-with region n e h (done j op (bankOf region n)) length-part ∙ e
+
+  pub bank-torn : bankOf (torn n j op region) n ≡ done j op (bankOf region n)
+  unfolding torn
+  bank-torn = bank-with region n e h (done j op (bankOf region n)) length-part
+
+  pub other-torn : (m : ℕ) → m ≤ 1 → (m ≡ n → ⊥) → bankOf (torn n j op region) m ≡ bankOf region m
+  unfolding torn
+  other-torn m k ne = other-with region n m (done j op (bankOf region n)) e length-part h k ne
+
+  -- where nothing is changed yet the region is as it was
+  pub torn-none : done j op (bankOf region n) ≡ bankOf region n → torn n j op region ≡ region
+  unfolding torn
+  torn-none f = ap (withBank region n) f ∙ with-same region n e h
+
+  -- past its size the operation is whole
+  pub torn-whole : size op ≤ j → torn n j op region ≡ applied n op region
+  unfolding torn applied
+  torn-whole f = ap (withBank region n) (done-whole j op (bankOf region n) f)
+
+module _ (region : List ℕ) (n : ℕ) (e : length region ≡ regionSize) (h : n ≤ 1) (op : Op) where
   pub length-applied : length (applied n op region) ≡ regionSize
   unfolding applied
-  length-applied = length-with region n e h (done (size op) op (bankOf region n)) length-whole ∙ e
+  length-applied = length-torn region n e h (size op) op
 
   pub bank-applied : bankOf (applied n op region) n ≡ done (size op) op (bankOf region n)
   unfolding applied
-  bank-applied = bank-with region n e h (done (size op) op (bankOf region n)) length-whole
+  bank-applied = bank-torn region n e h (size op) op
 
   pub other-applied : (m : ℕ) → m ≤ 1 → (m ≡ n → ⊥) → bankOf (applied n op region) m ≡ bankOf region m
   unfolding applied
-  other-applied m k ne = other-with region n m (done (size op) op (bankOf region n)) e length-whole h k ne
+  other-applied = other-torn region n e h (size op) op
 
   -- what fits is done
   pub after-fits : place op + size op ≤ bankSize → after n op region ≡ applied n op region
@@ -327,7 +385,7 @@ length-done-all (op ∷ ops) b = length-done-all ops (done (size op) op b) ∙ l
 
 once : (region : List ℕ) (n : ℕ) (op : Op) (d : List ℕ) → length region ≡ regionSize → n ≤ 1 → length (done (size op) op (bankOf region n)) ≡ bankSize
     → withBank (applied n op region) n d ≡ withBank region n d
-unfolding applied
+unfolding applied torn
 once region n op d e h k = with-with region n e h (done (size op) op (bankOf region n)) k d
 
 -- operations on bank n change that bank alone

@@ -12,7 +12,7 @@ use lib.Dec.{leb, eqb}
 use lib.ListN.{take, drop, length, getD, set, length-drop, take-append-drop}
 use lib.Seq.{length-take-le, take-length, take-take, take-add, take-append-le, drop-append-le, drop-drop}
 use Rattle.header.specs.Region.{regionSize, bankSize, sectorSize, bankOf}
-use Rattle.flash.specs.Flash.{erase, write, blank, clear, done, withBank, applied, within, erasedIn, writtenIn}
+use Rattle.flash.specs.Flash.{erase, write, blank, clear, done, withBank, torn, applied, within, erasedIn, writtenIn}
 use Rattle.flash.proofs.Laws.{after-fits}
 
 -- ---- a turn of each loop
@@ -98,12 +98,12 @@ clear-there l i s at ws e f =
 
 pub erase-is : (region : List ℕ) (n at : ℕ) → length region ≡ regionSize → n ≤ 1 → at + sectorSize ≤ bankSize
     → take (n * bankSize + at) region ++ (blank sectorSize (take sectorSize (drop (n * bankSize + at) region)) ++ drop (n * bankSize + at + sectorSize) region) ≡ applied n (erase at) region
-unfolding applied withBank bankOf done
+unfolding applied torn withBank bankOf done
 erase-is region n at e h f = blank-there region (n * bankSize) bankSize at sectorSize (omega arith) f
 
 pub write-is : (region : List ℕ) (n at : ℕ) (ws : List ℕ) → length region ≡ regionSize → n ≤ 1 → at + length ws ≤ bankSize
     → take (n * bankSize + at) region ++ (clear ws (take (length ws) (drop (n * bankSize + at) region)) ++ drop (n * bankSize + at + length ws) region) ≡ applied n (write at ws) region
-unfolding applied withBank bankOf done
+unfolding applied torn withBank bankOf done
 write-is region n at ws e h f = rw (take-length ws) (clear-there region (n * bankSize) bankSize at ws (omega arith) f)
 
 -- as the calls leave them: the part that was lent, k bytes, came back as x

@@ -43,9 +43,13 @@ done j (write at ws) b = take at b ++ clear (take j ws) (drop at b)
 unfoldable pub withBank : List ℕ → ℕ → List ℕ → List ℕ
 withBank region n b = take (n * bankSize) region ++ (b ++ drop (n * bankSize + bankSize) region)
 
+-- the region once an operation on bank n has done its first j bytes
+unfoldable pub torn : ℕ → ℕ → Op → List ℕ → List ℕ
+torn n j op region = withBank region n (done j op (bankOf region n))
+
 -- the region after an operation on bank n, whole
 unfoldable pub applied : ℕ → Op → List ℕ → List ℕ
-applied n op region = withBank region n (done (size op) op (bankOf region n))
+applied n op region = torn n (size op) op region
 
 -- the region after operations on bank n, one after the other
 unfoldable pub performed : ℕ → List Op → List ℕ → List ℕ

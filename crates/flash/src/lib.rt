@@ -4,6 +4,7 @@ ghost use mathlib.Core.Bool.{true};
 ghost use Prim.Native.Nat.{_+_, _≤_};
 ghost use lib.ListN.{length};
 ghost use Rattle.flash.specs.Flash.{blank, clear, within, erasedIn, writtenIn};
+ghost use Rattle.flash.specs.Claims.{FirstPart};
 
 // Whether n bytes at a place of a bank lie within it, in a region of len bytes.
 fn lies_within(len: usize, bank: u32, at: usize, n: usize) -> bool
@@ -65,3 +66,8 @@ pub fn write(region: &mut [u8], bank: u32, at: usize, bytes: &[u8])
         clear_bits(&mut region[from..end], bytes);
     }
 }
+
+// What a cut inside an operation leaves. The function does nothing: its contract is what is proved of the definitions (specs/Claims.antt).
+pub fn torn_holds()
+    ensures { λ _. ⌜ FirstPart ⌝ }
+{}
