@@ -124,15 +124,15 @@ module _ (region : List ℕ) (hd : Loaded) (rs : List Source) (v : Option Update
       upper-in none o = absurd o
       upper-in (some u) o = upper-by c p w u (i .kept) o h (refusalOf region w c)
 
-  cut-none : (c : Lower) (j : ℕ) (s : Option Writer) → TallyIn (onCut c j (mk region s hd rs v im) s .state) 0
+  cut-none : (c : Lower) (k j : ℕ) (s : Option Writer) → TallyIn (onCut c k j (mk region s hd rs v im) s .state) 0
   unfolding onCut
-  cut-none c j none = tt
-  cut-none c j (some w) = tt
+  cut-none c k j none = tt
+  cut-none c k j (some w) = tt
 
-  upper-cut-none : (c : Upper) (j : ℕ) (s : Option Writer) → TallyIn (onUpperCut c j (mk region s hd rs v im) s .state) 0
+  upper-cut-none : (c : Upper) (k j : ℕ) (s : Option Writer) → TallyIn (onUpperCut c k j (mk region s hd rs v im) s .state) 0
   unfolding onUpperCut
-  upper-cut-none c j none = tt
-  upper-cut-none c j (some w) = tt
+  upper-cut-none c k j none = tt
+  upper-cut-none c k j (some w) = tt
 
 next-tally : (r : Run) (e : Event) (ops : List Op) → Typed e → Inv r → TallyIn (r .state) (length ops) → TallyIn (next r e .state) (length (since r e ops))
 unfolding next since
@@ -143,11 +143,11 @@ next-tally r (beginKey comparing now identity texts lengths) ops p i h =
     (beginOps (r .region) comparing now identity texts lengths) ops
     (key-tally (r .region) (r .history .held) (r .history .records) (r .image) (i .kept) comparing now identity texts lengths (p .0) (p .1) (p .2)) h
 next-tally r (beginCut comparing now) ops p i h = tt
-next-tally r (beginKeyCut comparing now identity texts lengths j) ops p i h = tt
+next-tally r (beginKeyCut comparing now identity texts lengths k j) ops p i h = tt
 next-tally r (call c) ops p i h = lower-tally (r .region) (r .history .held) (r .history .records) (r .history .open·) (r .image) ops c (r .state) i h
 next-tally r (upper c) ops p i h = upper-tally (r .region) (r .history .held) (r .history .records) (r .history .open·) (r .image) ops c p (r .state) i h
-next-tally r (cut c j) ops p i h = cut-none (r .region) (r .history .held) (r .history .records) (r .history .open·) (r .image) ops c j (r .state)
-next-tally r (upperCut c j) ops p i h = upper-cut-none (r .region) (r .history .held) (r .history .records) (r .history .open·) (r .image) ops c j (r .state)
+next-tally r (cut c k j) ops p i h = cut-none (r .region) (r .history .held) (r .history .records) (r .history .open·) (r .image) ops c k j (r .state)
+next-tally r (upperCut c k j) ops p i h = upper-cut-none (r .region) (r .history .held) (r .history .records) (r .history .open·) (r .image) ops c k j (r .state)
 
 all-tally : (es : List Event) (r : Run) (ops : List Op) → AllTyped es → Inv r → TallyIn (r .state) (length ops) → TallyIn (nextAll r es .state) (length (opsAfter r ops es))
 unfolding nextAll opsAfter

@@ -95,9 +95,9 @@ since r (beginKey comparing now identity texts lengths) ops =
 since r (call c) ops = ops ++ callOps (r .region) (r .state) c
 since r (upper c) ops = ops ++ upperCallOps (r .region) (r .state) c
 since r (beginCut comparing now) ops = []
-since r (beginKeyCut comparing now identity texts lengths k) ops = []
-since r (cut c k) ops = []
-since r (upperCut c k) ops = []
+since r (beginKeyCut comparing now identity texts lengths k j) ops = []
+since r (cut c k j) ops = []
+since r (upperCut c k j) ops = []
 
 unfoldable pub opsAfter : Run → List Op → List Event → List Op
 opsAfter r ops [] = ops

@@ -15,6 +15,7 @@ use lib.Signed.{leZ}
 use mir.Syntax.{w64}
 use mir.Val.{SFits}
 use Rattle.number.specs.Number.{pick}
+use Rattle.leaf.specs.Bytes.{byte}
 use Rattle.leaf.specs.Crc.{crc32}
 use Rattle.leaf.specs.Generation.{next}
 use Rattle.leaf.proofs.Checksum.{crc32-lt}
@@ -33,12 +34,12 @@ use Rattle.header.proofs.Laws.{and-left, and-right, span-length, span-key}
 use Rattle.headerwrite.specs.Header.{headerBytes, blankWord, commitBytes, isFit}
 use Rattle.headerwrite.specs.Types.{Proper, Numbers}
 use Rattle.headerwrite.proofs.Writing.{judge-is}
-use Rattle.headerwrite.proofs.Laws.{fit-passes, fit-count, committed, records-are, blank-unmarked}
+use Rattle.headerwrite.proofs.Laws.{fit-passes, fit-count, committed, records-are, unmarked, byte-47}
 use Rattle.bank.specs.declared.Loaded.{Loaded}
 use Rattle.bank.specs.declared.Loaded.the-variants.{Found, Nothing, Refused as NotRead}
 use Rattle.bank.specs.Bank.{validated, dataOk, generation, orElse, loaded}
-use Rattle.flash.specs.Flash.{write, size, done, applied}
-use Rattle.flash.proofs.Laws.{length-applied}
+use Rattle.flash.specs.Flash.{write, done, torn, applied}
+use Rattle.flash.proofs.Laws.{length-bank, length-applied, write-past}
 use Rattle.writer.specs.declared.Stage.{Stage}
 use Rattle.writer.specs.declared.Stage.the-variants.{Idle, Due, Headed, Committed}
 use Rattle.writer.specs.declared.Writer.{Writer}
@@ -55,7 +56,7 @@ use Rattle.powerloss.specs.Machine.{Image}
 use Rattle.powerloss.specs.Claim.{StampTyped}
 use Rattle.powerloss.proofs.Load.{target-fits, then-valid, valid-generation, load-new}
 use Rattle.powerloss.proofs.Inv.{Small, Kept, Bare, Laid, Mode, Open}
-use Rattle.powerloss.proofs.Laid.{header-write, word-write, header-data}
+use Rattle.powerloss.proofs.Laid.{head-unmarked, header-write, word-write, header-data}
 use Rattle.powerloss.proofs.Range.{AtEnd, range-of, idle-due, closed-empty, headed-of, headed-end, committed-of}
 use Rattle.powerloss.proofs.Dues.{Carried, no-ops, one-op, kept-unmarked-at, live-at, bank-at, seen, stage-is}
 
@@ -188,7 +189,7 @@ module _ (region : List ℕ) (hd : Loaded) (rs : List Source) (im : Image) (w : 
         let r′ = applied (target a) op region in
         let rg = own region hd w u o in
         one-op (target a) region hd rs im (withStage w Headed) u′ k op
-        (kept-unmarked-at region hd a rs im k (m .0) op (ap marked (hl .1) ∙ blank-unmarked bk ss (fill 255 2896 ++ (u .data· ++ hl .0))))
+        (λ j. kept-unmarked-at region hd a rs im k (m .0) op j (head-unmarked 0 4096 (t .written) (t .fill) (w .tail) (u .data·) b h j bk ss))
         (record {
           tied =
               record {
@@ -364,6 +365,17 @@ module _ (region : List ℕ) (hd : Loaded) (rs : List Source) (im : Image) (w : 
           given = ap (λ (x : List ℕ). dataOf x (length (u .data·))) bank-number ∙ data-new;
           small = subst (λ (x : ℕ). x < 2 ^ 32) (sym (o .tied .began .generation)) (next-small (w .beginning .active));
         }
+
+    -- the word's write cut before its last byte: byte 47 is still 255
+    pub word-torn : (j : ℕ) → j < 4 → Kept (torn (target (w .beginning .active)) j (write 44 commitBytes) region) hd rs im
+    word-torn j l =
+        let a = w .beginning .active in
+        let b = bankOf region (target a) in
+        let lb = length-bank region (target a) (k .size) (target-fits a) in
+        let e : byte b 47 ≡ 255 =
+        ap (λ (x : List ℕ). byte x 47) (place .1 .lies) ∙ byte-47 (bankFrom u) (recordsOf u) (fill 255 2896 ++ (u .data· ++ place .1 .rest)) in
+        kept-unmarked-at region hd a rs im k (place .0) (write 44 commitBytes) j
+        (unmarked (done j (write 44 commitBytes) b) (write-past j 44 3 commitBytes b (omega arith) (inl (omega arith)) ∙ e))
 
     pub word-open : Open (applied (target (w .beginning .active)) (write 44 commitBytes) region) (heldNew u) (withStage w Committed) u
     word-open =

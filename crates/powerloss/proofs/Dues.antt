@@ -1,20 +1,21 @@
 -- The call that does what is due carries the invariant on, whole or cut.
 use mathlib.Core.Path.{_≡_, refl, sym, ap, _∙_, subst}
 use mathlib.Core.Bool.{Bool, true, false, _||_, false≢true}
-use mathlib.Core.Logic.{inr}
+use mathlib.Core.Logic.{_⊎_, inl, inr}
 use mathlib.Core.List.{List, [], _∷_}
 use Prim.Native.Nat.{ℕ, zero, suc, _+_, _*_, _%_}
 use native.Mathlib.Omega.{arith}
 use borrow.Author.Tests.{eq-eqb, ne-eqb}
 use lib.Dec.{eqb}
 use lib.ListN.{length, take}
-use lib.Seq.{take-nil}
 use Rattle.record.specs.declared.Source.{Source}
 use Rattle.header.specs.Region.{regionSize, bankSize, sectorSize, bankOf}
 use Rattle.header.specs.Header.{marked}
+use Rattle.headerwrite.proofs.Laws.{no-magic}
+use Rattle.leaf.specs.Bytes.{byte}
 use Rattle.bank.specs.declared.Loaded.{Loaded}
-use Rattle.flash.specs.Flash.{Op, erase, write, size, done, applied, performed}
-use Rattle.flash.proofs.Laws.{length-bank, bank-applied}
+use Rattle.flash.specs.Flash.{Op, erase, write, size, done, torn, applied, performed}
+use Rattle.flash.proofs.Laws.{length-bank, bank-applied, torn-none, cut-first}
 use Rattle.writer.specs.declared.Operation.{Operation}
 use Rattle.writer.specs.declared.Operation.the-variants.{Erase, Write, Compare}
 use Rattle.writer.specs.declared.Stage.{Stage}
@@ -29,10 +30,11 @@ use Rattle.writer.proofs.Laws.{Ranged, ranged, fill-fits, position-fits}
 use Rattle.due.specs.Due.{padded, opsOf, dueOps, differs, emptied, withStage, withEmptied, operated, stepOf, dueStep}
 use Rattle.feed.specs.Run.{due}
 use Rattle.powerloss.specs.History.{Update, updateAfter}
-use Rattle.powerloss.specs.Machine.{Image}
+use Rattle.powerloss.specs.Machine.{Image, cutAt}
+use Rattle.powerloss.proofs.Cuts.{cut-none, cut-inside, cut-after}
 use Rattle.powerloss.proofs.Load.{target-fits}
 use Rattle.powerloss.proofs.Inv.{Kept, Live, Laid, Lies, LiveAt, Mode, Open, kept-unmarked, live-after}
-use Rattle.powerloss.proofs.Laid.{laid-unmarked, bare-erase, laid-erase, laid-write}
+use Rattle.powerloss.proofs.Laid.{behind-unmarked, bare-erase, laid-erase, laid-write}
 use Rattle.powerloss.proofs.Range.{range-of, tail-aligned, due-fill, empty-taken, empty-idle, write-ok, data-ok, due-ok, due-of, erase-mode, write-at, erase-data, tables-later}
 use Rattle.powerloss.proofs.Quiet.{data-lies}
 
@@ -40,29 +42,33 @@ use Rattle.powerloss.proofs.Quiet.{data-lies}
 pub record Carried (ops : List Op) (n : ℕ) (region : List ℕ) (hd : Loaded) (rs : List Source) (im : Image) (w : Writer) (u : Update) : Type 0 where
   pub whole : Kept (performed n ops region) hd rs im
   pub open· : Open (performed n ops region) hd w u
-  pub cut : (k : ℕ) → Kept (performed n (take k ops) region) hd rs im
+  pub cut : (k j : ℕ) → Kept (cutAt n k j ops region) hd rs im
 
 module _ (n : ℕ) (region : List ℕ) (hd : Loaded) (rs : List Source) (im : Image) (w : Writer) (u : Update) (k : Kept region hd rs im) where
   pub no-ops : Open region hd w u → Carried [] n region hd rs im w u
   unfolding performed
-  no-ops o = record { whole = k; open· = o; cut = λ j. rw (take-nil {A = Op} j) k }
+  no-ops o = record { whole = k; open· = o; cut = λ i j. rw (cut-none n i j region) k }
 
-  pub one-op : (op : Op) → Kept (applied n op region) hd rs im → Open (applied n op region) hd w u → Carried (op ∷ []) n region hd rs im w u
+  -- one operation, of which any first bytes may be done
+  pub one-op : (op : Op) → ((j : ℕ) → Kept (torn n j op region) hd rs im) → Open (applied n op region) hd w u → Carried (op ∷ []) n region hd rs im w u
   unfolding performed
-  one-op op q o = record { whole = q; open· = o; cut = parts }
+  one-op op t o =
+      let whole : Kept (applied n op region) hd rs im = unfold applied in (t (size op)) in
+      record { whole = whole; open· = o; cut = parts whole }
     where
-      parts : (j : ℕ) → Kept (performed n (take j (op ∷ [])) region) hd rs im
-      parts zero = k
-      parts (suc j) = rw (take-nil {A = Op} j) q
+      parts : Kept (applied n op region) hd rs im → (i j : ℕ) → Kept (cutAt n i j (op ∷ []) region) hd rs im
+      parts q zero j = rw (cut-inside n op [] region j) (t j)
+      parts q (suc i) j = rw (cut-after n op [] region i j, cut-none n i j (applied n op region)) q
 
 -- an operation on the bank that is written, named by the state
 module _ (region : List ℕ) (hd a : Loaded) (rs : List Source) (im : Image) (k : Kept region hd rs im) (v : Live region hd a) (op : Op) where
-  pub kept-unmarked-at : marked (done (size op) op (bankOf region (target a))) ≡ false → Kept (applied (target a) op region) hd rs im
-  kept-unmarked-at =
-      subst (λ (x : Loaded). marked (done (size op) op (bankOf region (target x))) ≡ false → Kept (applied (target x) op region) hd rs im) (sym (v .active)) (kept-unmarked region hd rs im k op a v)
+  pub kept-unmarked-at : (j : ℕ) → marked (done j op (bankOf region (target a))) ≡ false → Kept (torn (target a) j op region) hd rs im
+  kept-unmarked-at j =
+      subst (λ (x : Loaded). marked (done j op (bankOf region (target x))) ≡ false → Kept (torn (target x) j op region) hd rs im) (sym (v .active)) (kept-unmarked region hd rs im k j op a v)
 
   pub live-at : Live (applied (target a) op region) hd a
-  live-at = subst (λ (x : Loaded). Live (applied (target x) op region) hd a) (sym (v .active)) (live-after region hd rs im k op a v)
+  unfolding applied
+  live-at = subst (λ (x : Loaded). Live (torn (target x) (size op) op region) hd a) (sym (v .active)) (live-after region hd rs im k (size op) op a v)
 
   pub bank-at : bankOf (applied (target a) op region) (target a) ≡ done (size op) op (bankOf region (target a))
   bank-at = bank-applied region (target a) (k .size) (target-fits a) op
@@ -117,6 +123,17 @@ module _ (region : List ℕ) (hd : Loaded) (rs : List Source) (im : Image) (w : 
         mode = m;
       }
 
+  -- the header sector's erase: not begun, or the first byte is 255
+  first-by : (j : ℕ) → Live region hd (w .beginning .active)
+      → (done j (erase 0) (bankOf region (target (w .beginning .active))) ≡ bankOf region (target (w .beginning .active))) ⊎ (byte (done j (erase 0) (bankOf region (target (w .beginning .active)))) 0 ≡ 255)
+      → Kept (torn (target (w .beginning .active)) j (erase 0) region) hd rs im
+  first-by j v (inl e) =
+      let a = w .beginning .active in
+      subst (λ (x : List ℕ). Kept x hd rs im) (sym (torn-none region (target a) (k .size) (target-fits a) j (erase 0) e)) k
+  first-by j v (inr e) =
+      let a = w .beginning .active in
+      kept-unmarked-at region hd a rs im k v (erase 0) j (no-magic (done j (erase 0) (bankOf region (target a))) e)
+
   erase-first : w .stage ≡ Due (Erase 0) → Carried (erase 0 ∷ []) (target (w .beginning .active)) region hd rs im (withStage w (Due (dataDue (w .taken)))) u
   unfolding dataDue
   erase-first f =
@@ -130,7 +147,7 @@ module _ (region : List ℕ) (hd : Loaded) (rs : List Source) (im : Image) (w : 
       let al = tail-aligned t (own .taken) (due-fill t (d .0)) in
       let r′ = applied (target a) (erase 0) region in
       one-op (target a) region hd rs im (withStage w (Due (dataDue t))) u k (erase 0)
-      (kept-unmarked-at region hd a rs im k (m .0) (erase 0) (laid-unmarked 0 4096 (t .written) (t .fill) (w .tail) (u .data·) (done sectorSize (erase 0) b) h))
+      (λ j. first-by j (m .0) (cut-first j b (omega (arith, length-at region hd a rs im k (m .0) (erase 0)))))
       (restage r′ (Due (dataDue t)) c (due-of false t (dataDue t) (d .0) (data-ok t)) (
         live-at region hd a rs im k (m .0) (erase 0),
         data-lies t (w .tail) u (bankOf r′ (target a)) al
@@ -153,7 +170,8 @@ module _ (region : List ℕ) (hd : Loaded) (rs : List Source) (im : Image) (w : 
       (omega (arith, e .0, e .1)) in
       let r′ = applied (target a) op region in
       one-op (target a) region hd rs im (withStage w (Due (writeDue t))) u k op
-      (kept-unmarked-at region hd a rs im k (m .0) op (laid-unmarked 256 4097 (t .written) (t .fill) (w .tail) (u .data·) (done sectorSize op b) h))
+      (λ i. kept-unmarked-at region hd a rs im k (m .0) op i
+      (behind-unmarked 0 4096 (t .written) (t .fill) (w .tail) (u .data·) b (m .1) i op (omega arith) (omega (arith, length-at region hd a rs im k (m .0) op, e .0, e .1, position-fits t (own .taken), due-fill t (d .0)))))
       (restage r′ (Due (writeDue t)) c (due-of false t (writeDue t) (d .0) (write-ok t)) (
         live-at region hd a rs im k (m .0) op,
         subst (Laid 256 4097 (t .written) (t .fill) (w .tail) (u .data·)) (sym (bank-at region hd a rs im k (m .0) op)) h,
@@ -174,7 +192,8 @@ module _ (region : List ℕ) (hd : Loaded) (rs : List Source) (im : Image) (w : 
       laid-write t (w .tail) (u .data·) b (length-at region hd a rs im k (m .0) op) (m .1) (o .tied .tailed .bytes) (o .tied .tailed .length·) (fill-fits t (own .taken)) p in
       let r′ = applied (target a) op region in
       one-op (target a) region hd rs im (withEmptied w (t .different)) u k op
-      (kept-unmarked-at region hd a rs im k (m .0) op (laid-unmarked 0 4096 (t .written + t .fill) 0 (w .tail) (u .data·) (done (length ws) op b) h))
+      (λ i. kept-unmarked-at region hd a rs im k (m .0) op i
+      (behind-unmarked 256 4097 (t .written) (t .fill) (w .tail) (u .data·) b (m .1) i op (omega arith) (omega (arith, length-at region hd a rs im k (m .0) op, position-fits t (own .taken)))))
       (empty r′ (t .different) (d .0)
       (subst (λ (x : Bool). Mode x Idle r′ hd a (emptied t (t .different)) (w .tail) u) (sym c) (
         live-at region hd a rs im k (m .0) op,

@@ -23,8 +23,8 @@ use Rattle.headerwrite.specs.Types.{Bytes, Proper, Numbers}
 use Rattle.bank.specs.declared.Loaded.{Loaded}
 use Rattle.bank.specs.declared.Loaded.the-variants.{Found, Nothing, Refused as NotRead}
 use Rattle.bank.specs.Bank.{validated, orElse, loaded}
-use Rattle.flash.specs.Flash.{Op, size, done, applied}
-use Rattle.flash.proofs.Laws.{length-applied, bank-applied, other-applied}
+use Rattle.flash.specs.Flash.{Op, done, torn}
+use Rattle.flash.proofs.Laws.{length-torn, bank-torn, other-torn}
 use Rattle.writer.specs.declared.Operation.the-variants.{Erase, Write, Compare}
 use Rattle.writer.specs.declared.Stage.{Stage}
 use Rattle.writer.specs.declared.Stage.the-variants.{Idle, Due, Headed, Committed}
@@ -150,17 +150,17 @@ State region hd none v = Unit {0}
 State region hd (some w) none = ⊥
 State region hd (some w) (some u) = Open region hd w u
 
--- ---- an operation that leaves the written bank without its mark
+-- ---- an operation, whole or in part, that leaves the written bank without its mark
 
-module _ (region : List ℕ) (hd : Loaded) (rs : List Source) (im : Image) (k : Kept region hd rs im) (op : Op) where
+module _ (region : List ℕ) (hd : Loaded) (rs : List Source) (im : Image) (k : Kept region hd rs im) (j : ℕ) (op : Op) where
   abbrev after : List ℕ
-  after = applied (target hd) op region
+  after = torn (target hd) j op region
 
   length-after : length after ≡ regionSize
-  length-after = length-applied region (target hd) (k .size) (target-fits hd) op
+  length-after = length-torn region (target hd) (k .size) (target-fits hd) j op
 
   same-bank : (m : ℕ) → m ≤ 1 → (m ≡ target hd → ⊥) → bankOf after m ≡ bankOf region m
-  same-bank m h ne = other-applied region (target hd) (k .size) (target-fits hd) op m h ne
+  same-bank m h ne = other-torn region (target hd) (k .size) (target-fits hd) j op m h ne
 
   same-other : validated after (1 - target hd) ≡ validated region (1 - target hd)
   same-other =
@@ -179,24 +179,24 @@ same-records region region′ (Found b) e g f =
 same-records region region′ Nothing e g f = (refl, refl)
 same-records region region′ (NotRead r) e g f = (refl, refl)
 
-module _ (region : List ℕ) (hd : Loaded) (rs : List Source) (im : Image) (k : Kept region hd rs im) (op : Op) where
+module _ (region : List ℕ) (hd : Loaded) (rs : List Source) (im : Image) (k : Kept region hd rs im) (j : ℕ) (op : Op) where
   -- the held bank's bytes stay
-  pub kept-records : recordsIn (applied (target hd) op region) hd ≡ rs
-  kept-records = same-records region (applied (target hd) op region) hd (k .size) (k .loads) (same-bank region hd rs im k op) .0 ∙ k .records
+  pub kept-records : recordsIn (torn (target hd) j op region) hd ≡ rs
+  kept-records = same-records region (torn (target hd) j op region) hd (k .size) (k .loads) (same-bank region hd rs im k j op) .0 ∙ k .records
 
-  pub kept-image : bankIn (applied (target hd) op region) hd ≡ im .bank
-  kept-image = same-records region (applied (target hd) op region) hd (k .size) (k .loads) (same-bank region hd rs im k op) .1 ∙ k .image
+  pub kept-image : bankIn (torn (target hd) j op region) hd ≡ im .bank
+  kept-image = same-records region (torn (target hd) j op region) hd (k .size) (k .loads) (same-bank region hd rs im k j op) .1 ∙ k .image
 
-  pub kept-unmarked : (active : Loaded) → Live region hd active → marked (done (size op) op (bankOf region (target hd))) ≡ false → Kept (applied (target hd) op region) hd rs im
+  pub kept-unmarked : (active : Loaded) → Live region hd active → marked (done j op (bankOf region (target hd))) ≡ false → Kept (torn (target hd) j op region) hd rs im
   kept-unmarked active v f =
       let n = target hd in
-      let r′ = applied n op region in
-      let l = length-after region hd rs im k op in
+      let r′ = torn n j op region in
+      let l = length-after region hd rs im k j op in
       record {
         size = l;
         loads =
-            load-other r′ n Mark l (target-fits hd) (unmarked-refused r′ n l (target-fits hd) (ap marked (bank-applied region n (k .size) (target-fits hd) op) ∙ f))
-            ∙ live-after region hd rs im k op active v .other;
+            load-other r′ n Mark l (target-fits hd) (unmarked-refused r′ n l (target-fits hd) (ap marked (bank-torn region n (k .size) (target-fits hd) j op) ∙ f))
+            ∙ live-after region hd rs im k j op active v .other;
         records = kept-records;
         image = kept-image;
         given = k .given;

@@ -2,7 +2,7 @@
 use mathlib.Core.Path.{_≡_, refl, sym, ap, _∙_, subst}
 use mathlib.Core.Bool.{false}
 use mathlib.Core.List.{List, [], _++_, append-assoc, append-nil}
-use Prim.Native.Nat.{ℕ, zero, suc, _+_, _-_, _%_, _≤_, _<_}
+use Prim.Native.Nat.{ℕ, zero, suc, _+_, _-_, _%_, _≤_, _<_, zero-le}
 use native.Mathlib.Omega.{arith}
 use lib.ListN.{length, take, drop, length-append, take-append-drop}
 use lib.Seq.{length-take-le, drop-at, take-at}
@@ -16,9 +16,9 @@ use Rattle.header.specs.Region.{bankSize, sectorSize, dataOf}
 use Rattle.header.specs.Header.{marked}
 use Rattle.headerwrite.specs.Header.{headerBytes, blankWord, commitBytes, recordBytes}
 use Rattle.headerwrite.specs.Types.{Bytes, Proper}
-use Rattle.headerwrite.proofs.Laws.{no-magic, length-header, bytes-header, bytes-blank-word, length-blank-word, length-commit-bytes, bytes-commit-bytes, bytes-append, header-split, topBytes, length-top}
-use Rattle.flash.specs.Flash.{erase, write, done}
-use Rattle.flash.proofs.Laws.{erase-over, write-over}
+use Rattle.headerwrite.proofs.Laws.{unmarked, no-magic, blank-47, length-header, bytes-header, bytes-blank-word, length-blank-word, length-commit-bytes, bytes-commit-bytes, bytes-append, header-split, topBytes, length-top}
+use Rattle.flash.specs.Flash.{Op, erase, write, place, done}
+use Rattle.flash.proofs.Laws.{done-before, write-leaves-255, erase-over, write-over}
 use Rattle.writer.specs.declared.Taken.{Taken}
 use Rattle.due.specs.Due.{padded}
 use Rattle.powerloss.proofs.Bytes.{bytes-take, bytes-fill}
@@ -34,10 +34,21 @@ byte-fill zero i x h = absurd (omega arith)
 byte-fill (suc n) zero x h = refl
 byte-fill (suc n) (suc i) x h = byte-fill n i x (omega arith)
 
--- a blank header sector isn't marked
-pub laid-unmarked : (lo hi wr fl : ℕ) (tail d b : List ℕ) → Laid lo hi wr fl tail d b → marked b ≡ false
-laid-unmarked lo hi wr fl tail d b h =
-    no-magic b (ap (λ (x : List ℕ). byte x 0) (h .lies) ∙ byte-fill 4096 0 (h .front ++ (fill 255 (h .gap) ++ h .rest)) (omega arith))
+-- the header sector is blank
+pub laid-blank : (lo hi wr fl : ℕ) (tail d b : List ℕ) → Laid lo hi wr fl tail d b → (i : ℕ) → i < 4096 → byte b i ≡ 255
+laid-blank lo hi wr fl tail d b h i l =
+    ap (λ (x : List ℕ). byte x i) (h .lies) ∙ byte-fill 4096 i (h .front ++ (fill 255 (h .gap) ++ h .rest)) l
+
+-- and stays without its mark under an operation behind it, however far that is done
+pub behind-unmarked : (lo hi wr fl : ℕ) (tail d b : List ℕ) → Laid lo hi wr fl tail d b → (j : ℕ) (op : Op) → 0 < place op → place op ≤ length b → marked (done j op b) ≡ false
+behind-unmarked lo hi wr fl tail d b h j op p l =
+    no-magic (done j op b) (done-before j op 0 b p l ∙ laid-blank lo hi wr fl tail d b h 0 (omega arith))
+
+-- nor does the header's write mark it, however far it is done: its byte 47 is 255
+pub head-unmarked : (lo hi wr fl : ℕ) (tail d b : List ℕ) → Laid lo hi wr fl tail d b → (j : ℕ) (k : Bank) (ss : List Source) → marked (done j (write 0 (headerBytes k ss blankWord)) b) ≡ false
+head-unmarked lo hi wr fl tail d b h j k ss =
+    unmarked (done j (write 0 (headerBytes k ss blankWord)) b)
+    (write-leaves-255 j 0 47 (headerBytes k ss blankWord) b zero-le (blank-47 k ss) (laid-blank lo hi wr fl tail d b h 47 (omega arith)))
 
 -- the header sector's erase
 pub bare-erase : (t : Taken) (tail d b : List ℕ) → Bare (t .written) (t .fill) tail d → length b ≡ bankSize → Laid 0 4096 (t .written) (t .fill) tail d (done sectorSize (erase 0) b)

@@ -1,4 +1,5 @@
 pub mod Bytes
+pub mod Cuts
 pub mod Load
 pub mod Records
 pub mod Inv

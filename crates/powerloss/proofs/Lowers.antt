@@ -4,13 +4,12 @@ use mathlib.Core.Bool.{Bool, true, false, false≢true}
 use mathlib.Core.Logic.{inl}
 use mathlib.Core.Option.{Option, none, some}
 use mathlib.Core.List.{List, [], _∷_}
-use Prim.Native.Nat.{ℕ, zero, suc}
+use Prim.Native.Nat.{ℕ, zero, suc, _<_}
 use native.Mathlib.Omega.{arith}
-use borrow.Author.Tests.{eq-eqb, le-leb}
-use lib.Dec.{lit<}
+use borrow.Author.Tests.{eq-eqb, le-leb, leb-true, leb-false}
+use lib.Dec.{leb, lit<}
 use lib.IntN.{ℤ}
-use lib.ListN.{length, take}
-use lib.Seq.{take-nil}
+use lib.ListN.{length}
 use mir.Syntax.{w64}
 use mir.Val.{SFits}
 use Rattle.number.specs.Number.{pick}
@@ -23,10 +22,12 @@ use Rattle.record.proofs.Series.{length-fill}
 use Rattle.header.specs.Region.{regionSize}
 use Rattle.headerwrite.specs.Header.{commitBytes}
 use Rattle.headerwrite.specs.Types.{Bytes, Proper}
+use Rattle.headerwrite.proofs.Laws.{length-commit-bytes}
 use Rattle.bank.specs.declared.Loaded.{Loaded}
 use Rattle.bank.specs.declared.Loaded.the-variants.{Found, Nothing, Refused as NotRead}
 use Rattle.bank.specs.Bank.{loaded}
-use Rattle.flash.specs.Flash.{Op, write, performed}
+use Rattle.flash.specs.Flash.{Op, write, torn, applied, performed}
+use Rattle.flash.proofs.Laws.{torn-whole}
 use Rattle.writer.specs.declared.Stage.the-variants.{Committed}
 use Rattle.writer.specs.declared.Answer.{Answer}
 use Rattle.writer.specs.declared.Answer.the-variants.{Done, Took, NoneDue, Same, Different, Refused}
@@ -37,16 +38,17 @@ use Rattle.due.specs.Due.{withStage}
 use Rattle.commit.specs.Commit.{isHeaded, wordStep, wordOps}
 use Rattle.feed.specs.Run.{Lower, source, table, bytes, end, close, due, unchanged, commit, word, lowerStep, lowerOps}
 use Rattle.powerloss.specs.History.{Update, opened, takes, recordsAfter, updateAfter, isWord, isDone, anyDone, committed, afterLower, afterLowerCut, afterBegin}
-use Rattle.powerloss.specs.Machine.{Image, Run, begin, cut, imageAfter, onCall, onCut, stateAfter, next}
+use Rattle.powerloss.specs.Machine.{cutAt, doneAt, Image, Run, begin, cut, imageAfter, onCall, onCut, stateAfter, next}
 use Rattle.powerloss.specs.Claim.{LowerTyped}
 use Rattle.powerloss.proofs.Bytes.{bytes-fill}
-use Rattle.powerloss.proofs.Load.{load-own, other-held}
+use Rattle.powerloss.proofs.Cuts.{cut-none, cut-inside, cut-after, done-none, done-inside, done-at-end, done-after}
+use Rattle.powerloss.proofs.Load.{load-own, other-held, target-fits}
 use Rattle.powerloss.proofs.Inv.{Kept, Mode, Open, State}
 use Rattle.powerloss.proofs.Range.{range-of, tables-none}
 use Rattle.powerloss.proofs.Quiet.{on-source, on-table, on-end, on-unchanged}
 use Rattle.powerloss.proofs.Take.{on-bytes, on-close}
 use Rattle.powerloss.proofs.Dues.{Carried, no-ops, on-due}
-use Rattle.powerloss.proofs.Commits.{is-headed, on-commit, word-kept, word-open}
+use Rattle.powerloss.proofs.Commits.{is-headed, on-commit, word-kept, word-torn, word-open}
 
 -- a lower call that isn't the commit word
 abbrev pub Plain : Lower → Type 0
@@ -92,11 +94,11 @@ module _ (region : List ℕ) (hd : Loaded) (rs : List Source) (im : Image) (w : 
       let z = plain-call region hd rs im w u k o c p in
       rw e (record { kept = z .whole; open· = z .open· })
 
-  plain-cut : (c : Lower) (j : ℕ) → isWord c ≡ false → Plain c → Inv (onCut c j here (some w))
+  plain-cut : (c : Lower) (i j : ℕ) → isWord c ≡ false → Plain c → Inv (onCut c i j here (some w))
   unfolding onCut afterLowerCut committed imageAfter
-  plain-cut c j e p =
+  plain-cut c i j e p =
       let z = plain-call region hd rs im w u k o c p in
-      rw e (record { kept = z .cut j; open· = tt })
+      rw e (record { kept = z .cut i j; open· = tt })
 
   -- the commit word
   word-by : (b : Bool) → isHeaded (w .stage) ≡ b
@@ -116,22 +118,56 @@ module _ (region : List ℕ) (hd : Loaded) (rs : List Source) (im : Image) (w : 
   unfolding onCall lowerStep lowerOps wordStep wordOps
   word-inv = rw (eq-eqb (length region) regionSize (k .size), o .tied .range) (word-by (isHeaded (w .stage)) refl)
 
-  cut-by : (b : Bool) (j : ℕ) → isHeaded (w .stage) ≡ b
-      → Inv (record {
-        region = performed (target (w .beginning .active)) (take j (pick b (write 44 commitBytes ∷ []) [])) region;
+  -- the commit word's call, cut: what its operations leave of the region, and how many of them are done
+  abbrev word-left : List ℕ → ℕ → Run
+  word-left left number =
+      record {
+        region = left;
         state = none;
-        history = afterLowerCut word (length (take j (pick b (write 44 commitBytes ∷ []) []))) (record { held = hd; records = rs; open· = some u }) (some u);
-        image =
-            imageAfter true (anyDone (length (take j (pick b (write 44 commitBytes ∷ []) [])))) (some u) (performed (target (w .beginning .active)) (take j (pick b (write 44 commitBytes ∷ []) [])) region) im;
-      })
-  unfolding performed afterLowerCut committed imageAfter
-  cut-by true zero e = record { kept = k; open· = tt }
-  cut-by true (suc j) e = rw (take-nil {A = Op} j) (record { kept = word-kept region hd rs im w u k o (is-headed (w .stage) e); open· = tt })
-  cut-by false j e = rw (take-nil {A = Op} j) (record { kept = k; open· = tt })
+        history = afterLowerCut word number (record { held = hd; records = rs; open· = some u }) (some u);
+        image = imageAfter true (anyDone number) (some u) left im;
+      }
 
-  word-cut : (j : ℕ) → Inv (onCut word j here (some w))
+  abbrev bank : ℕ
+  bank = target (w .beginning .active)
+
+  abbrev word-write : Op
+  word-write = write 44 commitBytes
+
+  -- with the word written the update is committed, without it nothing has changed for load
+  left-written : isHeaded (w .stage) ≡ true → Inv (word-left (applied bank word-write region) 1)
+  unfolding afterLowerCut committed imageAfter
+  left-written e = record { kept = word-kept region hd rs im w u k o (is-headed (w .stage) e); open· = tt }
+
+  left-torn : (j : ℕ) → j < length commitBytes → isHeaded (w .stage) ≡ true → Inv (word-left (torn bank j word-write region) 0)
+  unfolding afterLowerCut committed imageAfter
+  left-torn j l e = record { kept = word-torn region hd rs im w u k o (is-headed (w .stage) e) j (omega (arith, length-commit-bytes)); open· = tt }
+
+  left-none : Inv (word-left region 0)
+  unfolding afterLowerCut committed imageAfter
+  left-none = record { kept = k; open· = tt }
+
+  -- cut inside its write: it is done once all its bytes are
+  torn-by : (j : ℕ) (d : Bool) → leb (length commitBytes) j ≡ d → isHeaded (w .stage) ≡ true
+      → Inv (word-left (cutAt bank zero j (word-write ∷ []) region) (doneAt zero j (word-write ∷ [])))
+  torn-by j true f e =
+      let l = leb-true (length commitBytes) j f in
+      let a = w .beginning .active in
+      rw (cut-inside bank word-write [] region j, done-at-end word-write [] j l, torn-whole region bank (k .size) (target-fits a) j word-write l) (left-written e)
+  torn-by j false f e =
+      let l = leb-false (length commitBytes) j f in
+      rw (cut-inside bank word-write [] region j, done-inside word-write [] j l) (left-torn j l e)
+
+  cut-by : (b : Bool) (i j : ℕ) → isHeaded (w .stage) ≡ b
+      → Inv (word-left (cutAt bank i j (pick b (word-write ∷ []) []) region) (doneAt i j (pick b (word-write ∷ []) [])))
+  cut-by true zero j e = torn-by j (leb (length commitBytes) j) refl e
+  cut-by true (suc i) j e =
+      rw (cut-after bank word-write [] region i j, cut-none bank i j (applied bank word-write region), done-after word-write [] i j, done-none i j) (left-written e)
+  cut-by false i j e = rw (cut-none bank i j region, done-none i j) left-none
+
+  word-cut : (i j : ℕ) → Inv (onCut word i j here (some w))
   unfolding onCut lowerOps wordOps
-  word-cut j = rw (eq-eqb (length region) regionSize (k .size), o .tied .range) (cut-by (isHeaded (w .stage)) j refl)
+  word-cut i j = rw (eq-eqb (length region) regionSize (k .size), o .tied .range) (cut-by (isHeaded (w .stage)) i j refl)
 
   inv-lower : (c : Lower) → LowerTyped c → Inv (onCall c here (some w))
   inv-lower (source s) p = plain-inv (source s) refl p
@@ -144,16 +180,16 @@ module _ (region : List ℕ) (hd : Loaded) (rs : List Source) (im : Image) (w : 
   inv-lower (commit stamp current) p = plain-inv (commit stamp current) refl p
   inv-lower word p = word-inv
 
-  inv-lower-cut : (c : Lower) (j : ℕ) → LowerTyped c → Inv (onCut c j here (some w))
-  inv-lower-cut (source s) j p = plain-cut (source s) j refl p
-  inv-lower-cut (table t) j p = plain-cut (table t) j refl p
-  inv-lower-cut (bytes xs) j p = plain-cut (bytes xs) j refl p
-  inv-lower-cut end j p = plain-cut end j refl p
-  inv-lower-cut close j p = plain-cut close j refl p
-  inv-lower-cut due j p = plain-cut due j refl p
-  inv-lower-cut unchanged j p = plain-cut unchanged j refl p
-  inv-lower-cut (commit stamp current) j p = plain-cut (commit stamp current) j refl p
-  inv-lower-cut word j p = word-cut j
+  inv-lower-cut : (c : Lower) (i j : ℕ) → LowerTyped c → Inv (onCut c i j here (some w))
+  inv-lower-cut (source s) i j p = plain-cut (source s) i j refl p
+  inv-lower-cut (table t) i j p = plain-cut (table t) i j refl p
+  inv-lower-cut (bytes xs) i j p = plain-cut (bytes xs) i j refl p
+  inv-lower-cut end i j p = plain-cut end i j refl p
+  inv-lower-cut close i j p = plain-cut close i j refl p
+  inv-lower-cut due i j p = plain-cut due i j refl p
+  inv-lower-cut unchanged i j p = plain-cut unchanged i j refl p
+  inv-lower-cut (commit stamp current) i j p = plain-cut (commit stamp current) i j refl p
+  inv-lower-cut word i j p = word-cut i j
 
 -- with a state or without
 pub inv-call : (c : Lower) (region : List ℕ) (s : Option Writer) (hd : Loaded) (rs : List Source) (v : Option Update) (im : Image) → LowerTyped c → Inv (mk region s hd rs v im) → Inv (onCall c (mk region s hd rs v im) s)
@@ -161,10 +197,10 @@ inv-call c region none hd rs v im p h = unfold onCall in h
 inv-call c region (some w) hd rs none im p h = absurd (h .open·)
 inv-call c region (some w) hd rs (some u) im p h = inv-lower region hd rs im w u (h .kept) (h .open·) c p
 
-pub inv-cut : (c : Lower) (j : ℕ) (region : List ℕ) (s : Option Writer) (hd : Loaded) (rs : List Source) (v : Option Update) (im : Image) → LowerTyped c → Inv (mk region s hd rs v im) → Inv (onCut c j (mk region s hd rs v im) s)
-inv-cut c j region none hd rs v im p h = unfold onCut in h
-inv-cut c j region (some w) hd rs none im p h = absurd (h .open·)
-inv-cut c j region (some w) hd rs (some u) im p h = inv-lower-cut region hd rs im w u (h .kept) (h .open·) c j p
+pub inv-cut : (c : Lower) (i j : ℕ) (region : List ℕ) (s : Option Writer) (hd : Loaded) (rs : List Source) (v : Option Update) (im : Image) → LowerTyped c → Inv (mk region s hd rs v im) → Inv (onCut c i j (mk region s hd rs v im) s)
+inv-cut c i j region none hd rs v im p h = unfold onCut in h
+inv-cut c i j region (some w) hd rs none im p h = absurd (h .open·)
+inv-cut c i j region (some w) hd rs (some u) im p h = inv-lower-cut region hd rs im w u (h .kept) (h .open·) c i j p
 
 -- ---- a beginning
 

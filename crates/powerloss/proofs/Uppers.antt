@@ -37,7 +37,7 @@ use Rattle.feed.specs.Run.{Lower, source, table, end, close, lowerStep, lowerOp
 use Rattle.feed.specs.Feed.{dues, feed}
 use Rattle.update.specs.Upper.{Upper, sourceWithDates, tableWithNames, row, tableEnd, closing, taken, lowerOf, runOf, argumentOk, orderOk, rowOk, sourceFits, allFits, refusalOf, runIf, upperRun, answered, upperStep, upperRegion, upperOps, beginRefusal, keyBytes, beginRun, beganWith, beginStep, beginRegion, beginOps}
 use Rattle.powerloss.specs.History.{Update, sourceNote, tableNote, endNote, opened, takes, notesOf, updateAfter, upperNoted, upperAfter, afterUpper, afterBegin}
-use Rattle.powerloss.specs.Machine.{Image, Run, Event, begin, beginCut, call, cut, beginKey, beginKeyCut, upper, upperCut, onUpper, onUpperCut, stateAfter, next, nextAll, found}
+use Rattle.powerloss.specs.Machine.{cutAt, Image, Run, Event, begin, beginCut, call, cut, beginKey, beginKeyCut, upper, upperCut, onUpper, onUpperCut, stateAfter, next, nextAll, found}
 use Rattle.powerloss.specs.Claim.{UpperTyped, Typed, AllTyped, Demand3}
 use Rattle.powerloss.proofs.Bytes.{bytes-nil, bytes-cons, bytes-take, bytes-drop}
 use Rattle.powerloss.proofs.Load.{load-own, load-read, valid-generation}
@@ -239,23 +239,23 @@ module _ (region : List ℕ) (hd : Loaded) (rs : List Source) (im : Image) (w : 
   unfolding onUpper upperRegion upperStep upperRun
   upper-inv c p = upper-by c p (refusalOf region w c) refl
 
-  upper-cut-by : (c : Upper) (j : ℕ) → UpperTyped c → (x : Option Refusal) → Kept (performed (target (w .beginning .active)) (take j (ranOps region w (runIf x (runOf c)))) region) hd rs im
-  upper-cut-by c j p none = ran (runOf c) region hd rs im w u (plain-run c p) k o .cut j
-  upper-cut-by c j p (some r) = ran [] region hd rs im w u tt k o .cut j
+  upper-cut-by : (c : Upper) (i j : ℕ) → UpperTyped c → (x : Option Refusal) → Kept (cutAt (target (w .beginning .active)) i j (ranOps region w (runIf x (runOf c))) region) hd rs im
+  upper-cut-by c i j p none = ran (runOf c) region hd rs im w u (plain-run c p) k o .cut i j
+  upper-cut-by c i j p (some r) = ran [] region hd rs im w u tt k o .cut i j
 
-  upper-cut-inv : (c : Upper) (j : ℕ) → UpperTyped c → Inv (onUpperCut c j (mk region (some w) hd rs (some u) im) (some w))
+  upper-cut-inv : (c : Upper) (i j : ℕ) → UpperTyped c → Inv (onUpperCut c i j (mk region (some w) hd rs (some u) im) (some w))
   unfolding onUpperCut upperOps upperRun
-  upper-cut-inv c j p = record { kept = upper-cut-by c j p (refusalOf region w c); open· = tt }
+  upper-cut-inv c i j p = record { kept = upper-cut-by c i j p (refusalOf region w c); open· = tt }
 
 inv-upper : (c : Upper) (region : List ℕ) (s : Option Writer) (hd : Loaded) (rs : List Source) (v : Option Update) (im : Image) → UpperTyped c → Inv (mk region s hd rs v im) → Inv (onUpper c (mk region s hd rs v im) s)
 inv-upper c region none hd rs v im p h = unfold onUpper in h
 inv-upper c region (some w) hd rs none im p h = absurd (h .open·)
 inv-upper c region (some w) hd rs (some u) im p h = upper-inv region hd rs im w u (h .kept) (h .open·) c p
 
-inv-upper-cut : (c : Upper) (j : ℕ) (region : List ℕ) (s : Option Writer) (hd : Loaded) (rs : List Source) (v : Option Update) (im : Image) → UpperTyped c → Inv (mk region s hd rs v im) → Inv (onUpperCut c j (mk region s hd rs v im) s)
-inv-upper-cut c j region none hd rs v im p h = unfold onUpperCut in h
-inv-upper-cut c j region (some w) hd rs none im p h = absurd (h .open·)
-inv-upper-cut c j region (some w) hd rs (some u) im p h = upper-cut-inv region hd rs im w u (h .kept) (h .open·) c j p
+inv-upper-cut : (c : Upper) (i j : ℕ) (region : List ℕ) (s : Option Writer) (hd : Loaded) (rs : List Source) (v : Option Update) (im : Image) → UpperTyped c → Inv (mk region s hd rs v im) → Inv (onUpperCut c i j (mk region s hd rs v im) s)
+inv-upper-cut c i j region none hd rs v im p h = unfold onUpperCut in h
+inv-upper-cut c i j region (some w) hd rs none im p h = absurd (h .open·)
+inv-upper-cut c i j region (some w) hd rs (some u) im p h = upper-cut-inv region hd rs im w u (h .kept) (h .open·) c i j p
 
 -- ---- a beginning with a key
 
@@ -306,20 +306,20 @@ module _ (comparing : Bool) (now : ℤ) (identity texts lengths : List ℕ) (f :
         }
     key-by s v o (some r) e = unfold ranRegion in (record { kept = k; open· = o })
 
-    key-cut-by : (j : ℕ) (x : Option Refusal) → Kept (performed (target (started hd comparing now .beginning .active)) (take j (ranOps region (started hd comparing now) (runIf x (feed key)))) region) hd rs im
-    key-cut-by j none = key-run .cut j
-    key-cut-by j (some r) = ran [] region hd rs im (started hd comparing now) (opened hd now) tt k first-open .cut j
+    key-cut-by : (i j : ℕ) (x : Option Refusal) → Kept (cutAt (target (started hd comparing now .beginning .active)) i j (ranOps region (started hd comparing now) (runIf x (feed key))) region) hd rs im
+    key-cut-by i j none = key-run .cut i j
+    key-cut-by i j (some r) = ran [] region hd rs im (started hd comparing now) (opened hd now) tt k first-open .cut i j
 
   inv-key : (region : List ℕ) (s : Option Writer) (hd : Loaded) (rs : List Source) (v : Option Update) (im : Image) → Inv (mk region s hd rs v im)
       → Inv (next (mk region s hd rs v im) (beginKey comparing now identity texts lengths))
   unfolding next beginStep beginRegion beginRun key
   inv-key region s hd rs v im h = rw (h .kept .loads) (key-by region hd rs im (h .kept) s v (h .open·) (beginRefusal region identity texts lengths) refl)
 
-  inv-key-cut : (j : ℕ) (region : List ℕ) (s : Option Writer) (hd : Loaded) (rs : List Source) (v : Option Update) (im : Image) → Inv (mk region s hd rs v im)
-      → Inv (next (mk region s hd rs v im) (beginKeyCut comparing now identity texts lengths j))
+  inv-key-cut : (i j : ℕ) (region : List ℕ) (s : Option Writer) (hd : Loaded) (rs : List Source) (v : Option Update) (im : Image) → Inv (mk region s hd rs v im)
+      → Inv (next (mk region s hd rs v im) (beginKeyCut comparing now identity texts lengths i j))
   unfolding next beginOps beginRun key
-  inv-key-cut j region s hd rs v im h =
-      rw (h .kept .loads) (record { kept = key-cut-by region hd rs im (h .kept) j (beginRefusal region identity texts lengths); open· = tt })
+  inv-key-cut i j region s hd rs v im h =
+      rw (h .kept .loads) (record { kept = key-cut-by region hd rs im (h .kept) i j (beginRefusal region identity texts lengths); open· = tt })
 
 -- ---- every list
 
@@ -327,13 +327,13 @@ pub inv-next : (r : Run) (e : Event) → Typed e → Inv r → Inv (next r e)
 inv-next r (begin c now) p h = inv-begin c now (r .region) (r .state) (r .history .held) (r .history .records) (r .history .open·) (r .image) p h
 inv-next r (beginCut c now) p h = unfold next in (record { kept = h .kept; open· = tt })
 inv-next r (call c) p h = unfold next in (inv-call c (r .region) (r .state) (r .history .held) (r .history .records) (r .history .open·) (r .image) p h)
-inv-next r (cut c j) p h = unfold next in (inv-cut c j (r .region) (r .state) (r .history .held) (r .history .records) (r .history .open·) (r .image) p h)
+inv-next r (cut c i j) p h = unfold next in (inv-cut c i j (r .region) (r .state) (r .history .held) (r .history .records) (r .history .open·) (r .image) p h)
 inv-next r (beginKey c now identity texts lengths) p h =
     inv-key c now identity texts lengths (p .0) (p .1) (p .2) (r .region) (r .state) (r .history .held) (r .history .records) (r .history .open·) (r .image) h
-inv-next r (beginKeyCut c now identity texts lengths j) p h =
-    inv-key-cut c now identity texts lengths (p .0) (p .1) (p .2) j (r .region) (r .state) (r .history .held) (r .history .records) (r .history .open·) (r .image) h
+inv-next r (beginKeyCut c now identity texts lengths i j) p h =
+    inv-key-cut c now identity texts lengths (p .0) (p .1) (p .2) i j (r .region) (r .state) (r .history .held) (r .history .records) (r .history .open·) (r .image) h
 inv-next r (upper c) p h = unfold next in (inv-upper c (r .region) (r .state) (r .history .held) (r .history .records) (r .history .open·) (r .image) p h)
-inv-next r (upperCut c j) p h = unfold next in (inv-upper-cut c j (r .region) (r .state) (r .history .held) (r .history .records) (r .history .open·) (r .image) p h)
+inv-next r (upperCut c i j) p h = unfold next in (inv-upper-cut c i j (r .region) (r .state) (r .history .held) (r .history .records) (r .history .open·) (r .image) p h)
 
 pub inv-all : (es : List Event) (r : Run) → AllTyped es → Inv r → Inv (nextAll r es)
 unfolding nextAll

@@ -1,5 +1,5 @@
 -- DEMAND 3. After every list of update calls of both layers, refused ones included, on any region of 983,040 bytes, with cuts anywhere
--- between two flash operations:
+-- between two flash operations and inside one, after any of its bytes:
 --   load answers G, the bank of the last update whose commit word was written, else the one found at the start, else none;
 --   G's records are those that the history noted;
 --   G's 491,520 bytes are as found or as the commit word left them;
@@ -8,13 +8,14 @@ use mathlib.Core.Path.{_≡_}
 use mathlib.Core.Bool.{true, false}
 use mathlib.Core.List.{List, [], _∷_}
 use mathlib.Core.Option.{Option, none, some}
-use Prim.Native.Nat.{ℕ}
-use lib.ListN.{length}
+use Prim.Native.Nat.{ℕ, _≤_, _<_}
+use lib.ListN.{length, take}
 use mir.Syntax.{w64}
 use mir.Val.{SFits}
 use Rattle.bank.specs.Bank.{loaded}
 use Rattle.header.specs.Region.{regionSize, dataOf}
 use Rattle.headerwrite.specs.Types.{Bytes, Proper}
+use Rattle.flash.specs.Flash.{Op, size, performed}
 use Rattle.writer.specs.declared.Writer.{Writer}
 use Rattle.writer.specs.declared.Answer.the-variants.{Done}
 use Rattle.writer.specs.State.{inRange, isDue}
@@ -22,7 +23,7 @@ use Rattle.commit.specs.declared.Stamp.{Stamp}
 use Rattle.commit.specs.declared.Stamp.the-variants.{Given, Missing}
 use Rattle.feed.specs.Run.{Lower, source, table, bytes, end, close, due, unchanged, commit, word}
 use Rattle.update.specs.Upper.{Upper, sourceWithDates, tableWithNames, row, tableEnd, closing, upperStep}
-use Rattle.powerloss.specs.Machine.{Event, begin, beginCut, call, cut, beginKey, beginKeyCut, upper, upperCut, Run, bankIn, recordsIn, found, nextAll}
+use Rattle.powerloss.specs.Machine.{cutAt, doneAt, Event, begin, beginCut, call, cut, beginKey, beginKeyCut, upper, upperCut, Run, bankIn, recordsIn, found, nextAll}
 
 -- What the types of the region and the arguments say: bytes are below 256, a record's fields have their widths, times have 64 bits. Nothing else is
 -- asked.
@@ -52,11 +53,11 @@ abbrev pub Typed : Event → Type 0
 Typed (begin comparing now) = SFits w64 now
 Typed (beginCut comparing now) = SFits w64 now
 Typed (call c) = LowerTyped c
-Typed (cut c k) = LowerTyped c
+Typed (cut c k j) = LowerTyped c
 Typed (beginKey comparing now identity texts lengths) = SFits w64 now × Bytes identity × Bytes texts
-Typed (beginKeyCut comparing now identity texts lengths k) = SFits w64 now × Bytes identity × Bytes texts
+Typed (beginKeyCut comparing now identity texts lengths k j) = SFits w64 now × Bytes identity × Bytes texts
 Typed (upper c) = UpperTyped c
-Typed (upperCut c k) = UpperTyped c
+Typed (upperCut c k j) = UpperTyped c
 
 abbrev pub AllTyped : List Event → Type 0
 AllTyped [] = Unit {0}
@@ -91,8 +92,20 @@ Settled =
     (region : List ℕ) (events : List Event) → length region ≡ regionSize → Bytes region → AllTyped events → (w : Writer) → nextAll (found region) events .state ≡ some w
     → (c : Upper) → UpperTyped c → upperStep (nextAll (found region) events .region) w c .answer ≡ Done → isDue (upperStep (nextAll (found region) events .region) w c .writer .taken) ≡ false
 
--- all three: what `demand3_holds` promises
+-- every operation has bytes to do
+abbrev pub Sized : List Op → Type 0
+Sized [] = Unit {0}
+Sized (op ∷ ops) = (0 < size op) × Sized ops
+
+-- Document 01's cuts, "its first k operations whole, in order, .. the rest not at all", are those with no byte of the next operation done
+-- (proofs/Cuts.antt: between)
+pub record Between : Type 0 where
+  pub region : (n k : ℕ) (ops : List Op) (region : List ℕ) → n ≤ 1 → length region ≡ regionSize → cutAt n k 0 ops region ≡ performed n (take k ops) region
+  pub number : (k : ℕ) (ops : List Op) → Sized ops → doneAt k 0 ops ≡ length (take k ops)
+
+-- all of them: what `demand3_holds` promises
 pub record Claims : Type 0 where
   pub survives : Demand3
   pub reached : Reached
   pub settled : Settled
+  pub between : Between

@@ -141,7 +141,7 @@ isDone Same = false
 isDone Different = false
 isDone (Refused r) = false
 
--- a cut call that did k operations
+-- a cut call that did k operations, each to its last byte
 abbrev pub anyDone : ℕ → Bool
 anyDone zero = false
 anyDone (suc k) = true

@@ -2,9 +2,9 @@
 use mathlib.Core.Bool.{Bool, true, false}
 use mathlib.Core.List.{List, [], _∷_}
 use mathlib.Core.Option.{Option, none, some}
-use Prim.Native.Nat.{ℕ}
+use Prim.Native.Nat.{ℕ, zero, suc}
+use lib.Dec.{leb}
 use lib.IntN.{ℤ}
-use lib.ListN.{length, take}
 use Rattle.bank.specs.declared.Loaded.{Loaded}
 use Rattle.bank.specs.declared.Loaded.the-variants.{Found, Nothing, Refused as NotRead}
 use Rattle.bank.specs.Bank.{loaded}
@@ -12,7 +12,8 @@ use Rattle.header.specs.declared.Bank.{Bank}
 use Rattle.header.specs.Region as Region
 use Rattle.header.specs.Header as Header
 use Rattle.record.specs.declared.Source.{Source}
-use Rattle.flash.specs.Flash.{Op, performed}
+use Rattle.number.specs.Number.{pick}
+use Rattle.flash.specs.Flash.{Op, size, torn, applied}
 use Rattle.writer.specs.declared.Answer.{Answer}
 use Rattle.writer.specs.declared.Answer.the-variants.{Done, Took, NoneDue, Same, Different, Refused}
 use Rattle.writer.specs.declared.Writer.{Writer}
@@ -23,16 +24,16 @@ use Rattle.feed.specs.Run.{Lower, word, lowerStep, lowerOps, lowerRegion}
 use Rattle.update.specs.Upper.{Upper, upperStep, upperRegion, upperOps, beginStep, beginRegion, beginOps, keyBytes}
 use Rattle.powerloss.specs.History.{Update, History, afterLower, afterLowerCut, afterUpper, afterBegin, withOpen, isWord, isDone, anyDone}
 
--- a call with all its arguments, answered, or cut with its first k operations done
+-- a call with all its arguments, answered, or cut: its first k operations are done whole, and the first j bytes of the next
 pub data Event : Type 0 where
   begin : Bool → ℤ → Event
   beginCut : Bool → ℤ → Event
   call : Lower → Event
-  cut : Lower → ℕ → Event
+  cut : Lower → ℕ → ℕ → Event
   beginKey : Bool → ℤ → List ℕ → List ℕ → List ℕ → Event
-  beginKeyCut : Bool → ℤ → List ℕ → List ℕ → List ℕ → ℕ → Event
+  beginKeyCut : Bool → ℤ → List ℕ → List ℕ → List ℕ → ℕ → ℕ → Event
   upper : Upper → Event
-  upperCut : Upper → ℕ → Event
+  upperCut : Upper → ℕ → ℕ → Event
 
 -- the held bank's 491,520 bytes, as found or as the commit word left them, and the data that the update took, if it was committed in the list
 pub record Image : Type 0 where
@@ -45,9 +46,21 @@ pub record Run : Type 0 where
   pub history : History
   pub image : Image
 
--- the first k operations whole, the rest not at all
-abbrev pub cutRegion : ℕ → Writer → List Op → List ℕ → List ℕ
-cutRegion k w ops region = performed (target (w .beginning .active)) (take k ops) region
+-- The supply fails: of operations on bank n the first k are done whole and of the next the first j bytes, the rest not at all.
+unfoldable pub cutAt : ℕ → ℕ → ℕ → List Op → List ℕ → List ℕ
+cutAt n k j [] region = region
+cutAt n zero j (op ∷ ops) region = torn n j op region
+cutAt n (suc k) j (op ∷ ops) region = cutAt n k j ops (applied n op region)
+
+-- how many of them are done then: an operation is done once all its bytes are
+unfoldable pub doneAt : ℕ → ℕ → List Op → ℕ
+doneAt k j [] = 0
+doneAt zero j (op ∷ ops) = pick (leb (size op) j) 1 0
+doneAt (suc k) j (op ∷ ops) = suc (doneAt k j ops)
+
+-- what a cut leaves of operations on the bank that is written
+abbrev pub cutRegion : ℕ → ℕ → Writer → List Op → List ℕ → List ℕ
+cutRegion k j w ops region = cutAt (target (w .beginning .active)) k j ops region
 
 abbrev pub bankIn : List ℕ → Loaded → List ℕ
 bankIn region (Found b) = Region.bankOf region (b .number)
@@ -74,16 +87,16 @@ onCall c r (some w) =
       image = imageAfter (isWord c) (isDone (s .answer)) (r .history .open·) after (r .image);
     }
 
-unfoldable pub onCut : Lower → ℕ → Run → Option Writer → Run
-onCut c k r none = r
-onCut c k r (some w) =
-    let ops = take k (lowerOps (r .region) w c) in
-    let after = performed (target (w .beginning .active)) ops (r .region) in
+unfoldable pub onCut : Lower → ℕ → ℕ → Run → Option Writer → Run
+onCut c k j r none = r
+onCut c k j r (some w) =
+    let ops = lowerOps (r .region) w c in
+    let after = cutRegion k j w ops (r .region) in
     record {
       region = after;
       state = none;
-      history = afterLowerCut c (length ops) (r .history) (r .history .open·);
-      image = imageAfter (isWord c) (anyDone (length ops)) (r .history .open·) after (r .image);
+      history = afterLowerCut c (doneAt k j ops) (r .history) (r .history .open·);
+      image = imageAfter (isWord c) (anyDone (doneAt k j ops)) (r .history .open·) after (r .image);
     }
 
 unfoldable pub onUpper : Upper → Run → Option Writer → Run
@@ -97,11 +110,11 @@ onUpper c r (some w) =
       image = r .image;
     }
 
-unfoldable pub onUpperCut : Upper → ℕ → Run → Option Writer → Run
-onUpperCut c k r none = r
-onUpperCut c k r (some w) =
+unfoldable pub onUpperCut : Upper → ℕ → ℕ → Run → Option Writer → Run
+onUpperCut c k j r none = r
+onUpperCut c k j r (some w) =
     record {
-      region = cutRegion k w (upperOps (r .region) w c) (r .region);
+      region = cutRegion k j w (upperOps (r .region) w c) (r .region);
       state = none;
       history = withOpen none (r .history);
       image = r .image;
@@ -134,17 +147,17 @@ next r (beginKey comparing now identity texts lengths) =
       history = afterBegin now (keyBytes identity texts lengths) (s .answer) (r .history);
       image = r .image;
     }
-next r (beginKeyCut comparing now identity texts lengths k) =
+next r (beginKeyCut comparing now identity texts lengths k j) =
     record {
-      region = cutRegion k (started (loaded (r .region)) comparing now) (beginOps (r .region) comparing now identity texts lengths) (r .region);
+      region = cutRegion k j (started (loaded (r .region)) comparing now) (beginOps (r .region) comparing now identity texts lengths) (r .region);
       state = none;
       history = withOpen none (r .history);
       image = r .image;
     }
 next r (call c) = onCall c r (r .state)
-next r (cut c k) = onCut c k r (r .state)
+next r (cut c k j) = onCut c k j r (r .state)
 next r (upper c) = onUpper c r (r .state)
-next r (upperCut c k) = onUpperCut c k r (r .state)
+next r (upperCut c k j) = onUpperCut c k j r (r .state)
 
 unfoldable pub nextAll : Run → List Event → Run
 nextAll r [] = r

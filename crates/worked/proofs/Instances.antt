@@ -2,7 +2,7 @@
 use mathlib.Core.Path.{_≡_, refl, ap, _∙_}
 use mathlib.Core.Bool.{Bool, true, false}
 use mathlib.Core.Option.{none, some}
-use mathlib.Core.List.{List, [], _∷_, _++_}
+use mathlib.Core.List.{List, [], _∷_, _++_, map}
 use Prim.Native.Nat.{ℕ, zero, suc, _<_}
 use native.Mathlib.Omega.{arith}
 use borrow.Author.Tests.{eq-eqb}
@@ -11,7 +11,7 @@ use lib.ListN.{length, take, set, getD}
 use lib.Seq.{sets}
 use mir.Syntax.{w64}
 use mir.Val.{SFits}
-use Rattle.leaf.specs.Bytes.{word as word32}
+use Rattle.leaf.specs.Bytes.{word as word32, le32}
 use Rattle.leaf.specs.Crc.{crc32}
 use Rattle.leaf.specs.Date.{leap, monthDays, isDate, validDate}
 use Rattle.leaf.proofs.Checksum.{crc32-append}
@@ -30,7 +30,7 @@ use Rattle.headerwrite.specs.Types.{Bytes, Proper}
 use Rattle.bank.specs.declared.Loaded.{Loaded}
 use Rattle.bank.specs.declared.Loaded.the-variants.{Found, Nothing}
 use Rattle.bank.specs.Bank.{loaded, orElse}
-use Rattle.flash.specs.Flash.{Op, erase, write, performed}
+use Rattle.flash.specs.Flash.{Op, erase, write, torn, performed}
 use Rattle.flash.proofs.Laws.{length-performed}
 use Rattle.writer.specs.declared.Operation.the-variants.{Erase, Write}
 use Rattle.writer.specs.declared.Stage.{Stage}
@@ -47,10 +47,11 @@ use Rattle.commit.specs.declared.Stamp.the-variants.{Missing}
 use Rattle.commit.specs.Commit.{bankFor, recordsFor, commitStep, commitOps, wordStep, wordOps}
 use Rattle.feed.specs.Run.{Lower, source, table, bytes, end, close, due, commit, word, lowerStep, lowerOps, ranOps}
 use Rattle.powerloss.specs.History.{Update, Note, sourceNote, tableNote, endNote, opened, bankOf, recordsAfter, blockBetween, updateAfter, isWord, committed, afterLower, afterLowerCut, afterBegin}
-use Rattle.powerloss.specs.Machine.{Image, Run, Event, begin, call, cut, imageAfter, onCall, onCut, next, nextAll, found}
+use Rattle.powerloss.specs.Machine.{doneAt, Image, Run, Event, begin, call, cut, imageAfter, onCall, onCut, next, nextAll, found}
 use Rattle.powerloss.specs.Claim.{Typed, AllTyped}
-use Rattle.worked.specs.Instances.{key, dates, routes, data·, theSource, callsBefore, updateWith, updated, written, Gives, WholeUpdate, CutBeforeTheWord, CutAfterTheWord, Loads, WholeUpdateLoads, CutBeforeTheWordLoads, CutAfterTheWordLoads, FiveOperations, ErasedHasNone, ErasedUpdate}
+use Rattle.worked.specs.Instances.{key, dates, routes, data·, theSource, callsToClosing, callsBefore, updateWith, eraseCut, updated, written, Gives, WholeUpdate, CutBeforeTheWord, CutAfterTheWord, CutInTheWord, CutAtTheWordsEnd, CutInTheErase, Loads, WholeUpdateLoads, CutBeforeTheWordLoads, CutAfterTheWordLoads, CutInTheWordLoads, CutAtTheWordsEndLoads, CutInTheEraseLoads, FiveOperations, ErasedHasNone, ErasedUpdate}
 use Rattle.powerloss.proofs.Bytes.{bytes-nil, bytes-cons, bytes-fill}
+use Rattle.powerloss.proofs.Cuts.{cut-inside}
 use Rattle.powerloss.proofs.Load.{load-other, unmarked-refused}
 use Rattle.powerloss.proofs.Lowers.{mk}
 use Rattle.powerloss.proofs.Uppers.{demand3}
@@ -210,6 +211,9 @@ tail3 = sets tail2 9 routes
 abbrev first : Writer
 first = st Idle (tk 0 0 0 false) (tb 0 8 0 0 0) (fill noSource 3) (fill 0 256)
 
+abbrev dueFirst : Writer
+dueFirst = st (Due (Erase 0)) (tk 0 12 crcData true) (tb 1 8 9 crcRoutes 1) (sources2 crcRoutes) tail3
+
 abbrev last· : Writer
 last· = headed tail3 crcData crcRoutes
 
@@ -245,10 +249,10 @@ module _ (region : List ℕ) (l : length region ≡ regionSize) where
   unfolding nextAll next found begun started afterBegin opened target nextGeneration
   begins es e = rw e
 
-  -- before the last event
-  before : (last : Event) → loaded region ≡ Nothing → nextAll (found region) (updateWith last) ≡ next (at region4 last· (upd data· notes)) last
-  unfolding updateWith updateAfter performed
-  before last e =
+  -- after the closing
+  closed : (es : List Event) → loaded region ≡ Nothing → nextAll (found region) (begin false (pos 0) ∷ (map call callsToClosing ++ es)) ≡ nextAll (at region dueFirst (upd data· notes)) es
+  unfolding updateAfter performed
+  closed es e =
       begins _ e
       ∙ called (bytes key) region _ _ _ _ _ _ _ _ (upd [] []) _ refl (does-key region (fill noSource 3) (fill 0 256) 0 0)
       ∙ called (source theSource) region _ _ _ _ _ _ _ _ (upd key []) _ refl (does-source region (fill noSource 3) tail1 crc1 crc1)
@@ -257,6 +261,12 @@ module _ (region : List ℕ) (l : length region ≡ regionSize) where
       ∙ called (bytes routes) region _ _ _ _ _ _ _ _ (upd (key ++ dates) notes2) _ refl (does-routes region sources1 tail2 crc2 0)
       ∙ called end region _ _ _ _ _ _ _ _ (upd data· notes2) _ refl (does-end region sources1 tail3 crcData crcRoutes)
       ∙ called close region _ _ _ _ _ _ _ _ (upd data· notes) _ refl (does-close region (sources2 crcRoutes) tail3 crcData crcRoutes)
+
+  -- before the last event
+  before : (last : Event) → loaded region ≡ Nothing → nextAll (found region) (updateWith last) ≡ next (at region4 last· (upd data· notes)) last
+  unfolding updateWith updateAfter performed
+  before last e =
+      closed (call due ∷ call due ∷ call due ∷ call (commit Missing true) ∷ last ∷ []) e
       ∙ called due region _ _ _ _ _ _ _ _ (upd data· notes) _ refl (does-header region (sources2 crcRoutes) tail3 crcData crcRoutes l)
       ∙ called due region1 _ _ _ _ _ _ _ _ (upd data· notes) _ refl (does-sector region1 (sources2 crcRoutes) tail3 crcData crcRoutes l1)
       ∙ called due region2 _ _ _ _ _ _ _ _ (upd data· notes) _ refl (does-write region2 (sources2 crcRoutes) tail3 crcData crcRoutes l2)
@@ -275,13 +285,26 @@ module _ (region : List ℕ) (l : length region ≡ regionSize) where
   unfolding next onCall afterLower committed updateAfter
   by-word = rw (does-word region (sources2 crcRoutes) tail3 crcData crcRoutes l .0) (ap Found noted-bank)
 
-  by-cut-before : next (at region last· (upd data· notes)) (cut word 0) .history .held ≡ Nothing
-  unfolding next onCut afterLowerCut committed
-  by-cut-before = refl
+  by-cut-before : next (at region last· (upd data· notes)) (cut word 0 0) .history .held ≡ Nothing
+  unfolding next onCut afterLowerCut committed doneAt commitBytes le32
+  by-cut-before = rw (does-word region (sources2 crcRoutes) tail3 crcData crcRoutes l .1) refl
 
-  by-cut-after : next (at region last· (upd data· notes)) (cut word 1) .history .held ≡ Found updated
-  unfolding next onCut afterLowerCut committed
+  by-cut-in : next (at region last· (upd data· notes)) (cut word 0 3) .history .held ≡ Nothing
+  unfolding next onCut afterLowerCut committed doneAt commitBytes le32
+  by-cut-in = rw (does-word region (sources2 crcRoutes) tail3 crcData crcRoutes l .1) refl
+
+  by-cut-at-end : next (at region last· (upd data· notes)) (cut word 0 4) .history .held ≡ Found updated
+  unfolding next onCut afterLowerCut committed doneAt commitBytes le32
+  by-cut-at-end = rw (does-word region (sources2 crcRoutes) tail3 crcData crcRoutes l .1) (ap Found noted-bank)
+
+  by-cut-after : next (at region last· (upd data· notes)) (cut word 1 0) .history .held ≡ Found updated
+  unfolding next onCut afterLowerCut committed doneAt
   by-cut-after = rw (does-word region (sources2 crcRoutes) tail3 crcData crcRoutes l .1) (ap Found noted-bank)
+
+  by-erase-cut : (next (at region dueFirst (upd data· notes)) (cut due 0 100) .region ≡ torn 0 100 (erase 0) region)
+      × (next (at region dueFirst (upd data· notes)) (cut due 0 100) .history .held ≡ Nothing)
+  unfolding next onCut afterLowerCut committed target
+  by-erase-cut = rw (does-header region (sources2 crcRoutes) tail3 crcData crcRoutes l .1, cut-inside 0 (erase 0) [] region 100) (refl, refl)
 
 by : (last : Event) (held : Loaded) → ((region : List ℕ) → length region ≡ regionSize → next (at region last· (upd data· notes)) last .history .held ≡ held) → Gives last held
 by last held f region l e = ap (λ (r : Run). r .history .held) (before region l last e) ∙ f (region4 region l) (l4 region l)
@@ -290,10 +313,24 @@ pub wholeUpdate : WholeUpdate
 wholeUpdate = by (call word) (Found updated) by-word
 
 pub cutBeforeTheWord : CutBeforeTheWord
-cutBeforeTheWord = by (cut word 0) Nothing by-cut-before
+cutBeforeTheWord = by (cut word 0 0) Nothing by-cut-before
 
 pub cutAfterTheWord : CutAfterTheWord
-cutAfterTheWord = by (cut word 1) (Found updated) by-cut-after
+cutAfterTheWord = by (cut word 1 0) (Found updated) by-cut-after
+
+pub cutInTheWord : CutInTheWord
+cutInTheWord = by (cut word 0 3) Nothing by-cut-in
+
+pub cutAtTheWordsEnd : CutAtTheWordsEnd
+cutAtTheWordsEnd = by (cut word 0 4) (Found updated) by-cut-at-end
+
+-- the header sector's erase, cut
+pub cutInTheErase : CutInTheErase
+unfolding eraseCut
+cutInTheErase region l e =
+    let q = closed region l (cut due 0 100 ∷ []) e ∙ onlyOne (at region dueFirst (upd data· notes)) (cut due 0 100) in
+    let p = by-erase-cut region l in
+    (ap (λ (r : Run). r .region) q ∙ p .0, ap (λ (r : Run). r .history .held) q ∙ p .1)
 
 -- ---- load's answer, by demand 3
 
@@ -356,10 +393,25 @@ pub wholeUpdateLoads : WholeUpdateLoads
 wholeUpdateLoads = loads-by (call word) (Found updated) tt wholeUpdate
 
 pub cutBeforeTheWordLoads : CutBeforeTheWordLoads
-cutBeforeTheWordLoads = loads-by (cut word 0) Nothing tt cutBeforeTheWord
+cutBeforeTheWordLoads = loads-by (cut word 0 0) Nothing tt cutBeforeTheWord
 
 pub cutAfterTheWordLoads : CutAfterTheWordLoads
-cutAfterTheWordLoads = loads-by (cut word 1) (Found updated) tt cutAfterTheWord
+cutAfterTheWordLoads = loads-by (cut word 1 0) (Found updated) tt cutAfterTheWord
+
+pub cutInTheWordLoads : CutInTheWordLoads
+cutInTheWordLoads = loads-by (cut word 0 3) Nothing tt cutInTheWord
+
+pub cutAtTheWordsEndLoads : CutAtTheWordsEndLoads
+cutAtTheWordsEndLoads = loads-by (cut word 0 4) (Found updated) tt cutAtTheWordsEnd
+
+erase-typed : AllTyped eraseCut
+unfolding eraseCut
+erase-typed = (zero-fits, (bytes-key, (proper, (bytes-dates, (tt, (bytes-routes, (tt, (tt, (tt, tt)))))))))
+
+pub cutInTheEraseLoads : CutInTheEraseLoads
+cutInTheEraseLoads region l y e =
+    let p = cutInTheErase region l e in
+    rw (p .0, p .1) at (demand3 region eraseCut l y erase-typed .loads)
 
 -- ---- the operations
 
@@ -451,5 +503,7 @@ pub erasedUpdate : ErasedUpdate
 erasedUpdate = (
   wholeUpdateLoads erased erased-size erased-bytes erasedHasNone,
   cutBeforeTheWordLoads erased erased-size erased-bytes erasedHasNone,
+  cutInTheWordLoads erased erased-size erased-bytes erasedHasNone,
+  cutAtTheWordsEndLoads erased erased-size erased-bytes erasedHasNone,
   cutAfterTheWordLoads erased erased-size erased-bytes erasedHasNone,
 )

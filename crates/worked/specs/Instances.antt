@@ -1,5 +1,5 @@
--- Worked instances of DEMAND 3, on every region where load finds no bank: a small update, all its calls answered, and the same list with
--- its last call, the commit word's, cut before its write and after it.
+-- Worked instances of DEMAND 3, on every region where load finds no bank: a small update, all its calls answered; the same list with its last
+-- call, the commit word's, cut before its write, inside it and after it; and one that is cut inside its first operation.
 use mathlib.Core.Path.{_≡_}
 use mathlib.Core.Bool.{true, false}
 use mathlib.Core.List.{List, [], _∷_, _++_, map}
@@ -17,7 +17,7 @@ use Rattle.headerwrite.specs.Types.{Bytes}
 use Rattle.bank.specs.declared.Loaded.{Loaded}
 use Rattle.bank.specs.declared.Loaded.the-variants.{Found, Nothing}
 use Rattle.bank.specs.Bank.{loaded}
-use Rattle.flash.specs.Flash.{erase, write}
+use Rattle.flash.specs.Flash.{erase, write, torn}
 use Rattle.lower.specs.Lower.{begun, emptied, withBlock}
 use Rattle.commit.specs.declared.Stamp.the-variants.{Missing}
 use Rattle.feed.specs.Run.{Lower, source, table, bytes, end, close, due, commit, word, ranOps}
@@ -55,9 +55,9 @@ theSource =
       validator = fill 0 66;
     }
 
--- the calls up to the commit word's
-abbrev pub callsBefore : List Lower
-callsBefore =
+-- the calls up to the closing; the header sector's erase is due then
+abbrev pub callsToClosing : List Lower
+callsToClosing =
     bytes key
     ∷ source theSource
     ∷ bytes dates
@@ -65,11 +65,11 @@ callsBefore =
     ∷ bytes routes
     ∷ end
     ∷ close
-    ∷ due
-    ∷ due
-    ∷ due
-    ∷ commit Missing true
     ∷ []
+
+-- the calls up to the commit word's
+abbrev pub callsBefore : List Lower
+callsBefore = callsToClosing ++ (due ∷ due ∷ due ∷ commit Missing true ∷ [])
 
 -- the list: a beginning in writing mode at time 0, those calls, and a last event
 unfoldable pub updateWith : Event → List Event
@@ -99,11 +99,28 @@ WholeUpdate = Gives (call word) (Found updated)
 
 -- the power fails before the commit word's write: there is no bank, as at first
 abbrev pub CutBeforeTheWord : Type 0
-CutBeforeTheWord = Gives (cut word 0) Nothing
+CutBeforeTheWord = Gives (cut word 0 0) Nothing
 
 -- the power fails after the commit word's write: the update is committed
 abbrev pub CutAfterTheWord : Type 0
-CutAfterTheWord = Gives (cut word 1) (Found updated)
+CutAfterTheWord = Gives (cut word 1 0) (Found updated)
+
+-- the power fails inside the commit word's write, after three of its four bytes: there is no bank; after the fourth the write is done
+abbrev pub CutInTheWord : Type 0
+CutInTheWord = Gives (cut word 0 3) Nothing
+
+abbrev pub CutAtTheWordsEnd : Type 0
+CutAtTheWordsEnd = Gives (cut word 0 4) (Found updated)
+
+-- the power fails inside the header sector's erase, after 100 of its 4,096 bytes: that sector's first 100 bytes are 255, the rest of the region
+-- is as it was found, and there is no bank
+unfoldable pub eraseCut : List Event
+eraseCut = begin false (pos 0) ∷ (map call callsToClosing ++ (cut due 0 100 ∷ []))
+
+abbrev pub CutInTheErase : Type 0
+CutInTheErase =
+    (region : List ℕ) → length region ≡ regionSize → loaded region ≡ Nothing
+    → (nextAll (found region) eraseCut .region ≡ torn 0 100 (erase 0) region) × (nextAll (found region) eraseCut .history .held ≡ Nothing)
 
 -- and so load answers, by DEMAND 3
 abbrev pub Loads : Event → Loaded → Type 0
@@ -113,10 +130,19 @@ abbrev pub WholeUpdateLoads : Type 0
 WholeUpdateLoads = Loads (call word) (Found updated)
 
 abbrev pub CutBeforeTheWordLoads : Type 0
-CutBeforeTheWordLoads = Loads (cut word 0) Nothing
+CutBeforeTheWordLoads = Loads (cut word 0 0) Nothing
 
 abbrev pub CutAfterTheWordLoads : Type 0
-CutAfterTheWordLoads = Loads (cut word 1) (Found updated)
+CutAfterTheWordLoads = Loads (cut word 1 0) (Found updated)
+
+abbrev pub CutInTheWordLoads : Type 0
+CutInTheWordLoads = Loads (cut word 0 3) Nothing
+
+abbrev pub CutAtTheWordsEndLoads : Type 0
+CutAtTheWordsEndLoads = Loads (cut word 0 4) (Found updated)
+
+abbrev pub CutInTheEraseLoads : Type 0
+CutInTheEraseLoads = (region : List ℕ) → length region ≡ regionSize → Bytes region → loaded region ≡ Nothing → loaded (torn 0 100 (erase 0) region) ≡ Nothing
 
 -- the record that commit writes: the source with the block of its Routes, three bytes from byte 9 on
 abbrev pub written : Source
@@ -134,21 +160,33 @@ FiveOperations =
 abbrev pub ErasedHasNone : Type 0
 ErasedHasNone = loaded (fill 255 regionSize) ≡ Nothing
 
--- So on an erased region load gives the bank after the whole update, none after the cut before the commit word, the bank after the other cut.
+-- So on an erased region load gives the bank after the whole update; none after a cut before the commit word or after three of its bytes; the
+-- bank after its fourth byte and after the word.
 abbrev pub onErased : Event → Loaded
 onErased last = loaded (nextAll (found (fill 255 regionSize)) (updateWith last) .region)
 
 abbrev pub ErasedUpdate : Type 0
-ErasedUpdate = (onErased (call word) ≡ Found updated) × (onErased (cut word 0) ≡ Nothing) × (onErased (cut word 1) ≡ Found updated)
+ErasedUpdate =
+    (onErased (call word) ≡ Found updated)
+    × (onErased (cut word 0 0) ≡ Nothing)
+    × (onErased (cut word 0 3) ≡ Nothing)
+    × (onErased (cut word 0 4) ≡ Found updated)
+    × (onErased (cut word 1 0) ≡ Found updated)
 
 -- all of them: what `instances_hold` promises
 pub record Instances : Type 0 where
   pub whole : WholeUpdate
   pub cutBefore : CutBeforeTheWord
   pub cutAfter : CutAfterTheWord
+  pub cutIn : CutInTheWord
+  pub cutAtEnd : CutAtTheWordsEnd
+  pub cutInErase : CutInTheErase
   pub wholeLoads : WholeUpdateLoads
   pub cutBeforeLoads : CutBeforeTheWordLoads
   pub cutAfterLoads : CutAfterTheWordLoads
+  pub cutInLoads : CutInTheWordLoads
+  pub cutAtEndLoads : CutAtTheWordsEndLoads
+  pub cutInEraseLoads : CutInTheEraseLoads
   pub operations : FiveOperations
   pub erased : ErasedHasNone
   pub erasedUpdate : ErasedUpdate

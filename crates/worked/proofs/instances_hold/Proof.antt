@@ -1,4 +1,4 @@
-use Rattle.worked.proofs.Instances.{wholeUpdate, cutBeforeTheWord, cutAfterTheWord, wholeUpdateLoads, cutBeforeTheWordLoads, cutAfterTheWordLoads, fiveOperations, erasedHasNone, erasedUpdate}
+use Rattle.worked.proofs.Instances.{wholeUpdate, cutBeforeTheWord, cutAfterTheWord, cutInTheWord, cutAtTheWordsEnd, cutInTheErase, wholeUpdateLoads, cutBeforeTheWordLoads, cutAfterTheWordLoads, cutInTheWordLoads, cutAtTheWordsEndLoads, cutInTheEraseLoads, fiveOperations, erasedHasNone, erasedUpdate}
 use Rattle.worked.proofs.instances_hold.Statement.{statement}
 use Rattle.worked.proofs.instances_hold.Tie as tie
 
@@ -8,9 +8,15 @@ returns c =
       whole = wholeUpdate;
       cutBefore = cutBeforeTheWord;
       cutAfter = cutAfterTheWord;
+      cutIn = cutInTheWord;
+      cutAtEnd = cutAtTheWordsEnd;
+      cutInErase = cutInTheErase;
       wholeLoads = wholeUpdateLoads;
       cutBeforeLoads = cutBeforeTheWordLoads;
       cutAfterLoads = cutAfterTheWordLoads;
+      cutInLoads = cutInTheWordLoads;
+      cutAtEndLoads = cutAtTheWordsEndLoads;
+      cutInEraseLoads = cutInTheEraseLoads;
       operations = fiveOperations;
       erased = erasedHasNone;
       erasedUpdate = erasedUpdate;
