@@ -176,14 +176,6 @@ pub bytes-header : (b : Bank) (ss : List Source) (w : List ℕ) → All Proper s
 bytes-header b ss w ps h =
     rw (header-split b ss w) (bytes-append (topBytes b ss) (w ++ recordBytes ss) (bytes-top b ss) (bytes-append w (recordBytes ss) h (bytes-records ss ps)))
 
-pub bytes-blank-word : Bytes blankWord
-unfolding blankWord
-bytes-blank-word = bytes-fill 255 4 (omega arith)
-
-pub bytes-commit-bytes : Bytes commitBytes
-unfolding commitBytes
-bytes-commit-bytes = bytes-le32 commitWord
-
 -- ---- a bank that isn't marked
 
 -- 255 in the commit word's last byte
@@ -214,6 +206,16 @@ blank-unmarked b ss rest = unmarked (headerBytes b ss blankWord ++ rest) (byte-4
 
 pub blank-refused : BlankRefused
 blank-refused n b ss rest = sym (not-marked n (headerBytes b ss blankWord ++ rest) (blank-unmarked b ss rest))
+
+-- ---- the blank word and the commit word are bytes
+
+pub bytes-blank-word : Bytes blankWord
+unfolding blankWord
+bytes-blank-word = bytes-fill 255 4 (omega arith)
+
+pub bytes-commit-bytes : Bytes commitBytes
+unfolding commitBytes
+bytes-commit-bytes = bytes-le32 commitWord
 
 -- ---- a committed header
 
