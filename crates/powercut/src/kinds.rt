@@ -2,6 +2,9 @@
 use crate::out::count;
 use crate::out::say;
 use crate::text::same;
+use crate::torn::TRY_ALL;
+use crate::torn::TRY_NONE;
+use crate::torn::TRY_SOME;
 
 // A kind of leftover by its name; 6 is all, 7 none.
 pub fn leftover_named(s: &[u8]) -> u32 {
@@ -55,6 +58,17 @@ pub fn update_named(s: &[u8]) -> u32 {
         return 4;
     }
     if same(s, b"all") { 5 } else { 6 }
+}
+
+// Which cuts inside operations are tried, by name; 3 is none of them.
+pub fn torn_named(s: &[u8]) -> u32 {
+    if same(s, b"none") {
+        return TRY_NONE;
+    }
+    if same(s, b"some") {
+        return TRY_SOME;
+    }
+    if same(s, b"all") { TRY_ALL } else { 3 }
 }
 
 // Whether a choice of updates takes in a kind.

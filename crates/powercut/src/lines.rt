@@ -28,7 +28,12 @@ fn say_verdict(fd: i32, c: Count) {
         return;
     }
     count(fd, b"; ", c.wrong);
-    count(fd, b" WRONG, the first at cut ", c.first);
+    if c.byte == 0 {
+        count(fd, b" WRONG, the first at cut ", c.first);
+        return;
+    }
+    count(fd, b" WRONG, the first at byte ", c.byte);
+    count(fd, b" of operation ", c.first);
 }
 
 // What an update's cuts came to.
@@ -37,7 +42,8 @@ pub fn say_counts(fd: i32, p: Plan, c: Count) {
     let b = p.fresh;
     count(fd, b"", wrapping_sub_u32(c.cuts, 1));
     count(fd, b" operations, ", c.cuts);
-    count(fd, b" cuts: ", c.old);
+    count(fd, b" cuts between operations, ", c.inside);
+    count(fd, b" inside: ", c.old);
     say(fd, b" gave ");
     say_loaded(fd, l);
     count(fd, b", ", c.new);
@@ -59,7 +65,8 @@ pub fn update_line(p: Plan, c: Count) {
 pub fn say_total(fd: i32, updates: u32, all: Count) {
     count(fd, b"", updates);
     count(fd, b" updates, ", all.cuts);
-    count(fd, b" cuts, ", all.again);
+    count(fd, b" cuts between operations, ", all.inside);
+    count(fd, b" inside, ", all.again);
     count(fd, b" begun again, ", all.wrong);
     say(fd, b" wrong");
 }

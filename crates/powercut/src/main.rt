@@ -1,4 +1,4 @@
-// Tries updates with the power cut after each of their flash operations: docs/POWERCUT.md has the options and the lines.
+// Tries updates with the power cut between their flash operations and inside them: docs/POWERCUT.md has the options and the lines.
 mod data;
 mod image;
 mod kinds;
@@ -8,7 +8,9 @@ mod message;
 mod options;
 mod out;
 mod picture;
+mod strips;
 mod text;
+mod torn;
 mod trial;
 mod update;
 
@@ -40,11 +42,13 @@ fn added(t: Tally, c: Count, y: u32) -> Tally {
     let a = t.all;
     let all = Count {
         cuts: wrapping_add_u32(a.cuts, c.cuts),
+        inside: wrapping_add_u32(a.inside, c.inside),
         old: wrapping_add_u32(a.old, c.old),
         new: wrapping_add_u32(a.new, c.new),
         again: wrapping_add_u32(a.again, c.again),
         wrong: wrapping_add_u32(a.wrong, c.wrong),
         first: 0,
+        byte: 0,
     };
     Tally {
         updates: wrapping_add_u32(t.updates, 1),
@@ -79,8 +83,8 @@ fn tried(
     update: u32,
     t: Tally,
 ) -> Tally {
-    let p = trial::planned(region, data, leftover, update, o.progress);
-    let mut space = [0u8; 2048];
+    let p = trial::planned(region, data, leftover, update, o.torn, o.progress);
+    let mut space = [strips::UNTRIED; 4096];
     let marks: &mut [u8] = &mut space;
     let c = trial::trial(region, image, again, data, marks, p);
     clear(o.progress);
@@ -158,15 +162,17 @@ fn picture_file(o: Options, space: &mut [u8]) -> i32 {
 fn start(o: Options, fd: i32) -> Tally {
     let mut y: u32 = 0;
     if 0 <= fd {
-        y = picture::start(fd, o.leftovers, o.updates);
+        y = picture::start(fd, o.leftovers, o.updates, o.torn);
     }
     let all = Count {
         cuts: 0,
+        inside: 0,
         old: 0,
         new: 0,
         again: 0,
         wrong: 0,
         first: 0,
+        byte: 0,
     };
     Tally {
         updates: 0,

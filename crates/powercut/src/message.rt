@@ -31,8 +31,9 @@ fn tell(text: &[u8]) {
 fn help_start() {
     tell(b"powercut [options] [IMAGE]\n");
     tell(b"\n");
-    tell(b"Runs whole updates over a board's two timetable banks, cuts the power after each\n");
-    tell(b"flash operation, and holds what load then gives against what must be there.\n");
+    tell(b"Runs whole updates over a board's two timetable banks, cuts the power between\n");
+    tell(b"flash operations and inside them, and holds what load then gives against what\n");
+    tell(b"must be there.\n");
     tell(b"\n");
     tell(b"  IMAGE                a region of 983040 bytes, or a whole flash dump of 4194304\n");
     tell(b"                       bytes with the region at 3145728 (0x300000); default:\n");
@@ -44,6 +45,12 @@ fn help_options() {
     tell(b"                       half, headed, random or all; default all\n");
     tell(b"  --update KIND        255, 257, full, compared, short (255 and 257) or all;\n");
     tell(b"                       default short\n");
+    tell(
+        b"  --torn CUTS          which cuts inside an operation: some (each byte of the header's\n",
+    );
+    tell(b"                       erase and write and of the commit word, eight places in each\n");
+    tell(b"                       other operation), all (each byte of each operation) or none;\n");
+    tell(b"                       default some\n");
     tell(b"  --svg FILE           a picture for a browser: cut by cut, what load gave\n");
     tell(b"  --progress           say on standard error how far it is, as on a terminal\n");
     tell(b"  --help               this text\n");
@@ -75,6 +82,7 @@ pub fn said(o: Options, space: &mut [u8]) -> bool {
             wrong(b"--leftover needs found, erased, older, half, headed, random or all")
         }
         End::Kind => wrong(b"--update needs 255, 257, full, compared, short or all"),
+        End::Torn => wrong(b"--torn needs some, all or none"),
         End::Picture => wrong(b"--svg needs a file's name"),
     }
     true

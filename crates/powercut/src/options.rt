@@ -1,7 +1,9 @@
 // The arguments.
 use crate::kinds::leftover_named;
+use crate::kinds::torn_named;
 use crate::kinds::update_named;
 use crate::text::same;
+use crate::torn::TRY_SOME;
 use leaf::bytes::get8;
 use slice::part;
 use std::num::wrapping_add_usize;
@@ -14,6 +16,7 @@ pub enum End {
     Images,
     Leftover,
     Kind,
+    Torn,
     Picture,
 }
 
@@ -25,6 +28,7 @@ pub struct Options {
     pub picture: usize,
     pub leftovers: u32,
     pub updates: u32,
+    pub torn: u32,
     pub progress: bool,
 }
 
@@ -36,6 +40,7 @@ fn none() -> Options {
         picture: 0,
         leftovers: 6,
         updates: 4,
+        torn: TRY_SOME,
         progress: false,
     }
 }
@@ -81,6 +86,19 @@ fn take_update(o: Options, space: &mut [u8]) -> Options {
     }
 }
 
+fn take_torn(o: Options, space: &mut [u8]) -> Options {
+    let n = os::arg(wrapping_add_usize(o.at, 1), space);
+    let torn = torn_named(part(space, 0, n));
+    if torn == 3 {
+        return ended(o, End::Torn);
+    }
+    Options {
+        torn,
+        at: wrapping_add_usize(o.at, 2),
+        ..o
+    }
+}
+
 fn take_picture(o: Options) -> Options {
     let picture = wrapping_add_usize(o.at, 1);
     if picture < os::arg_count() {
@@ -101,7 +119,7 @@ fn take_progress(o: Options) -> Options {
     }
 }
 
-// The options, by number; 0 is an image and 6 no option.
+// The options, by number; 0 is an image and 7 no option.
 fn kind(s: &[u8]) -> u8 {
     if get8(s, 0) != b'-' {
         return 0;
@@ -118,7 +136,10 @@ fn kind(s: &[u8]) -> u8 {
     if same(s, b"--svg") {
         return 4;
     }
-    if same(s, b"--progress") { 5 } else { 6 }
+    if same(s, b"--progress") {
+        return 5;
+    }
+    if same(s, b"--torn") { 6 } else { 7 }
 }
 
 // One option with what follows it.
@@ -132,6 +153,7 @@ fn step(o: Options, space: &mut [u8]) -> Options {
         3 => take_update(o, space),
         4 => take_picture(o),
         5 => take_progress(o),
+        6 => take_torn(o, space),
         _ => ended(o, End::NoOption),
     }
 }

@@ -10,19 +10,30 @@ pub fn field(fd: i32, name: &[u8], n: u32) {
     io::print_decimal(fd, wider(n));
 }
 
+// A text and a number below a million, with a comma before its last three digits.
+fn thousands(fd: i32, name: &[u8], n: u32) {
+    if n < 1000 {
+        field(fd, name, n);
+        return;
+    }
+    field(fd, name, n / 1000);
+    say(fd, b",");
+    three_digits(fd, n);
+}
+
 fn three_digits(fd: i32, n: u32) {
     io::print_decimal(fd, wider(n / 100 % 10));
     io::print_decimal(fd, wider(n / 10 % 10));
     io::print_decimal(fd, wider(n % 10));
 }
 
-// A text and a number below a million, with a comma before its last three digits.
+// A text and a number below a thousand million, with a comma before each three digits.
 pub fn count(fd: i32, name: &[u8], n: u32) {
     if n < 1000 {
         field(fd, name, n);
         return;
     }
-    field(fd, name, n / 1000);
+    thousands(fd, name, n / 1000);
     say(fd, b",");
     three_digits(fd, n);
 }

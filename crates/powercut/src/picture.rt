@@ -1,10 +1,16 @@
-// The picture: a cell for each cut, 136 in a row (eight sectors of an erase and 16 writes), coloured by what load gave.
+// The picture: a cell for each cut between operations, 136 in a row (eight sectors of an erase and 16 writes), and strips for the cuts
+// inside the header's operations, coloured by what load gave.
 use crate::kinds;
 use crate::lines::say_counts;
 use crate::lines::say_total;
 use crate::out::count;
 use crate::out::field;
 use crate::out::say;
+use crate::strips;
+use crate::torn::COMMIT_WORD;
+use crate::torn::HEADER_ERASE;
+use crate::torn::HEADER_WRITE;
+use crate::torn::TRY_NONE;
 use crate::trial::Count;
 use crate::trial::Plan;
 use leaf::bytes::get8;
@@ -17,31 +23,40 @@ fn row_count(update: u32) -> u32 {
     kinds::operations(update) / 136 + 1
 }
 
-// How high an update's part is.
-fn part_height(update: u32) -> u32 {
-    40 + (row_count(update) % 100) * 10
+// How high an update's rows of cells are.
+fn rows_height(update: u32) -> u32 {
+    (row_count(update) % 100) * 10
 }
 
-fn height_of(choice: u32, update: u32) -> u32 {
+// How high an update's part is: its line, its rows, and the three strips, where cuts inside operations are tried.
+fn part_height(update: u32, torn: u32) -> u32 {
+    let rows = 40 + rows_height(update) % 1000;
+    if torn == TRY_NONE { rows } else { rows + 40 }
+}
+
+fn height_of(choice: u32, update: u32, torn: u32) -> u32 {
     if kinds::has_update(choice, update) {
-        return part_height(update) % 10000;
+        return part_height(update, torn) % 10000;
     }
     0
 }
 
 // How high the parts of the updates are for one leftover.
-fn heights(choice: u32) -> u32 {
-    let short = wrapping_add_u32(height_of(choice, 0), height_of(choice, 1));
-    let long = wrapping_add_u32(height_of(choice, 2), height_of(choice, 3));
+fn heights(choice: u32, torn: u32) -> u32 {
+    let short = wrapping_add_u32(height_of(choice, 0, torn), height_of(choice, 1, torn));
+    let long = wrapping_add_u32(height_of(choice, 2, torn), height_of(choice, 3, torn));
     wrapping_add_u32(short, long)
 }
 
-fn height(leftovers: u32, updates: u32) -> u32 {
-    let h = heights(updates) % 100000;
+// Where the first update's part starts.
+const TOP: u32 = 180;
+
+fn height(leftovers: u32, updates: u32, torn: u32) -> u32 {
+    let h = heights(updates, torn) % 100000;
     if leftovers == 6 {
-        return 160 + 6 * h;
+        return TOP + 6 * h;
     }
-    160 + h
+    TOP + h
 }
 
 fn style(fd: i32) {
@@ -51,11 +66,11 @@ fn style(fd: i32) {
     );
     say(
         fd,
-        b".n{font-size:9px;fill:#666;text-anchor:end}.m0{fill:#9ecae1}.m4{fill:#3182bd}",
+        b".n{font-size:9px;fill:#666;text-anchor:end}.l{font-size:9px;fill:#666}.m0{fill:#9ecae1}.m4{fill:#3182bd}",
     );
     say(
         fd,
-        b".m1{fill:#74c476}.m5{fill:#238b45}.m2,.m6{fill:#d7301f}</style>\n",
+        b".m1{fill:#74c476}.m5{fill:#238b45}.m2,.m6{fill:#d7301f}.m3{fill:#eee}</style>\n",
     );
 }
 
@@ -104,7 +119,7 @@ fn explain(fd: i32) {
     line(
         fd,
         74,
-        b"A cell is a cut: the first comes before any flash operation, each later one after one more. The number before a row is its first cut.",
+        b"A cell of a row is a cut: the first comes before any flash operation, each later one after one more. The number before a row is its first cut.",
     );
     line(
         fd,
@@ -123,9 +138,19 @@ fn explain(fd: i32) {
     );
 }
 
+fn explain_strips(fd: i32, torn: u32) {
+    if torn != TRY_NONE {
+        line(
+            fd,
+            138,
+            b"The strips are cuts inside three operations, by how many of their bytes are done: a cell is 32 bytes, in the commit word one byte.",
+        );
+    }
+}
+
 fn legend_entry(fd: i32, mark: u8, x: u32, words: &[u8]) {
-    rect(fd, mark, x % 10000, 134, 8);
-    text(fd, x % 10000 + 14, 143);
+    rect(fd, mark, x % 10000, 150, 8);
+    text(fd, x % 10000 + 14, 159);
     say(fd, words);
     say(fd, b"</text>\n");
 }
@@ -148,24 +173,25 @@ fn legend(fd: i32) {
 }
 
 // The picture's beginning; where the first update's part starts.
-pub fn start(fd: i32, leftovers: u32, updates: u32) -> u32 {
-    let h = height(leftovers, updates);
+pub fn start(fd: i32, leftovers: u32, updates: u32, torn: u32) -> u32 {
+    let h = height(leftovers, updates, torn);
     say(
         fd,
-        b"<svg xmlns=\"http://www.w3.org/2000/svg\" width=\"1300\"",
+        b"<svg xmlns=\"http://www.w3.org/2000/svg\" width=\"1500\"",
     );
     field(fd, b" height=\"", h);
-    field(fd, b"\" viewBox=\"0 0 1300 ", h);
+    field(fd, b"\" viewBox=\"0 0 1500 ", h);
     say(fd, b"\">\n<title>powercut</title>\n");
     style(fd);
     patterns(fd);
     say(
         fd,
-        b"<rect width=\"1300\" height=\"100%\" fill=\"#fff\"/>\n",
+        b"<rect width=\"1500\" height=\"100%\" fill=\"#fff\"/>\n",
     );
     explain(fd);
+    explain_strips(fd, torn);
     legend(fd);
-    160
+    TOP
 }
 
 // A byte of a name at a place: what XML keeps for itself is written otherwise, what isn't printable ASCII as a question mark.
@@ -284,6 +310,44 @@ fn grid(fd: i32, y: u32, n: u32) {
     overlay(fd, wrapping_add_u32(y, whole * 10), n % 136 * 8, 10);
 }
 
+// A strip of cells, with its name and its first and last byte beside it.
+fn strip(fd: i32, marks: &[u8], kind: u32, y: u32, name: &[u8]) {
+    let from = strips::start(kind);
+    let n = strips::cells(kind);
+    let width = n % 137 * 8;
+    cells(fd, marks, from, wrapping_add_u32(from, n), y);
+    field(fd, b"<path fill=\"url(#g)\" d=\"M56 ", y);
+    field(fd, b"h", width);
+    field(fd, b"v10H56z\"/><text class=\"l\" x=\"", 62 + width);
+    field(fd, b"\" y=\"", wrapping_add_u32(y, 8));
+    say(fd, b"\">");
+    say(fd, name);
+    count(fd, b", bytes 1 to ", strips::bytes(kind));
+    say(fd, b"</text>\n");
+}
+
+// The three strips, where cuts inside operations are tried.
+fn three_strips(fd: i32, marks: &[u8], p: Plan, top: u32) {
+    if p.torn == TRY_NONE {
+        return;
+    }
+    strip(fd, marks, HEADER_ERASE, top, b"header erase");
+    strip(
+        fd,
+        marks,
+        HEADER_WRITE,
+        wrapping_add_u32(top, 10),
+        b"header write",
+    );
+    strip(
+        fd,
+        marks,
+        COMMIT_WORD,
+        wrapping_add_u32(top, 20),
+        b"commit word",
+    );
+}
+
 // An update's part; where the next one starts.
 pub fn draw(fd: i32, marks: &[u8], p: Plan, c: Count, y: u32) -> u32 {
     text(fd, 56, wrapping_add_u32(y, 14));
@@ -294,5 +358,7 @@ pub fn draw(fd: i32, marks: &[u8], p: Plan, c: Count, y: u32) -> u32 {
     let top = wrapping_add_u32(y, 20);
     rows(fd, marks, c.cuts, row_count(p.update), top);
     grid(fd, top, c.cuts);
-    wrapping_add_u32(y, part_height(p.update))
+    let below = wrapping_add_u32(top, rows_height(p.update) % 1000 + 10);
+    three_strips(fd, marks, p, below);
+    wrapping_add_u32(y, part_height(p.update, p.torn))
 }

@@ -56,6 +56,15 @@ pub fn copy(s: &[u8], out: &mut [u8]) {
     }
 }
 
+// The first n bytes of a text at a place of another, as far as they fit.
+pub fn paste(s: &[u8], n: usize, out: &mut [u8], at: usize) {
+    let mut i = 0;
+    while i < n {
+        put8(out, wrapping_add_usize(at, i), get8(s, i));
+        i += 1;
+    }
+}
+
 // The 491,520 bytes from a place on, at another place too.
 pub fn copy_bank(region: &mut [u8], from: usize, to: usize) {
     let mut i = 0;

@@ -1,15 +1,23 @@
-// One update, cut after each of its flash operations.
+// One update, cut between its flash operations and inside them.
 use crate::data::key_length;
 use crate::kinds;
 use crate::leftover::number_after;
 use crate::out::count;
 use crate::out::say;
+use crate::strips;
 use crate::text::copy;
+use crate::text::paste;
 use crate::text::put8;
 use crate::text::same_bytes;
+use crate::torn::SECTOR;
+use crate::torn::Span;
+use crate::torn::TRY_NONE;
+use crate::torn::is_sampled as is_sampled_inside;
+use crate::torn::is_tried;
 use crate::update::Update;
 use crate::update::begin;
 use crate::update::is_over;
+use crate::update::next_operation;
 use crate::update::run;
 use crate::update::stamp;
 use crate::update::step;
@@ -18,30 +26,35 @@ use bank::bank_of;
 use bank::load;
 use header::Bank;
 use header::Validated;
+use leaf::bytes::get8;
 use leaf::crc::crc32;
 use libc::STDERR_FILENO;
 use slice::part;
 use std::num::wrapping_add_u32;
 use std::num::wrapping_add_usize;
+use std::num::wrapping_sub_u32;
 
 // What is tried, what load gave on the region found, and the bank that the update commits.
 pub struct Plan {
     pub leftover: u32,
     pub update: u32,
+    pub torn: u32,
     pub progress: bool,
     pub found: Loaded,
     pub fresh: Bank,
 }
 
-// How many cuts there were, on how many load gave what was found and the new bank, from how many the update was begun again, and how
-// many were wrong, the first of them at a cut.
+// How many cuts there were between operations and inside them, on how many load gave what was found and the new bank, from how many the
+// update was begun again, and how many were wrong: the first of them at a cut, or, where byte isn't 0, in an operation after so many bytes.
 pub struct Count {
     pub cuts: u32,
+    pub inside: u32,
     pub old: u32,
     pub new: u32,
     pub again: u32,
     pub wrong: u32,
     pub first: u32,
+    pub byte: u32,
 }
 
 fn generation_after(l: Loaded) -> u32 {
@@ -65,12 +78,20 @@ fn bank_after(l: Loaded, data: &[u8], n: usize) -> Bank {
     }
 }
 
-pub fn planned(region: &[u8], data: &[u8], leftover: u32, update: u32, progress: bool) -> Plan {
+pub fn planned(
+    region: &[u8],
+    data: &[u8],
+    leftover: u32,
+    update: u32,
+    torn: u32,
+    progress: bool,
+) -> Plan {
     let found = load(region);
     let fresh = bank_after(found, data, kinds::size(update));
     Plan {
         leftover,
         update,
+        torn,
         progress,
         found,
         fresh,
@@ -169,35 +190,65 @@ fn goes_on(region: &[u8], again: &mut [u8], data: &[u8], update: u32, sampled: b
     true
 }
 
-fn counted(c: Count, right: bool, over: bool, sampled: bool) -> Count {
-    let cuts = wrapping_add_u32(c.cuts, 1);
-    let mut again = c.again;
-    if sampled {
-        again = wrapping_add_u32(again, 1);
-    }
-    if !right {
-        let first = if c.wrong == 0 { c.cuts } else { c.first };
+// One more that is wrong: a cut, or the byte of an operation.
+fn with_wrong(c: Count, byte: u32) -> Count {
+    let wrong = wrapping_add_u32(c.wrong, 1);
+    if c.wrong == 0 {
         return Count {
-            cuts,
-            again,
-            wrong: wrapping_add_u32(c.wrong, 1),
-            first,
+            wrong,
+            first: c.cuts,
+            byte,
             ..c
         };
     }
+    Count { wrong, ..c }
+}
+
+// One more from which the update was begun again, if it was.
+fn with_again(c: Count, sampled: bool) -> Count {
+    if sampled {
+        return Count {
+            again: wrapping_add_u32(c.again, 1),
+            ..c
+        };
+    }
+    c
+}
+
+// What one more cut gave.
+fn with_cut(c: Count, right: bool, over: bool, byte: u32) -> Count {
+    if !right {
+        return with_wrong(c, byte);
+    }
     if over {
         return Count {
-            cuts,
-            again,
             new: wrapping_add_u32(c.new, 1),
             ..c
         };
     }
     Count {
-        cuts,
-        again,
         old: wrapping_add_u32(c.old, 1),
         ..c
+    }
+}
+
+// A cut between operations. The number of those before it is its own.
+fn counted(c: Count, right: bool, over: bool, sampled: bool) -> Count {
+    let a = with_again(c, sampled);
+    let b = with_cut(a, right, over, 0);
+    Count {
+        cuts: wrapping_add_u32(b.cuts, 1),
+        ..b
+    }
+}
+
+// A cut inside an operation, after its first j bytes. The cut before the operation is counted, so the number of cuts is the operation's.
+fn counted_inside(c: Count, right: bool, sampled: bool, j: usize) -> Count {
+    let a = with_again(c, sampled);
+    let b = with_cut(a, right, false, (j % 4294967296) as u32);
+    Count {
+        inside: wrapping_add_u32(b.inside, 1),
+        ..b
     }
 }
 
@@ -211,8 +262,8 @@ fn gave(right: bool, over: bool) -> u8 {
 
 // What the picture shows of a cut: what it gave, and 4 more where the update was begun again.
 fn mark(right: bool, over: bool, sampled: bool) -> u8 {
-    let g = gave(right, over) % 4;
-    if sampled { 4 + g } else { g }
+    let g = gave(right, over) % strips::AGAIN;
+    if sampled { strips::AGAIN + g } else { g }
 }
 
 fn tell(p: Plan, cut: u32) {
@@ -248,18 +299,138 @@ fn look(
 fn none() -> Count {
     Count {
         cuts: 0,
+        inside: 0,
         old: 0,
         new: 0,
         again: 0,
         wrong: 0,
         first: 0,
+        byte: 0,
     }
 }
 
-// A step, and a look where it was a flash operation.
-fn next(
-    u: Update,
+// Looks at the region after a cut inside an operation. Its bytes lie in the bank that is written, so the other bank isn't compared here.
+fn look_inside(
+    s: Span,
+    j: usize,
     region: &[u8],
+    again: &mut [u8],
+    data: &[u8],
+    marks: &mut [u8],
+    p: Plan,
+    c: Count,
+) -> Count {
+    let sampled = is_sampled_inside(s, j, c.inside);
+    let l = load(region);
+    let e = p.found;
+    let right = goes_on(region, again, data, p.update, sampled) & same_loaded(l, e);
+    strips::put(marks, s, j, mark(right, false, sampled));
+    counted_inside(c, right, sampled, j)
+}
+
+// The same, where it is tried.
+fn at_byte(
+    s: Span,
+    j: usize,
+    region: &[u8],
+    again: &mut [u8],
+    data: &[u8],
+    marks: &mut [u8],
+    p: Plan,
+    c: Count,
+) -> Count {
+    if is_tried(p.torn, s, j, c.cuts) {
+        return look_inside(s, j, region, again, data, marks, p, c);
+    }
+    c
+}
+
+// All cuts inside an operation: byte by byte the region becomes what the operation left there.
+fn bytes(
+    s: Span,
+    region: &mut [u8],
+    left: &[u8],
+    again: &mut [u8],
+    data: &[u8],
+    marks: &mut [u8],
+    p: Plan,
+    so_far: Count,
+) -> Count {
+    let mut c = so_far;
+    let mut j: usize = 0;
+    while j < s.size {
+        put8(region, wrapping_add_usize(s.at, j), get8(left, j));
+        j += 1;
+        c = at_byte(s, j, region, again, data, marks, p, c);
+    }
+    c
+}
+
+// The cuts inside an operation that is done: its bytes as they were are put back first.
+fn inside(
+    s: Span,
+    region: &mut [u8],
+    was: &[u8],
+    again: &mut [u8],
+    data: &[u8],
+    marks: &mut [u8],
+    p: Plan,
+    c: Count,
+) -> Count {
+    let mut space = [0u8; SECTOR];
+    let left: &mut [u8] = &mut space;
+    copy(part(region, s.at, s.size), left);
+    paste(was, s.size, region, s.at);
+    bytes(s, region, left, again, data, marks, p, c)
+}
+
+fn inside_if_tried(
+    s: Span,
+    region: &mut [u8],
+    was: &[u8],
+    again: &mut [u8],
+    data: &[u8],
+    marks: &mut [u8],
+    p: Plan,
+    c: Count,
+) -> Count {
+    if p.torn == TRY_NONE {
+        return c;
+    }
+    inside(s, region, was, again, data, marks, p, c)
+}
+
+// The cut after an operation shows in its strip too: all its bytes are done.
+fn show_whole(s: Span, marks: &mut [u8], c: Count) {
+    let m = get8(marks, wrapping_sub_u32(c.cuts, 1) as usize);
+    strips::put(marks, s, s.size, m);
+}
+
+// A step that does a flash operation, the cuts inside it, and the one after it.
+fn operate(
+    s: Span,
+    u: Update,
+    region: &mut [u8],
+    was: &[u8],
+    before: &[u8],
+    again: &mut [u8],
+    data: &[u8],
+    marks: &mut [u8],
+    p: Plan,
+    c: Count,
+) -> Count {
+    let d = inside_if_tried(s, region, was, again, data, marks, p, c);
+    let e = look(u, region, before, again, data, marks, p, d);
+    show_whole(s, marks, e);
+    e
+}
+
+// What a step came to: a flash operation is looked at.
+fn next(
+    s: Span,
+    u: Update,
+    region: &mut [u8],
+    was: &[u8],
     before: &[u8],
     again: &mut [u8],
     data: &[u8],
@@ -268,12 +439,64 @@ fn next(
     c: Count,
 ) -> Count {
     if u.flash {
-        return look(u, region, before, again, data, marks, p, c);
+        return operate(s, u, region, was, before, again, data, marks, p, c);
     }
     c
 }
 
-// All cuts of an update, the first before any operation.
+// An update so far, and its cuts.
+struct Tried {
+    update: Update,
+    count: Count,
+}
+
+// Where the bank starts that is written.
+fn target(p: Plan) -> usize {
+    let b = p.fresh;
+    (b.number % 2) as usize * 491520
+}
+
+// A step, with its cuts. The bytes that it is about are kept as they were.
+fn turn(
+    t: Tried,
+    region: &mut [u8],
+    before: &[u8],
+    again: &mut [u8],
+    data: &[u8],
+    marks: &mut [u8],
+    p: Plan,
+) -> Tried {
+    let mut space = [0u8; SECTOR];
+    let was: &mut [u8] = &mut space;
+    let u = t.update;
+    let c = t.count;
+    let s = next_operation(u, target(p));
+    copy(part(region, s.at, s.size), was);
+    let update = step(u, region, data);
+    let count = next(s, update, region, was, before, again, data, marks, p, c);
+    Tried { update, count }
+}
+
+fn ended(t: Tried) -> bool {
+    let u = t.update;
+    is_over(u)
+}
+
+// The beginning, and the cut before any operation.
+fn begun(
+    region: &[u8],
+    before: &[u8],
+    again: &mut [u8],
+    data: &[u8],
+    marks: &mut [u8],
+    p: Plan,
+) -> Tried {
+    let update = begin(region, kinds::size(p.update), false, false);
+    let count = look(update, region, before, again, data, marks, p, none());
+    Tried { update, count }
+}
+
+// All cuts of an update.
 fn cuts(
     region: &mut [u8],
     before: &[u8],
@@ -282,18 +505,16 @@ fn cuts(
     marks: &mut [u8],
     p: Plan,
 ) -> Count {
-    let mut u = begin(region, kinds::size(p.update), false, false);
-    let mut c = look(u, region, before, again, data, marks, p, none());
+    let mut t = begun(region, before, again, data, marks, p);
     let mut turns: u32 = 8000;
     while 0 < turns {
-        if is_over(u) {
-            return c;
+        if ended(t) {
+            return t.count;
         }
-        u = step(u, region, data);
-        c = next(u, region, before, again, data, marks, p, c);
+        t = turn(t, region, before, again, data, marks, p);
         turns -= 1;
     }
-    c
+    t.count
 }
 
 // Whether the comparison of an update with the active bank answers as it must, and changes nothing.
@@ -309,12 +530,7 @@ fn with_whole(c: Count, right: bool) -> Count {
     if right {
         return c;
     }
-    let first = if c.wrong == 0 { c.cuts } else { c.first };
-    Count {
-        wrong: wrapping_add_u32(c.wrong, 1),
-        first,
-        ..c
-    }
+    with_wrong(c, 0)
 }
 
 // All cuts, with as many operations as there must be.

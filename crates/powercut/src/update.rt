@@ -1,12 +1,18 @@
 // An update by the lower layer's calls, one call a step.
 use crate::data::table_start;
 use crate::text::between;
+use crate::torn;
+use crate::torn::Span;
+use crate::torn::erase;
+use crate::torn::no_operation;
+use crate::torn::write;
 use commit::Stamp;
 use record::Source;
 use record::no_source;
 use std::num::wrapping_add_u32;
 use std::num::wrapping_add_usize;
 use writer::Answer;
+use writer::Operation;
 use writer::Stage;
 use writer::Writer;
 
@@ -259,6 +265,44 @@ pub fn step(u: Update, region: &mut [u8], data: &[u8]) -> Update {
         Phase::Closed => closed(u, region),
         Phase::Headed => word(u, region),
         Phase::Over => u,
+    }
+}
+
+// The due erase or write, in the bank that starts at a place.
+fn due_span(o: Operation, bank: usize) -> Span {
+    match o {
+        Operation::Erase { sector } => erase(bank, sector),
+        Operation::Write { offset, length } => write(bank, offset, length),
+        Operation::Compare {
+            offset: _,
+            length: _,
+        } => no_operation(),
+    }
+}
+
+// The write of a commit call, where that comes next.
+fn commit_span(u: Update, bank: usize) -> Span {
+    let p = u.phase;
+    match p {
+        Phase::Closed => {
+            if u.comparing {
+                no_operation()
+            } else {
+                torn::header(bank)
+            }
+        }
+        Phase::Headed => torn::word(bank),
+        _ => no_operation(),
+    }
+}
+
+// The flash operation that the next step does.
+pub fn next_operation(u: Update, bank: usize) -> Span {
+    let w = u.writer;
+    let s = w.stage;
+    match s {
+        Stage::Due(o) => due_span(o, bank),
+        _ => commit_span(u, bank),
     }
 }
 

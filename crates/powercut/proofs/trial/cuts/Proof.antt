@@ -5,28 +5,19 @@ use Rattle.powercut.proofs.trial.cuts.Statement.{statement}
 use Rattle.powercut.proofs.trial.cuts.Tie as tie
 
 abbrev Inv-loop : tie.InvT-loop
-Inv-loop region₀ before again₀ «data» marks₀ p u₀ c₀ turns₀ region again marks u c turns = (length region ≡ length region₀) × (length again ≡ length again₀) × (length marks ≡ length marks₀)
+Inv-loop region₀ before again₀ «data» marks₀ p t₀ turns₀ region again marks t turns = (length region ≡ length region₀) × (length again ≡ length again₀) × (length marks ≡ length marks₀)
 
 abbrev μ-loop : tie.MeasureT-loop
-μ-loop region₀ before again₀ «data» marks₀ p u₀ c₀ turns₀ region again marks u c turns = turns
+μ-loop region₀ before again₀ «data» marks₀ p t₀ turns₀ region again marks t turns = turns
 
-size-requires : tie.Need-size-requires Inv-loop μ-loop
-size-requires c κs = search needs
-
-begin-requires : tie.Need-begin-requires Inv-loop μ-loop
-begin-requires c κs = search needs
-
-none-requires : tie.Need-none-requires Inv-loop μ-loop
-none-requires c κs = search needs
-
-look-requires : tie.Need-look-requires Inv-loop μ-loop
-look-requires c κs = search needs
+begun-requires : tie.Need-begun-requires Inv-loop μ-loop
+begun-requires c κs = search needs
 
 loop-holds : tie.Need-loop-holds Inv-loop μ-loop
 loop-holds c = search needs
 
-is-over-requires : tie.Need-is-over-requires Inv-loop μ-loop
-is-over-requires c κs = search needs
+ended-requires : tie.Need-ended-requires Inv-loop μ-loop
+ended-requires c κs = search needs
 
 same-length : tie.Need-same-length Inv-loop μ-loop
 same-length c = search needs
@@ -40,11 +31,8 @@ same-length-3 c = search needs
 returns : tie.Need-returns Inv-loop μ-loop
 returns c = search needs
 
-step-requires : tie.Need-step-requires Inv-loop μ-loop
-step-requires c κs = search needs
-
-next-requires : tie.Need-next-requires Inv-loop μ-loop
-next-requires c κs = search needs
+turn-requires : tie.Need-turn-requires Inv-loop μ-loop
+turn-requires c κs = search needs
 
 sub-turns : tie.Need-sub-turns Inv-loop μ-loop
 sub-turns c = search needs
@@ -73,18 +61,14 @@ cuts-spec =
     (tie.spec
     Inv-loop
     μ-loop
-    size-requires
-    begin-requires
-    none-requires
-    look-requires
+    begun-requires
     loop-holds
-    is-over-requires
+    ended-requires
     same-length
     same-length-2
     same-length-3
     returns
-    step-requires
-    next-requires
+    turn-requires
     sub-turns
     loop-less
     loop-again

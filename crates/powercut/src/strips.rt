@@ -1,0 +1,81 @@
+// What the picture shows of the cuts inside the header's erase, the header's write and the commit word: a strip of cells for each.
+use crate::text::put8;
+use crate::torn::COMMIT_WORD;
+use crate::torn::DATA;
+use crate::torn::HEADER;
+use crate::torn::HEADER_ERASE;
+use crate::torn::NONE;
+use crate::torn::SECTOR;
+use crate::torn::Span;
+use crate::torn::WORD;
+use leaf::bytes::get8;
+use std::num::wrapping_add_u32;
+use std::num::wrapping_add_usize;
+
+// A cell that no cut was tried for.
+pub const UNTRIED: u8 = 3;
+// What a mark has more where the update was begun again.
+pub const AGAIN: u8 = 4;
+
+// The marks of the cuts between operations stand first; behind them so many for each strip.
+const FIRST: u32 = 2048;
+
+const ROOM: u32 = 256;
+// So many bytes make one cell, but of the commit word one byte.
+const GROUP: usize = 32;
+
+// Where the marks of a strip start.
+pub fn start(kind: u32) -> u32 {
+    FIRST + kind % 4 * ROOM
+}
+
+// How many bytes a strip is about.
+pub fn bytes(kind: u32) -> u32 {
+    if kind == COMMIT_WORD {
+        return WORD as u32;
+    }
+    if kind == HEADER_ERASE {
+        SECTOR as u32
+    } else {
+        HEADER as u32
+    }
+}
+
+// The cell of a cut after j bytes.
+fn cell(kind: u32, j: usize) -> u32 {
+    if j == 0 {
+        return 0;
+    }
+    let byte = j - 1;
+    if kind == COMMIT_WORD {
+        return (byte % 256) as u32;
+    }
+    (byte / GROUP % 256) as u32
+}
+
+// How many cells a strip has.
+pub fn cells(kind: u32) -> u32 {
+    wrapping_add_u32(cell(kind, bytes(kind) as usize), 1)
+}
+
+// One mark of two: what is wrong shows, and that the update was begun again.
+fn joined(old: u8, new: u8) -> u8 {
+    if old == UNTRIED {
+        return new;
+    }
+    let again = (AGAIN <= old) | (AGAIN <= new);
+    let a = old % AGAIN;
+    let b = new % AGAIN;
+    let gave = if a < b { b } else { a };
+    if again { AGAIN + gave % AGAIN } else { gave }
+}
+
+// Notes what the cut after the first j bytes of an operation gave, where the operation has a strip.
+pub fn put(marks: &mut [u8], s: Span, j: usize, mark: u8) {
+    if (s.kind == NONE) | (s.kind == DATA) {
+        return;
+    }
+    let at = wrapping_add_u32(start(s.kind), cell(s.kind, j)) as usize;
+    let old = get8(marks, at);
+    put8(marks, at, joined(old, mark));
+}
