@@ -1,4 +1,4 @@
--- The flash model: an erase sets a 4,096-byte sector to 255; a write clears bits only.
+-- The flash model: an erase sets a 4,096-byte sector to 255; a write clears bits only; one that is cut has done its first bytes.
 use mathlib.Core.Bool.{Bool, _&&_}
 use mathlib.Core.List.{List, [], _∷_, _++_}
 use Prim.Native.Nat.{ℕ, zero, suc, _+_, _*_, min}
@@ -43,7 +43,8 @@ done j (write at ws) b = take at b ++ clear (take j ws) (drop at b)
 unfoldable pub withBank : List ℕ → ℕ → List ℕ → List ℕ
 withBank region n b = take (n * bankSize) region ++ (b ++ drop (n * bankSize + bankSize) region)
 
--- the region once an operation on bank n has done its first j bytes
+-- E5: a cut write leaves "a first part of its bytes written", a cut erase "a first part of its sector erased, the rest untouched". The region once
+-- an operation on bank n has done its first j bytes; past its size it is whole.
 unfoldable pub torn : ℕ → ℕ → Op → List ℕ → List ℕ
 torn n j op region = withBank region n (done j op (bankOf region n))
 

@@ -1,4 +1,5 @@
--- Both calls of a commit carry the invariant on, whole or cut.
+-- Both calls of a commit carry the invariant on, whole or cut after any of their bytes. The header's write leaves byte 47 at 255, and so do
+-- fewer than four bytes of the commit word: the bank meets 3 until the word's last byte is written.
 use mathlib.Core.Path.{_≡_, refl, sym, ap, _∙_, subst}
 use mathlib.Core.Bool.{Bool, true, false, not, _&&_, false≢true}
 use mathlib.Core.Logic.{_⊎_, inl, inr}

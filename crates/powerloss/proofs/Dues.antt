@@ -1,4 +1,5 @@
--- The call that does what is due carries the invariant on, whole or cut.
+-- The call that does what is due carries the invariant on, whole or cut after any of its bytes. The header sector's erase isn't begun or has
+-- made byte 0 255, and the other operations lie behind that byte: the magic is gone, the bank meets 3, and load gives the other one.
 use mathlib.Core.Path.{_≡_, refl, sym, ap, _∙_, subst}
 use mathlib.Core.Bool.{Bool, true, false, _||_, false≢true}
 use mathlib.Core.Logic.{_⊎_, inl, inr}

@@ -1,4 +1,5 @@
--- "The book of demand 3": a history of the calls, fed their arguments, their answers and each cut's k. It reads no writer's state and no flash.
+-- "The book of demand 3": a history of the calls, fed their arguments, their answers and how many operations each cut call did. It reads no
+-- writer's state and no flash.
 use mathlib.Core.Bool.{Bool, true, false}
 use mathlib.Core.List.{List, [], _∷_, _++_}
 use mathlib.Core.Option.{Option, none, some}
@@ -154,7 +155,7 @@ committed false b u h = h
 abbrev pub withOpen : Option Update → History → History
 withOpen v h = record { held = h .held; records = h .records; open· = v }
 
--- a lower call, answered or cut after k operations: "A cut drops the update."
+-- a lower call, answered, or cut with k operations done: "A cut drops the update."
 unfoldable pub afterLower : Lower → Answer → History → Option Update → History
 afterLower c a h none = h
 afterLower c a h (some u) = withOpen (some (updateAfter c a u)) (committed (isWord c) (isDone a) u h)

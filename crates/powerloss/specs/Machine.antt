@@ -24,7 +24,8 @@ use Rattle.feed.specs.Run.{Lower, word, lowerStep, lowerOps, lowerRegion}
 use Rattle.update.specs.Upper.{Upper, upperStep, upperRegion, upperOps, beginStep, beginRegion, beginOps, keyBytes}
 use Rattle.powerloss.specs.History.{Update, History, afterLower, afterLowerCut, afterUpper, afterBegin, withOpen, isWord, isDone, anyDone}
 
--- a call with all its arguments, answered, or cut: its first k operations are done whole, and the first j bytes of the next
+-- A call with all its arguments, answered, or cut: its first k operations are done whole, and of the next the first j bytes. Any k and j: past
+-- the end all operations are done, and past an operation's size it is whole. The lower beginning has no operation to cut.
 pub data Event : Type 0 where
   begin : Bool → ℤ → Event
   beginCut : Bool → ℤ → Event
@@ -46,13 +47,14 @@ pub record Run : Type 0 where
   pub history : History
   pub image : Image
 
--- The supply fails: of operations on bank n the first k are done whole and of the next the first j bytes, the rest not at all.
+-- The supply fails: of operations on bank n the first k are done whole, of the next the first j bytes, the rest not at all.
 unfoldable pub cutAt : ℕ → ℕ → ℕ → List Op → List ℕ → List ℕ
 cutAt n k j [] region = region
 cutAt n zero j (op ∷ ops) region = torn n j op region
 cutAt n (suc k) j (op ∷ ops) region = cutAt n k j ops (applied n op region)
 
--- how many of them are done then: an operation is done once all its bytes are
+-- how many of them are done then. E5: "an operation is done once all its bytes are". It goes by numbers alone: an erase torn over blank bytes
+-- looks done and isn't.
 unfoldable pub doneAt : ℕ → ℕ → List Op → ℕ
 doneAt k j [] = 0
 doneAt zero j (op ∷ ops) = pick (leb (size op) j) 1 0
