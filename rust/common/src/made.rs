@@ -7,6 +7,9 @@ pub const SECTOR: usize = 4096;
 pub const CAPACITY: usize = BANK - SECTOR;
 pub const UNKNOWN: i64 = i64::MIN;
 pub const COMMIT: u32 = 0x434f_4d54;
+/// Where the commit word stands in a bank, and how many bytes it has.
+pub const WORD: usize = 44;
+pub const WORD_SIZE: usize = 4;
 const HEADER: usize = 1200;
 const LAST: u32 = u32::MAX;
 
@@ -205,7 +208,7 @@ impl Made {
         }
         let seal = self.seal.unwrap_or_else(|| crc32fast::hash(&out));
         out[40..44].copy_from_slice(&seal.to_le_bytes());
-        out[44..48].copy_from_slice(&self.commit.to_le_bytes());
+        out[WORD..][..WORD_SIZE].copy_from_slice(&self.commit.to_le_bytes());
         bank[..out.len()].copy_from_slice(&out);
     }
 

@@ -10,7 +10,9 @@ use crate::{
         any::{any, row},
         calls::Call,
         content::{NOW, fields},
-        flash::{first_other, performed},
+        cut::Cut,
+        fields::{ERASE, Fields, HEADED, IDLE, STAGE, WRITE},
+        flash::{cut_at, done_at, first_other},
         history::History,
         upper::Upper,
     },
@@ -26,6 +28,7 @@ use common::{
     made::{BANK, SECTOR},
     picks::picks,
 };
+use lifted::standins::flash::Operation;
 
 /// What the calls so far allow, so that most updates come to their end.
 #[derive(Clone, Default)]
@@ -145,48 +148,48 @@ impl Turn {
     }
 }
 
-/// A beginning: lower, or with the key of a selection. One that is cut has a number
-/// that its k is drawn from.
+/// A beginning: lower, or with the key of a selection; whole or cut.
 #[derive(Clone)]
 struct Begin {
     comparing: bool,
     now: i64,
     key: Option<Selection>,
-    cut: Option<u64>,
+    cut: Option<Cut>,
 }
 
-/// What happens to the board. A cut call has a number that its k is drawn from.
+/// What happens to the board.
 #[derive(Clone)]
 enum Event {
     Begin(Begin),
     Call(Call),
-    Cut(Call, u64),
+    Cut(Call, Cut),
 }
 
 impl Begin {
     fn random(random: &mut Random) -> Self {
         let now = if random.once_in(30) { 0 } else { NOW + random.below(9) as i64 };
         let comparing = random.once_in(12);
-        let cut = random.once_in(30).then(|| random.u64());
         let key = random.once_in(2).then(|| {
             let long = if random.once_in(20) { 65_536 } else { 2 };
             let size = random.pick(&[0, 1, 20, 300, 1000, long]);
             let count = if random.once_in(20) { 17 } else { random.below(6) };
             Selection::of(&random.bytes(size), &picks(random, count, true))
         });
-        Self { comparing, now, key, cut }
+        Self { comparing, now, key, cut: None }
     }
     fn smaller(&self) -> Moves<'_, Self> {
         let keys = self.key.iter().flat_map(Selection::smaller);
         let keys = keys.map(|key| Self { key: Some(key), ..self.clone() });
         let whole = self.cut.map(|_| Self { cut: None, ..self.clone() });
+        let cuts = self.cut.into_iter().flat_map(Cut::smaller);
+        let cuts = cuts.map(|cut| Self { cut: Some(cut), ..self.clone() });
         let writing = self.comparing.then(|| Self { comparing: false, ..self.clone() });
-        Box::new(whole.into_iter().chain(writing).chain(keys))
+        Box::new(whole.into_iter().chain(writing).chain(keys).chain(cuts))
     }
     fn show(&self) -> String {
         let Self { comparing, now, .. } = self;
         let key = self.key.as_ref().map_or("".into(), |key| format!(", key of {}", key.show()));
-        let cut = self.cut.map_or("".into(), |k| format!(", cut by {k}"));
+        let cut = self.cut.map_or("".into(), |cut| format!(", {}", cut.show()));
         format!("begin, comparing {comparing}, now {now}{key}{cut}")
     }
 }
@@ -196,9 +199,11 @@ impl Event {
         match self {
             Self::Begin(begin) => Box::new(begin.smaller().map(Self::Begin)),
             Self::Call(call) => Box::new(call.smaller().map(Self::Call)),
-            Self::Cut(call, k) => {
+            Self::Cut(call, cut) => {
                 let whole = std::iter::once(Self::Call(call.clone()));
-                Box::new(whole.chain(call.smaller().map(|call| Self::Cut(call, *k))))
+                let calls = call.smaller().map(|call| Self::Cut(call, *cut));
+                let cuts = cut.smaller().map(|cut| Self::Cut(call.clone(), cut));
+                Box::new(whole.chain(calls).chain(cuts))
             }
         }
     }
@@ -206,7 +211,7 @@ impl Event {
         match self {
             Self::Begin(begin) => begin.show(),
             Self::Call(call) => call.show(),
-            Self::Cut(call, k) => format!("{}, cut by {k}", call.show()),
+            Self::Cut(call, cut) => format!("{}, {}", call.show(), cut.show()),
         }
     }
 }
@@ -241,11 +246,6 @@ fn records(region: &[u8], held: &BankAnswer) -> Vec<[u8; 384]> {
     (0..held.count).map(record).collect()
 }
 
-/// After how many of so many operations a call is cut.
-fn after_how_many(k: u64, operations: usize) -> usize {
-    (k % (operations as u64 + 1)) as usize
-}
-
 impl Board {
     fn new(region: &[u8]) -> Self {
         let held = banks::load(region);
@@ -260,8 +260,8 @@ impl Board {
         if let Some(selection) = key {
             return self.begin_with_key(tally, begin, selection);
         }
-        if cut.is_some() {
-            self.lose(tally, None, 0);
+        if let Some(cut) = cut {
+            self.lose(tally, None, *cut, &[]);
             return None;
         }
         let (state, answer) = State::new(&self.region, *comparing, *now);
@@ -277,12 +277,11 @@ impl Board {
         selection: &Selection,
     ) -> Option<usize> {
         let Begin { comparing, now, cut, .. } = begin;
-        let (upper, answer) = Upper::begin(&self.region, (*comparing, *now), selection, usize::MAX);
+        let (upper, answer) = Upper::begin(&self.region, (*comparing, *now), selection, None);
         self.apart = self.apart.take().or(upper.apart);
-        if let Some(k) = cut {
-            let k = after_how_many(*k, upper.run.operations.len());
-            self.region = performed(self.region.clone(), &upper.run.operations[..k]);
-            self.lose(tally, None, k);
+        if let Some(cut) = cut {
+            self.strayed |= upper.run.region != upper.run.shadow;
+            self.lose(tally, None, *cut, &upper.run.operations);
             return None;
         }
         self.region = upper.region;
@@ -296,12 +295,19 @@ impl Board {
         tally.count("updates begun", 1);
         Some(key.len())
     }
-    /// The power goes in a call that has done k operations.
-    fn lose(&mut self, tally: &mut Tally, call: Option<&Call>, k: usize) {
+    /// The supply fails in a call that does these operations. `None` is a beginning.
+    fn lose(&mut self, tally: &mut Tally, call: Option<&Call>, cut: Cut, operations: &[Operation]) {
+        let Cut { k, j } = cut;
+        let done = done_at(k, j, operations);
         self.state = None;
-        self.history.cut(call, k);
-        tally.count("cuts", 1);
-        let within = k > 0 && call.is_none_or(Call::is_upper);
+        self.region = cut_at(k, j, operations, std::mem::take(&mut self.region));
+        self.history.cut(call, done);
+        if matches!(call, Some(Call::Word)) && done > 0 {
+            self.image = bank_of(&self.region, &self.history.held);
+        }
+        cut.count(tally, operations);
+        let begun = done > 0 || cut.inside(operations).is_some();
+        let within = begun && call.is_none_or(Call::is_upper);
         tally.count("cuts inside an upper call", usize::from(within));
     }
     /// A call, whole; an upper one beside its run.
@@ -325,23 +331,29 @@ impl Board {
         }
         Some(answer)
     }
-    /// A call that is cut with its first k operations done.
-    fn cut(&mut self, tally: &mut Tally, call: &Call, k: u64) {
-        let Some(state) = self.state.take() else { return };
-        let mut upper = Upper::of(state, &self.region);
+    /// What a call would come to.
+    fn whole(&self, call: &Call) -> Option<Upper> {
+        let mut upper = Upper::of(self.state?, &self.region);
         upper.call(call);
+        Some(upper)
+    }
+    /// A call that is cut.
+    fn cut(&mut self, tally: &mut Tally, call: &Call, cut: Cut) {
+        let Some(upper) = self.whole(call) else { return };
         self.apart = self.apart.take().or(upper.apart);
         self.strayed |= upper.run.region != upper.run.shadow;
-        let operations = upper.run.operations;
-        let k = after_how_many(k, operations.len());
-        self.region = performed(std::mem::take(&mut self.region), &operations[..k]);
-        self.lose(tally, Some(call), k);
-        if matches!(call, Call::Word) && !operations.is_empty() {
-            tally.count(["cuts just before a commit word", "cuts just after one"][k], 1);
-            if k > 0 {
-                self.image = bank_of(&self.region, &self.history.held);
-            }
-        }
+        self.lose(tally, Some(call), cut, &upper.run.operations);
+    }
+    /// A cut of a call, drawn from the operations that it would do.
+    fn any_cut(&self, random: &mut Random, call: &Call) -> Cut {
+        let operations = self.whole(call).map_or(Vec::new(), |upper| upper.run.operations);
+        Cut::random(random, &operations)
+    }
+    /// A cut of a beginning, drawn likewise.
+    fn any_begin_cut(&self, random: &mut Random, begin: &Begin) -> Cut {
+        let mode = (begin.comparing, begin.now);
+        let whole = |key| Upper::begin(&self.region, mode, key, None).0.run.operations;
+        Cut::random(random, &begin.key.as_ref().map_or(Vec::new(), whole))
     }
     fn check(&self, tally: &mut Tally, event: &Event) {
         let about = |what: &str| {
@@ -371,8 +383,8 @@ impl Board {
         let after = match event {
             Event::Begin(begin) => After::Begun(self.begin(tally, begin)),
             Event::Call(call) => After::Answered(self.call(tally, call)),
-            Event::Cut(call, k) => {
-                self.cut(tally, call, *k);
+            Event::Cut(call, cut) => {
+                self.cut(tally, call, *cut);
                 After::Answered(None)
             }
         };
@@ -387,20 +399,36 @@ enum After {
     Answered(Option<Answer>),
 }
 
+/// Once in how many times a call is cut: more often where it does an operation.
+fn cut_once_in(board: &Board, call: &Call) -> usize {
+    let stage = board.state.map_or(IDLE, |state| Fields::of(&state).numbers[STAGE]);
+    match (call, stage) {
+        (Call::Word, HEADED) => 6,
+        (Call::Commit(..), IDLE) => 12,
+        (Call::Due, ERASE) => 15,
+        (Call::Due, WRITE) => 40,
+        _ if call.is_upper() => 25,
+        _ => 90,
+    }
+}
+
 /// Draws the next event, by what the calls so far allow.
 fn draw(random: &mut Random, board: &Board, turn: &Turn) -> Event {
     let over = board.state.is_none() || turn.over && random.once_in(3) || random.once_in(400);
     if over {
-        return Event::Begin(Begin::random(random));
+        let begin = Begin::random(random);
+        let cut = random.once_in(30).then(|| board.any_begin_cut(random, &begin));
+        return Event::Begin(Begin { cut, ..begin });
     }
     let mut call = if random.once_in(16) { any(random) } else { turn.next(random) };
     if turn.rows && !random.once_in(4) {
         call = turn.upper(random, call);
     }
-    let near = turn.headed && !turn.over;
-    let often = if near { 8 } else { 90 };
-    match random.once_in(if call.is_upper() { 25 } else { often }) {
-        true => Event::Cut(call, random.u64()),
+    match random.once_in(cut_once_in(board, &call)) {
+        true => {
+            let cut = board.any_cut(random, &call);
+            Event::Cut(call, cut)
+        }
         false => Event::Call(call),
     }
 }

@@ -84,7 +84,7 @@ pub fn rows(tally: &mut Tally, random: &mut Random, region: &[u8]) {
     let refused = if row_line(&long).len() > LONGEST { 14 } else { 10 };
 
     let selection = content.key.selection();
-    let (mut upper, _) = Upper::begin(region, (false, content.now), &selection, usize::MAX);
+    let (mut upper, _) = Upper::begin(region, (false, content.now), &selection, None);
     upper.open(&begun.sources[0]);
     let empty = vec![String::new(); long.len()];
     for (piece, refusal) in [(Piece::Row(long), refused), (last, 0), (Piece::Row(empty), 10)] {

@@ -169,9 +169,9 @@ pub const PARTS: &[Part] = &[
     },
     Part {
         name: "cuts",
-        about: "updates cut after k operations, load, and the next update",
+        about: "updates cut after k operations and j bytes, load, and the next update",
         whole: nothing,
-        random: random::<cuts::Cuts>(24, 14),
+        random: random::<cuts::Cuts>(72, 14),
     },
     Part {
         name: "forged",
@@ -183,7 +183,7 @@ pub const PARTS: &[Part] = &[
         name: "history",
         about: "random calls with cuts: load and the bank, beside demand 3's history",
         whole: nothing,
-        random: random::<events::Events>(36, 24),
+        random: random::<events::Events>(72, 24),
     },
     Part {
         name: "smoke",

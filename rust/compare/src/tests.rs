@@ -126,6 +126,18 @@ fn cuts() {
     assert_eq!(form[9..15], least("lower", "key ee"));
 }
 
+/// The update's five operations end with the commit word.
+#[test]
+fn cuts_inside_the_commit_word() {
+    let form = smallest::<cuts::Cuts>(Wrong::Begun, 1);
+    assert_eq!(form[..2], BLANK);
+    let key = "key of identity of 0 bytes (no bytes), picks []";
+    assert_eq!(form[2..8], least("upper", key));
+    let cut = "the update cut after 4 operations and 1 bytes of the next, ";
+    assert!(form[8].starts_with(cut), "{}", form[8]);
+    assert_eq!(form.len(), 15, "one cut, one update: {form:?}");
+}
+
 #[test]
 fn forged() {
     let form = smallest::<forged::Steps>(Wrong::Closing, 4);
@@ -142,7 +154,32 @@ fn history() {
     let form = smallest::<events::Events>(Wrong::Word, 4);
     assert_eq!(form[..2], BLANK);
     assert!(form[2].starts_with("begin, comparing false"), "{}", form[2]);
-    assert_eq!(form[4..6], ["Table(0)", "End"]);
-    assert_eq!(form[7..], ["Close", "Due", "Due", "Due", "Commit(None, true)", "Word"]);
-    assert!([3, 6].iter().all(|i| form[*i].starts_with("source ")), "{form:?}");
+    assert_eq!(form[3], "bytes, 1 offered: 00");
+    assert_eq!(form[5..7], ["Table(0)", "End"]);
+    assert_eq!(form[8..], ["Closing", "Commit(None, true)", "Word"]);
+    assert!([4, 7].iter().all(|i| form[*i].starts_with("source ")), "{form:?}");
+}
+
+/// The smallest form of a wrong core that a commit word cut inside shows.
+fn cut_inside_the_commit_word(wrong: Wrong, count: u64) -> String {
+    let mut form = smallest::<events::Events>(wrong, count);
+    let word = form.pop().expect("a call");
+    assert_eq!(form[..2], BLANK);
+    assert!(form[2].starts_with("begin, comparing false"), "{}", form[2]);
+    let commit = ["Table(0)", "End", "Close", "Due", "Due", "Due", "Commit(None, true)"];
+    assert!(form.ends_with(&commit.map(String::from)), "{form:?}");
+    word
+}
+
+#[test]
+fn history_counts_a_begun_operation() {
+    let word = cut_inside_the_commit_word(Wrong::Begun, 4);
+    assert_eq!(word, "Word, cut after 0 operations and 1 bytes of the next");
+}
+
+/// With one byte fewer, and between two operations, nothing is to be seen.
+#[test]
+fn three_bytes_make_the_commit_word() {
+    let word = cut_inside_the_commit_word(Wrong::Header, 12);
+    assert_eq!(word, "Word, cut after 0 operations and 3 bytes of the next");
 }

@@ -30,7 +30,7 @@ fn filled(tally: &mut Tally, random: &mut Random, region: &[u8], content: &Conte
         return core;
     }
     let selection = content.key.selection();
-    let (mut upper, _) = Upper::begin(region, (true, content.now), &selection, usize::MAX);
+    let (mut upper, _) = Upper::begin(region, (true, content.now), &selection, None);
     upper.fill(content);
     let about = || (vec![content.length() as u64], "an upper call that isn't its run".into());
     tally.same(upper.apart.as_deref(), None, about);

@@ -10,13 +10,17 @@ use crate::{
         calls::Call,
         content::{Content, Key, leftovers},
         core::Core,
-        flash::{first_other, performed, place},
+        cut::Cut,
+        flash::{cut_at, done_at, first_other, place},
         lifted::{COMMITTED, How, Lifted, Outcome},
         upper::Upper,
     },
 };
 use bankcore::{banks, update::DONE};
-use common::{Random, made::CAPACITY};
+use common::{
+    Random,
+    made::{CAPACITY, WORD},
+};
 use lifted::{
     cache::door::{self, BankFields},
     standins::{flash::Operation, view::View},
@@ -99,7 +103,7 @@ fn obsolete(tally: &mut Tally, beside: &Beside, core: &Core, stamp: Option<i64>)
 
 fn by_lower(random: &mut Random, region: &[u8], content: &Content, how: How) -> Core {
     let mut core = Core::new(region, false, content.now);
-    core.cut = how.cut.unwrap_or(usize::MAX);
+    core.cut = how.cut;
     core.fill(random, content);
     if how.current && !how.abandoned {
         core.close();
@@ -116,8 +120,8 @@ fn by_upper(
     content: &Content,
     how: How,
 ) -> Core {
-    let cut = how.cut.unwrap_or(usize::MAX);
-    let (mut upper, _) = Upper::begin(region, (false, content.now), &content.key.selection(), cut);
+    let selection = content.key.selection();
+    let (mut upper, _) = Upper::begin(region, (false, content.now), &selection, how.cut);
     upper.fill(content);
     if how.current && !how.abandoned {
         upper.call(&Call::Closing);
@@ -141,8 +145,10 @@ pub fn write(
     let beside = Beside { length: content.length() };
     // The Rust doesn't ask whether the bank will validate; the core does (13).
     let unfit = rust.outcome == Outcome::Unfit;
-    let done = rust.operations.len() - if unfit { 2 } else { 0 };
-    let expected = performed(region.to_vec(), &rust.operations[..done]);
+    let begun = rust.operations.len() - if unfit { 2 } else { 0 };
+    let operations = &rust.operations[..begun];
+    let Cut { k, j } = how.cut.unwrap_or(Cut { k: begun, j: 0 });
+    let expected = cut_at(k, j, operations, region.to_vec());
     if !unfit {
         let other = first_other(&expected, &rust.region);
         tally.same(other, None, || beside.about("the Rust's region"));
@@ -156,7 +162,8 @@ pub fn write(
         obsolete(tally, &beside, &core, content.stamp);
     }
     tally.same(core.refusal, if unfit { 13 } else { 0 }, || beside.about("the first refusal"));
-    beside.operations(tally, &core, &rust.operations[..done], &expected);
+    beside.operations(tally, &core, operations, &expected);
+    let done = done_at(k, j, operations);
     if rust.outcome == Outcome::Committed {
         tally.same(done, operations_of(beside.length), || beside.about("how many operations"));
     }
@@ -182,12 +189,12 @@ const LENGTHS: [usize; 13] = [
 ];
 
 /// The region for a case: leftovers, and in some the first operations of an
-/// update.
+/// update, the last of them in part.
 pub fn found(random: &mut Random) -> Vec<u8> {
     let region = leftovers(random);
     if random.once_in(3) {
         let content = Content::random(random, false);
-        let cut = Some(random.below(12));
+        let cut = Some(Cut { k: random.below(12), j: random.pick(&[0, 1, 3, WORD, 200, 1000]) });
         return Lifted::write(&region, &content, How { cut, ..COMMITTED }).region;
     }
     region

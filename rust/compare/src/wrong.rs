@@ -22,6 +22,11 @@ pub enum Wrong {
     Filter,
     /// The commit word isn't written where an update had two sources.
     Word,
+    /// A header is written with 255 255 255 67 in the commit word, whose last byte
+    /// is 67.
+    Header,
+    /// At a cut an operation counts as done once it is begun.
+    Begun,
     /// A write of bytes with 0xee among them clears its first byte.
     Tail,
     /// `unchanged` doesn't see a difference.
@@ -37,7 +42,7 @@ mod hook {
     use super::Wrong;
     use crate::update::{calls::Call, fields::*};
     use bankcore::update::{Answer, DIFFERENT, DONE, SAME, State};
-    use common::made::SECTOR;
+    use common::made::{COMMIT, SECTOR, WORD, WORD_SIZE};
     use std::cell::Cell;
 
     thread_local! {
@@ -57,7 +62,11 @@ mod hook {
         let said = |n| Answer { answer: n, ..Answer::default() };
         match (WRONG.get(), call) {
             (Some(Wrong::Word), Call::Word) if before.n(SOURCES) == 2 && answer == said(DONE) => {
-                region[before.target() + 44..][..4].fill(255);
+                region[before.target() + WORD..][..WORD_SIZE].fill(255);
+            }
+            (Some(Wrong::Header), Call::Commit(..)) if answer == said(DONE) => {
+                let last = WORD + WORD_SIZE - 1;
+                region[before.target() + last] = COMMIT.to_le_bytes()[WORD_SIZE - 1];
             }
             (Some(Wrong::Tail), Call::Due) if before.numbers[STAGE] == WRITE => {
                 if before.tail[..before.n(FILL)].contains(&0xee) {

@@ -14,7 +14,7 @@ use bankcore::{
     rows::Values,
     update::{Answer, DONE, State},
 };
-use common::made::SECTOR;
+use common::made::{SECTOR, WORD, WORD_SIZE};
 use lifted::{
     cache::{OFFSET, door},
     standins::flash::Operation,
@@ -176,7 +176,7 @@ pub fn operation(call: &Call, before: &State, answer: Answer, after: &[u8]) -> O
     match call {
         Call::Due => due(&before, OFFSET + base as u32),
         Call::Commit(..) => Some(written(0, door::HEADER)),
-        Call::Word => Some(written(44, 48)),
+        Call::Word => Some(written(WORD, WORD + WORD_SIZE)),
         _ => None,
     }
 }

@@ -11,9 +11,11 @@ use common::{
     picks::picks,
 };
 use lifted::{
-    cache::door::{self, EMPTY, SourceFields, Update},
+    cache::{
+        Storage,
+        door::{self, EMPTY, SourceFields, Update},
+    },
     gtfs::{Error, Table, csv::values::Values, mobility::Snapshot},
-    standins::flash::Flash,
 };
 
 pub const NOW: i64 = 1_790_000_000;
@@ -286,7 +288,7 @@ impl Content {
         self.length() <= CAPACITY
     }
     /// All the appends, by the lifted `Writer`.
-    pub fn rust_fill(&self, update: &mut Update<'_, Flash>) -> Result<(), Error> {
+    pub fn rust_fill(&self, update: &mut Update<'_, impl Storage>) -> Result<(), Error> {
         match &self.key {
             Key::Bytes(bytes) => update.append(bytes)?,
             Key::Picked(selection) => {
@@ -309,7 +311,11 @@ impl Content {
     }
 }
 
-fn rust_piece(update: &mut Update<'_, Flash>, table: Table, piece: &Piece) -> Result<(), Error> {
+fn rust_piece(
+    update: &mut Update<'_, impl Storage>,
+    table: Table,
+    piece: &Piece,
+) -> Result<(), Error> {
     match piece {
         Piece::Bytes(bytes) => update.append(bytes),
         Piece::Row(values) => {

@@ -2,24 +2,27 @@
 use super::{
     calls::{Call, operation},
     content::{Content, Source, names_line},
-    flash::perform,
+    cut::Cut,
+    flash::{perform, span},
 };
 use bankcore::update::{Answer, DONE, NONE_DUE, State};
 use common::Random;
 use lifted::standins::flash::Operation;
+use std::ops::Range;
 
 pub struct Core {
     pub state: State,
     pub region: Vec<u8>,
+    /// The operations that were begun.
     pub operations: Vec<Operation>,
-    /// The region that these operations leave, and the first one after which the
-    /// core's was another where it was done.
+    /// The region that these operations leave where each is whole, and the first one
+    /// after which the core's was another where it was done.
     pub shadow: Vec<u8>,
     pub strayed: Option<usize>,
     /// The first refusal.
     pub refusal: u32,
-    /// How many operations are done before the power goes.
-    pub cut: usize,
+    /// Where the supply fails.
+    pub cut: Option<Cut>,
 }
 
 impl Core {
@@ -36,14 +39,15 @@ impl Core {
             shadow: region.to_vec(),
             strayed: None,
             refusal: 0,
-            cut: usize::MAX,
+            cut: None,
         }
     }
-    /// Whether the power is gone.
+    /// Whether the supply has failed.
     pub fn is_cut(&self) -> bool {
-        self.operations.len() >= self.cut
+        let begun = self.operations.len();
+        self.cut.is_some_and(|Cut { k, j }| begun > k || begun == k && j == 0)
     }
-    /// Whether the power is gone, or a call was refused.
+    /// Whether the supply has failed, or a call was refused.
     pub fn stopped(&self) -> bool {
         self.refusal != 0 || self.is_cut()
     }
@@ -57,13 +61,24 @@ impl Core {
             self.refusal = answer.refusal;
         }
         if let Some(done) = operation(call, &before, answer, &self.region) {
+            let before = self.shadow[span(&done)].to_vec();
             let span = perform(&mut self.shadow, &done);
-            if self.strayed.is_none() && self.region[span.clone()] != self.shadow[span] {
+            if self.strayed.is_none() && self.region[span.clone()] != self.shadow[span.clone()] {
                 self.strayed = Some(self.operations.len());
             }
             self.operations.push(done);
+            self.tear(span, &before);
         }
         answer
+    }
+    /// Where the supply fails inside the last operation, the bytes behind its first
+    /// j are again what they were before it.
+    fn tear(&mut self, span: Range<usize>, before: &[u8]) {
+        let begun = self.operations.len();
+        if let Some(Cut { j, .. }) = self.cut.filter(|cut| begun > cut.k) {
+            let j = j.min(before.len());
+            self.region[span][j..].copy_from_slice(&before[j..]);
+        }
     }
     /// Does all that is due.
     pub fn settle(&mut self) {

@@ -1,5 +1,5 @@
 //! Demand 3's history as it can be run: fed the calls' arguments, their answers
-//! and each cut's k. It reads no state and no flash.
+//! and how many operations were done at each cut. It reads no state and no flash.
 use super::calls::{Call, byte};
 use bankcore::{
     answers::BankAnswer,
@@ -131,10 +131,10 @@ impl History {
             open.after(call, answer);
         }
     }
-    /// A call that was cut with k operations done: no answer, and the update is
-    /// dropped. `None` is a beginning.
-    pub fn cut(&mut self, call: Option<&Call>, k: usize) {
-        if matches!(call, Some(Call::Word)) && k > 0 {
+    /// A call that was cut with so many operations done: no answer, and the update
+    /// is dropped. `None` is a beginning.
+    pub fn cut(&mut self, call: Option<&Call>, done: usize) {
+        if matches!(call, Some(Call::Word)) && done > 0 {
             self.commit();
         }
         self.open = None;

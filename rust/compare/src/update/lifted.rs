@@ -1,5 +1,5 @@
 //! The lifted `Writer`'s side of an update.
-use super::content::Content;
+use super::{content::Content, cut::Cut, supply::Supply};
 use lifted::{
     cache::{
         Metadata,
@@ -9,12 +9,12 @@ use lifted::{
     standins::flash::{Flash, Operation},
 };
 
-/// How an update is to end, and after how many operations the power goes.
+/// How an update is to end, and where its supply fails.
 #[derive(Clone, Copy, Debug)]
 pub struct How {
     pub abandoned: bool,
     pub current: bool,
-    pub cut: Option<usize>,
+    pub cut: Option<Cut>,
 }
 
 pub const COMMITTED: How = How { abandoned: false, current: true, cut: None };
@@ -31,6 +31,8 @@ pub enum Outcome {
 }
 
 pub struct Lifted {
+    /// The operations that were begun. The last one of an update that is cut may be
+    /// done in part.
     pub operations: Vec<Operation>,
     pub region: Vec<u8>,
     pub outcome: Outcome,
@@ -45,10 +47,10 @@ impl Lifted {
         };
         flash.checked_at.set(content.stamp);
         flash.current.set(how.current);
-        let active = door::load(&flash).expect("the Rust loads");
-        flash.cut.set(how.cut);
+        let supply = Supply::new(flash, how.cut);
+        let active = door::load(&supply).expect("the Rust loads");
         let mut metadata = Metadata::default();
-        let mut update = Update::new(&flash, active, false, content.now, &mut metadata);
+        let mut update = Update::new(&supply, active, false, content.now, &mut metadata);
         let outcome = match content.rust_fill(&mut update) {
             Err(Error::BufferTooSmall) => Outcome::Full,
             Err(_) => Outcome::Cut,
@@ -56,13 +58,13 @@ impl Lifted {
             Ok(()) => match update.commit() {
                 Err(Error::InvalidField(_)) => Outcome::Obsolete,
                 Err(_) => Outcome::Cut,
-                Ok(bank) => match door::validate(&flash, BankFields::from(bank).offset) {
+                Ok(bank) => match door::validate(&supply, BankFields::from(bank).offset) {
                     Ok(_) => Outcome::Committed,
                     Err(_) => Outcome::Unfit,
                 },
             },
         };
-        Self { operations: flash.operations.take(), region: flash.region.take(), outcome }
+        Self { operations: supply.begun.take(), region: supply.flash.region.take(), outcome }
     }
     /// One update in comparing mode: whether the active bank is unchanged, and
     /// how many operations were done.

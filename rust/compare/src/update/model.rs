@@ -1,7 +1,7 @@
 //! Which states are within their ranges, what is due in them, and the bank that
 //! they would commit: document 01's rules over a state's fields.
 use super::fields::*;
-use common::made::{CAPACITY, SECTOR, UNKNOWN};
+use common::made::{CAPACITY, SECTOR, UNKNOWN, WORD, WORD_SIZE};
 use lifted::cache::door;
 
 /// No table is open.
@@ -160,7 +160,7 @@ impl Fields {
         out.resize(48 + 3 * 384, 0);
         let seal = crc32fast::hash(&out);
         out[40..44].copy_from_slice(&seal.to_le_bytes());
-        out[44..48].fill(255);
+        out[WORD..][..WORD_SIZE].fill(255);
         out
     }
 }

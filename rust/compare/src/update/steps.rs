@@ -7,7 +7,7 @@ use super::{
     model::NO_TABLE,
 };
 use bankcore::update::{Answer, DIFFERENT, DONE, NONE_DUE, SAME, TOOK};
-use common::made::{BANK, CAPACITY, COMMIT, REGION, SECTOR, layout};
+use common::made::{BANK, CAPACITY, COMMIT, REGION, SECTOR, WORD, layout};
 use lifted::{
     cache::{OFFSET, door},
     standins::flash::Operation,
@@ -196,7 +196,7 @@ impl Model {
     fn commit_word(&mut self, next: &mut Fields) -> Outcome {
         unless(self.region.len() == REGION, 1)?;
         unless(next.in_range() && next.numbers[STAGE] == HEADED, 11)?;
-        self.write(44, COMMIT.to_le_bytes().to_vec());
+        self.write(WORD, COMMIT.to_le_bytes().to_vec());
         next.stage(COMMITTED, 0, 0);
         said(DONE)
     }

@@ -4,6 +4,7 @@ use super::{
     calls::{Call, feed},
     content::{Content, Piece, Source},
     core::Core,
+    cut::Cut,
 };
 use crate::keys::Selection;
 use bankcore::update::{Answer, State};
@@ -23,7 +24,7 @@ impl Upper {
         region: &[u8],
         (comparing, now): (bool, i64),
         selection: &Selection,
-        cut: usize,
+        cut: Option<Cut>,
     ) -> (Self, Answer) {
         // A state that every call refuses; a refused beginning leaves it.
         let (old, _) = State::new(&[], comparing, now);
