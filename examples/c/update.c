@@ -1,12 +1,15 @@
 /* An update with at most one flash operation a turn of the main loop: cut after each number of
-   operations, then whole. update IMAGE */
+   operations, then whole, then cut inside each operation. update IMAGE */
 #include <stdio.h>
 #include <stdlib.h>
 #include <string.h>
 
 #include "bankcore.h"
 
-enum { REGION = 983040, RECORD = 384, ROUTES = 0, NONE_DUE = 2 };
+enum { REGION = 983040, BANK = REGION / 2, SECTOR = 4096, HEADER = 1200, RECORD = 384 };
+enum { ROUTES = 0, NONE_DUE = 2, ERASE = 1, WRITE = 2 };
+/* Where the commit word stands in a bank, and its size. */
+enum { WORD = 44, WORD_SIZE = 4 };
 
 static const int64_t now = 1790000000;
 
@@ -111,18 +114,100 @@ static int update(uint8_t *region, int power, bool *whole)
     return done;
 }
 
-static void show(const char *what, int done, const uint8_t *region)
+static TtBankNumbers load(const uint8_t *region)
 {
     TtBankNumbers bank = tt_load(region, REGION);
     refused(bank.refusal);
+    return bank;
+}
+
+static void give(TtBankNumbers bank)
+{
+    if (bank.found)
+        printf("load gives bank %u, generation %u", bank.number, bank.generation);
+    else
+        printf("load gives none");
+}
+
+static void show(const char *what, int done, const uint8_t *region)
+{
     if (done >= 0)
         printf("%s %d %s: ", what, done, done == 1 ? "operation" : "operations");
     else
         printf("%s: ", what);
-    if (bank.found)
-        printf("load gives bank %u, generation %u\n", bank.number, bank.generation);
-    else
-        printf("load gives none\n");
+    give(load(region));
+    printf("\n");
+}
+
+/* The bytes of the region that a turn erases or writes. */
+typedef struct Span {
+    const char *what;
+    size_t offset, size;
+} Span;
+
+/* The flash operation of the next turn; its size is 0 where it does none. The state has the one that
+   is due: of an erase the number of its sector, of a write how many bytes are before its own and how
+   many those are, without padding. A commit writes the header, then the commit word. */
+static Span operation(const Host *h)
+{
+    const TtState *s = &h->state;
+    size_t bank = s->active == 1 && s->bank.number == 0 ? BANK : 0;
+    if (s->stage == ERASE)
+        return (Span){"erase", bank + (size_t)s->first * SECTOR, SECTOR};
+    if (s->stage == WRITE)
+        return (Span){"write", bank + SECTOR + s->first, ((size_t)s->second + 3) / 4 * 4};
+    if (h->next == 7)
+        return (Span){"header", bank, HEADER};
+    if (h->next == 8)
+        return (Span){"commit word", bank + WORD, WORD_SIZE};
+    return (Span){"", 0, 0};
+}
+
+static bool same(TtBankNumbers a, TtBankNumbers b)
+{
+    return a.found == b.found && a.number == b.number && a.generation == b.generation;
+}
+
+/* The power goes inside an operation, after each of its bytes: those so far are as it leaves them, the
+   others as they were. The commit word is shown byte by byte. */
+static void cut_inside(int number, Span span, uint8_t *torn, const uint8_t *after)
+{
+    TtBankNumbers old = load(torn);
+    size_t kept = 0;
+    for (size_t j = 1; j <= span.size; j++) {
+        torn[span.offset + j - 1] = after[span.offset + j - 1];
+        TtBankNumbers found = load(torn);
+        kept += j < span.size && same(found, old);
+        if (span.size == WORD_SIZE) {
+            printf("operation %d, %s at %zu, ", number, span.what, span.offset);
+            printf("%zu of %zu bytes: ", j, span.size);
+            give(found);
+            printf("\n");
+        }
+    }
+    if (span.size != WORD_SIZE) {
+        printf("inside operation %d, %s at %zu: ", number, span.what, span.offset);
+        give(old);
+        printf(" at %zu of %zu cuts\n", kept, span.size - 1);
+    }
+}
+
+/* The update once more, each operation cut inside. */
+static void cuts_inside(uint8_t *region)
+{
+    static Host h;
+    static uint8_t before[REGION];
+    int number = 0;
+    prepare(&h);
+    keep(&h, tt_update_begin(region, REGION, false, now, h.state));
+    for (;;) {
+        Span next = operation(&h);
+        memcpy(before, region, REGION);
+        if (turn(&h, region) < 0)
+            return;
+        if (next.size > 0)
+            cut_inside(++number, next, before, region);
+    }
 }
 
 int main(int argc, char **argv)
@@ -146,5 +231,6 @@ int main(int argc, char **argv)
             show("  and again, whole", -1, region);
         }
     }
+    cuts_inside(image);
     return 0;
 }

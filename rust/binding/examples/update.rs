@@ -1,15 +1,20 @@
 //! An update with at most one flash operation a turn of the main loop: cut after
-//! each number of operations, then whole. update IMAGE
+//! each number of operations, then whole, then cut inside each operation. update IMAGE
 use bankcore::{
     Refusal,
     banks::Picks,
-    cache::{self, Block, Source, Writer},
+    cache::{self, Bank, Block, Operation, Source, Writer},
     put,
     rows::{self, Values},
 };
 
 const NOW: i64 = 1_790_000_000;
 const ROUTES: u32 = 0;
+const SECTOR: usize = 4096;
+const HEADER: usize = 1200;
+/// Where the commit word stands in a bank, and its size.
+const WORD: usize = 44;
+const WORD_SIZE: usize = 4;
 
 /// What the host hands over next.
 enum Next {
@@ -109,13 +114,76 @@ fn update(region: &mut [u8], power: usize) -> Result<(usize, bool), Refusal> {
     Ok((done, false))
 }
 
-fn show(what: &str, region: &[u8]) -> Result<(), Refusal> {
-    match cache::load(region)? {
-        Some(bank) => {
-            println!("{what}: load gives bank {}, generation {}", bank.number, bank.generation)
-        }
-        None => println!("{what}: load gives none"),
+/// The bytes of the region that a turn erases or writes.
+struct Span {
+    what: &'static str,
+    offset: usize,
+    size: usize,
+}
+
+/// The flash operation of the next turn, if it does one. A writer tells the erase or
+/// write that is due; a commit writes the header, then the commit word.
+fn operation(writer: &Writer, rest: &[Next], bank: usize) -> Option<Span> {
+    let span = |what, offset, size| Some(Span { what, offset, size });
+    match (writer.operation(), rest.first()) {
+        (Some(Operation::Erase { offset }), _) => span("erase", offset, SECTOR),
+        (Some(Operation::Write { offset, length }), _) => span("write", offset, length),
+        (None, Some(Next::Commit)) => span("header", bank, HEADER),
+        (None, Some(Next::Word)) => span("commit word", bank + WORD, WORD_SIZE),
+        (None, _) => None,
     }
+}
+
+/// The power goes inside an operation, after each of its bytes: those so far are as
+/// it leaves them, the others as they were. The commit word is shown byte by byte.
+fn cut_inside(number: usize, span: &Span, before: &[u8], after: &[u8]) -> Result<(), Refusal> {
+    let Span { what, offset, size } = *span;
+    let old = cache::load(before)?;
+    let (mut torn, mut kept) = (before.to_vec(), 0);
+    for j in 1..=size {
+        torn[offset + j - 1] = after[offset + j - 1];
+        if size == WORD_SIZE {
+            show(&format!("operation {number}, {what} at {offset}, {j} of {size} bytes"), &torn)?;
+        }
+        kept += usize::from(j < size && cache::load(&torn)? == old);
+    }
+    if size != WORD_SIZE {
+        let (cuts, old) = (size - 1, given(old));
+        println!("inside operation {number}, {what} at {offset}: {old} at {kept} of {cuts} cuts");
+    }
+    Ok(())
+}
+
+/// The update once more, each operation cut inside.
+fn cuts_inside(image: &[u8]) -> Result<(), Refusal> {
+    let mut region = image.to_vec();
+    let first = cache::load(image)?.is_some_and(|active| active.number == 0);
+    let bank = if first { cache::BANK_SIZE } else { 0 };
+    let mut writer = Writer::new(&region, false, NOW)?;
+    let mut rest = content()?;
+    let mut number = 0;
+    loop {
+        let next = operation(&writer, &rest, bank);
+        let before = region.clone();
+        if turn(&mut writer, &mut region, &mut rest)?.is_none() {
+            return Ok(());
+        }
+        if let Some(span) = next {
+            number += 1;
+            cut_inside(number, &span, &before, &region)?;
+        }
+    }
+}
+
+fn given(found: Option<Bank>) -> String {
+    match found {
+        Some(bank) => format!("load gives bank {}, generation {}", bank.number, bank.generation),
+        None => "load gives none".into(),
+    }
+}
+
+fn show(what: &str, region: &[u8]) -> Result<(), Refusal> {
+    println!("{what}: {}", given(cache::load(region)?));
     Ok(())
 }
 
@@ -127,7 +195,8 @@ fn run(image: &[u8]) -> Result<(), Refusal> {
         let (done, whole) = update(&mut region, power)?;
         let many = if done == 1 { "operation" } else { "operations" };
         if whole {
-            return show(&format!("whole, {done} {many}"), &region);
+            show(&format!("whole, {done} {many}"), &region)?;
+            return cuts_inside(image);
         }
         show(&format!("cut after {done} {many}"), &region)?;
         update(&mut region, usize::MAX)?;
