@@ -10,7 +10,7 @@ use borrow.Author.Tests.{eq-eqb, le-leb}
 use lib.Arith.{bin-ind}
 use lib.Bits.{bitAnd, and-step, and-zero-l, and-self, and-mask, and-comm}
 use lib.ListN.{take, drop, length, getD, length-append, length-take, length-drop, take-append-drop, List·getD-append}
-use lib.Seq.{take-at, drop-at, take-all, take-length, length-take-le, take-append-le, take-append-add, getD-take, getD-drop, getD-append-add, drop-drop}
+use lib.Seq.{take-at, drop-at, take-all, take-length, length-take-le, take-append-le, take-append-add, drop-append-le, getD-take, getD-drop, getD-append-add, drop-drop}
 use Rattle.leaf.specs.Bytes.{byte}
 use Rattle.record.specs.Runs.{fill}
 use Rattle.header.specs.Region.{regionSize, bankSize, sectorSize, bankOf}
@@ -191,13 +191,13 @@ part-at at j b w p l e =
     let q : take (at + j) (take at b ++ w) ≡ take at b ++ take j w = ap (λ (n : ℕ). take (n + j) (take at b ++ w)) (sym k) ∙ take-append-add (take at b) w j in
     rw (e, q, drop-drop j at b, append-assoc (take at b) (take j w) (drop (at + j) b))
 
-pub first-part : FirstPart
+part-of : (j : ℕ) (op : Op) (b : List ℕ) → place op + size op ≤ length b → j ≤ size op → done j op b ≡ take (place op + j) (done (size op) op b) ++ drop (place op + j) b
 unfolding done
-first-part j (erase at) b f h =
+part-of j (erase at) b f h =
     let l : sectorSize ≤ length (drop at b) = omega (arith, length-drop at b) in
     let e : min j sectorSize ≡ j = omega arith in
     part-at at j b (blank sectorSize (drop at b)) (blank (min j sectorSize) (drop at b)) (omega arith) (rw e (blank-part j sectorSize (drop at b) h l))
-first-part j (write at ws) b f h =
+part-of j (write at ws) b f h =
     let l : length ws ≤ length (drop at b) = omega (arith, length-drop at b) in
     rw (take-length ws) (part-at at j b (clear ws (drop at b)) (clear (take j ws) (drop at b)) (omega arith) (clear-part j ws (drop at b) h l))
 
@@ -350,6 +350,37 @@ module _ (region : List ℕ) (n : ℕ) (e : length region ≡ regionSize) (h : n
   pub after-fits : place op + size op ≤ bankSize → after n op region ≡ applied n op region
   unfolding after
   after-fits k = rw (eq-eqb (length region) regionSize e, le-leb n 1 h, le-leb (place op + size op) bankSize k)
+
+-- the first p bytes of a part as d has them and the rest as they were, among what stands before and behind it
+part-there : (l d : List ℕ) (i s p : ℕ) → length (take i l) ≡ i → length d ≡ s → s ≤ length (drop i l) → p ≤ s
+    → take i l ++ ((take p d ++ drop p (take s (drop i l))) ++ drop (i + s) l) ≡ take (i + p) (take i l ++ (d ++ drop (i + s) l)) ++ drop (i + p) l
+part-there l d i s p k f m h =
+    let x = take i l in
+    let y = drop i l in
+    let z = drop (i + s) l in
+    let t : take (i + p) (x ++ (d ++ z)) ≡ x ++ take p d =
+    ap (λ (o : ℕ). take (o + p) (x ++ (d ++ z))) (sym k) ∙ take-append-add x (d ++ z) p ∙ ap (λ (q : List ℕ). x ++ q) (take-append-le p d z (omega arith)) in
+    let r : drop (i + p) l ≡ drop p (take s y) ++ z =
+    sym (drop-drop p i l)
+    ∙ ap (drop p) (sym (take-append-drop s y))
+    ∙ drop-append-le p (take s y) (drop s y) (omega (arith, length-take-le s y m))
+    ∙ ap (λ (q : List ℕ). drop p (take s y) ++ q) (drop-drop s i l) in
+    rw (t, r)
+    (ap (λ (q : List ℕ). x ++ q) (append-assoc (take p d) (drop p (take s y)) z) ∙ sym (append-assoc x (take p d) (drop p (take s y) ++ z)))
+
+part-with : (region d : List ℕ) (n p : ℕ) → length region ≡ regionSize → n ≤ 1 → length d ≡ bankSize → p ≤ bankSize
+    → withBank region n (take p d ++ drop p (bankOf region n)) ≡ take (n * bankSize + p) (withBank region n d) ++ drop (n * bankSize + p) region
+unfolding withBank bankOf
+part-with region d n p e h f l =
+    part-there region d (n * bankSize) bankSize p (length-start region n e h) f (omega (arith, start-fits n h, length-drop (n * bankSize) region)) l
+
+pub first-part : FirstPart
+unfolding applied torn
+first-part n j op region h e f l =
+    let b = bankOf region n in
+    let k = length-bank region n e h in
+    ap (withBank region n) (part-of j op b (omega arith) l)
+    ∙ part-with region (done (size op) op b) n (place op + j) e h (length-done (size op) op b ∙ k) (omega arith)
 
 -- and what doesn't changes nothing
 pub after-not : (region : List ℕ) (n : ℕ) (op : Op) → fits region n op ≡ false → after n op region ≡ region

@@ -1,13 +1,15 @@
 -- What a cut inside an operation leaves.
 use mathlib.Core.Path.{_≡_}
 use mathlib.Core.List.{List, _++_}
-use Prim.Native.Nat.{ℕ, _+_, _≤_}
+use Prim.Native.Nat.{ℕ, _+_, _*_, _≤_}
 use lib.ListN.{take, drop, length}
-use Rattle.flash.specs.Flash.{Op, place, size, done}
+use Rattle.header.specs.Region.{regionSize, bankSize}
+use Rattle.flash.specs.Flash.{Op, place, size, torn, applied}
 
 -- E5: "Take a write that is cut to leave a first part of its bytes written, and an erase that is cut to leave a first part of its sector
--- erased, the rest untouched." Up to the byte that was reached the bank is as the whole operation leaves it, from there on as it was.
+-- erased, the rest untouched." Up to and with the operation's first j bytes the region is as the whole operation leaves it; all behind them is as
+-- it was.
 abbrev pub FirstPart : Type 0
 FirstPart =
-    (j : ℕ) (op : Op) (b : List ℕ) → place op + size op ≤ length b → j ≤ size op
-    → done j op b ≡ take (place op + j) (done (size op) op b) ++ drop (place op + j) b
+    (n j : ℕ) (op : Op) (region : List ℕ) → n ≤ 1 → length region ≡ regionSize → place op + size op ≤ bankSize → j ≤ size op
+    → torn n j op region ≡ take (n * bankSize + (place op + j)) (applied n op region) ++ drop (n * bankSize + (place op + j)) region

@@ -1,4 +1,5 @@
--- The flash model: an erase sets a 4,096-byte sector to 255; a write clears bits only; one that is cut has done its first bytes.
+-- The flash model: an erase sets a 4,096-byte sector to 255; a write clears bits only; an operation
+-- that is cut has done its first bytes and no others.
 use mathlib.Core.Bool.{Bool, _&&_}
 use mathlib.Core.List.{List, [], _∷_, _++_}
 use Prim.Native.Nat.{ℕ, zero, suc, _+_, _*_, min}
@@ -34,7 +35,7 @@ abbrev pub size : Op → ℕ
 size (erase at) = sectorSize
 size (write at ws) = length ws
 
--- the bank once the operation's first j bytes are done
+-- the bank with the operation's first j bytes done; with all of them the operation is done
 unfoldable pub done : ℕ → Op → List ℕ → List ℕ
 done j (erase at) b = take at b ++ blank (min j sectorSize) (drop at b)
 done j (write at ws) b = take at b ++ clear (take j ws) (drop at b)

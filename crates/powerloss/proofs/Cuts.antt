@@ -1,15 +1,27 @@
 -- Laws of a cut: the region that it leaves and the number of operations that are done then, operation by operation. The others cite these, not
 -- the definitions. With no byte of the next operation done it is a cut between two operations.
 use mathlib.Core.Path.{_≡_, refl, sym, ap, _∙_}
-use mathlib.Core.List.{List, [], _∷_}
-use Prim.Native.Nat.{ℕ, zero, suc, _≤_, _<_}
-use borrow.Author.Tests.{le-leb, lt-leb}
+use mathlib.Core.Bool.{Bool, true, false}
+use mathlib.Core.List.{List, [], _∷_, _++_}
+use mathlib.Core.Option.{some}
+use Prim.Native.Nat.{ℕ, zero, suc, _+_, _≤_, _<_}
+use native.Mathlib.Nat.{suc-add}
+use borrow.Author.Tests.{le-leb, lt-leb, leb-true, leb-false}
+use lib.Dec.{leb}
+use lib.IntN.{ℤ}
 use lib.ListN.{length, take}
+use Rattle.number.specs.Number.{pick}
 use Rattle.header.specs.Region.{regionSize, bankOf}
+use Rattle.bank.specs.Bank.{loaded}
 use Rattle.flash.specs.Flash.{Op, size, torn, applied, performed}
 use Rattle.flash.proofs.Laws.{done-zero, torn-none, length-applied}
-use Rattle.powerloss.specs.Machine.{cutAt, doneAt}
-use Rattle.powerloss.specs.Claim.{Sized, Between}
+use Rattle.writer.specs.declared.Writer.{Writer}
+use Rattle.writer.specs.State.{target}
+use Rattle.lower.specs.Lower.{started}
+use Rattle.feed.specs.Run.{Lower, lowerOps}
+use Rattle.update.specs.Upper.{Upper, upperOps, beginOps}
+use Rattle.powerloss.specs.Machine.{Run, cut, beginKeyCut, upperCut, cutAt, doneAt, onCut, onUpperCut, next}
+use Rattle.powerloss.specs.Claim.{Sized, Between, Torn}
 
 -- no operations: nothing is torn, and none is done
 pub cut-none : (n k j : ℕ) (region : List ℕ) → cutAt n k j [] region ≡ region
@@ -60,6 +72,46 @@ done-between zero [] s = done-none zero 0
 done-between (suc k) [] s = done-none (suc k) 0
 done-between zero (op ∷ ops) s = done-inside op ops 0 (s .0)
 done-between (suc k) (op ∷ ops) s = done-after op ops k 0 ∙ ap suc (done-between k ops (s .1))
+
+-- ---- every call's cuts
+
+-- inside the operation after those before it
+cut-at : (n j : ℕ) (before rest : List Op) (op : Op) (region : List ℕ) → cutAt n (length before) j (before ++ (op ∷ rest)) region ≡ torn n j op (performed n before region)
+unfolding performed
+cut-at n j [] rest op region = cut-inside n op rest region j
+cut-at n j (first ∷ before) rest op region = cut-after n first (before ++ (op ∷ rest)) region (length before) j ∙ cut-at n j before rest op (applied n first region)
+
+number-by : (j : ℕ) (op : Op) (rest : List Op) (t : Bool) → leb (size op) j ≡ t → doneAt zero j (op ∷ rest) ≡ 0 + pick t 1 0
+number-by j op rest true e = done-at-end op rest j (leb-true (size op) j e)
+number-by j op rest false e = done-inside op rest j (leb-false (size op) j e)
+
+number-at : (before rest : List Op) (op : Op) (j : ℕ) → doneAt (length before) j (before ++ (op ∷ rest)) ≡ length before + pick (leb (size op) j) 1 0
+number-at [] rest op j = number-by j op rest (leb (size op) j) refl
+number-at (first ∷ before) rest op j =
+    done-after first (before ++ (op ∷ rest)) (length before) j ∙ ap suc (number-at before rest op j) ∙ sym (suc-add (length before) (pick (leb (size op) j) 1 0))
+
+lower-at : (c : Lower) (k j : ℕ) (r : Run) (w : Writer) → r .state ≡ some w → next r (cut c k j) .region ≡ cutAt (target (w .beginning .active)) k j (lowerOps (r .region) w c) (r .region)
+unfolding next onCut
+lower-at c k j r w e = rw e
+
+upper-at : (c : Upper) (k j : ℕ) (r : Run) (w : Writer) → r .state ≡ some w → next r (upperCut c k j) .region ≡ cutAt (target (w .beginning .active)) k j (upperOps (r .region) w c) (r .region)
+unfolding next onUpperCut
+upper-at c k j r w e = rw e
+
+begin-at : (r : Run) (comparing : Bool) (now : ℤ) (identity texts lengths : List ℕ) (k j : ℕ)
+    → next r (beginKeyCut comparing now identity texts lengths k j) .region ≡ cutAt (target (loaded (r .region))) k j (beginOps (r .region) comparing now identity texts lengths) (r .region)
+unfolding next started
+begin-at r comparing now identity texts lengths k j = refl
+
+pub torn-calls : Torn
+torn-calls =
+    record {
+      lower = λ r w c before rest op j e f. lower-at c (length before) j r w e ∙ rw f (cut-at (target (w .beginning .active)) j before rest op (r .region));
+      upper = λ r w c before rest op j e f. upper-at c (length before) j r w e ∙ rw f (cut-at (target (w .beginning .active)) j before rest op (r .region));
+      beginning = λ r comparing now identity texts lengths before rest op j f.
+          begin-at r comparing now identity texts lengths (length before) j ∙ rw f (cut-at (target (loaded (r .region))) j before rest op (r .region));
+      number = number-at;
+    }
 
 pub between : Between
 between = record { region = region-between; number = done-between }

@@ -1,29 +1,32 @@
 -- DEMAND 3. After every list of update calls of both layers, refused ones included, on any region of 983,040 bytes, with cuts anywhere
 -- between two flash operations and inside one, after any of its bytes:
---   load answers G, the bank of the last update whose commit word was written, else the one found at the start, else none;
+--   load answers G, the bank of the last update whose commit word was written whole, else the one found at the start, else none;
 --   G's records are those that the history noted;
 --   G's 491,520 bytes are as found or as the commit word left them;
 --   and its data are the bytes that the update took, in order.
 use mathlib.Core.Path.{_≡_}
-use mathlib.Core.Bool.{true, false}
-use mathlib.Core.List.{List, [], _∷_}
+use mathlib.Core.Bool.{Bool, true, false}
+use mathlib.Core.List.{List, [], _∷_, _++_}
 use mathlib.Core.Option.{Option, none, some}
-use Prim.Native.Nat.{ℕ, _≤_, _<_}
+use Prim.Native.Nat.{ℕ, _+_, _≤_, _<_}
+use lib.Dec.{leb}
+use lib.IntN.{ℤ}
 use lib.ListN.{length, take}
 use mir.Syntax.{w64}
 use mir.Val.{SFits}
+use Rattle.number.specs.Number.{pick}
 use Rattle.bank.specs.Bank.{loaded}
 use Rattle.header.specs.Region.{regionSize, dataOf}
 use Rattle.headerwrite.specs.Types.{Bytes, Proper}
-use Rattle.flash.specs.Flash.{Op, size, performed}
+use Rattle.flash.specs.Flash.{Op, size, torn, performed}
 use Rattle.writer.specs.declared.Writer.{Writer}
 use Rattle.writer.specs.declared.Answer.the-variants.{Done}
-use Rattle.writer.specs.State.{inRange, isDue}
+use Rattle.writer.specs.State.{target, inRange, isDue}
 use Rattle.commit.specs.declared.Stamp.{Stamp}
 use Rattle.commit.specs.declared.Stamp.the-variants.{Given, Missing}
-use Rattle.feed.specs.Run.{Lower, source, table, bytes, end, close, due, unchanged, commit, word}
-use Rattle.update.specs.Upper.{Upper, sourceWithDates, tableWithNames, row, tableEnd, closing, upperStep}
-use Rattle.powerloss.specs.Machine.{cutAt, doneAt, Event, begin, beginCut, call, cut, beginKey, beginKeyCut, upper, upperCut, Run, bankIn, recordsIn, found, nextAll}
+use Rattle.feed.specs.Run.{Lower, source, table, bytes, end, close, due, unchanged, commit, word, lowerOps}
+use Rattle.update.specs.Upper.{Upper, sourceWithDates, tableWithNames, row, tableEnd, closing, upperStep, upperOps, beginOps}
+use Rattle.powerloss.specs.Machine.{cutAt, doneAt, Event, begin, beginCut, call, cut, beginKey, beginKeyCut, upper, upperCut, Run, bankIn, recordsIn, found, next, nextAll}
 
 -- What the types of the region and the arguments say: bytes are below 256, a record's fields have their widths, times have 64 bits. Nothing else is
 -- asked.
@@ -92,7 +95,20 @@ Settled =
     (region : List ℕ) (events : List Event) → length region ≡ regionSize → Bytes region → AllTyped events → (w : Writer) → nextAll (found region) events .state ≡ some w
     → (c : Upper) → UpperTyped c → upperStep (nextAll (found region) events .region) w c .answer ≡ Done → isDue (upperStep (nextAll (found region) events .region) w c .writer .taken) ≡ false
 
--- every operation has bytes to do
+-- The list has E5's cuts: of a call whose operations are `before`, then `op`, then `rest`, the ones before may be done whole, of op the first j bytes,
+-- whatever j is, and the rest not at all. So it is for every call of both layers, and for the beginning with a key. And op counts as done once all
+-- its bytes are. (proofs/Cuts.antt: torn-calls)
+pub record Torn : Type 0 where
+  pub lower : (r : Run) (w : Writer) (c : Lower) (before rest : List Op) (op : Op) (j : ℕ) → r .state ≡ some w → lowerOps (r .region) w c ≡ before ++ (op ∷ rest)
+      → next r (cut c (length before) j) .region ≡ torn (target (w .beginning .active)) j op (performed (target (w .beginning .active)) before (r .region))
+  pub upper : (r : Run) (w : Writer) (c : Upper) (before rest : List Op) (op : Op) (j : ℕ) → r .state ≡ some w → upperOps (r .region) w c ≡ before ++ (op ∷ rest)
+      → next r (upperCut c (length before) j) .region ≡ torn (target (w .beginning .active)) j op (performed (target (w .beginning .active)) before (r .region))
+  pub beginning : (r : Run) (comparing : Bool) (now : ℤ) (identity texts lengths : List ℕ) (before rest : List Op) (op : Op) (j : ℕ)
+      → beginOps (r .region) comparing now identity texts lengths ≡ before ++ (op ∷ rest)
+      → next r (beginKeyCut comparing now identity texts lengths (length before) j) .region ≡ torn (target (loaded (r .region))) j op (performed (target (loaded (r .region))) before (r .region))
+  pub number : (before rest : List Op) (op : Op) (j : ℕ) → doneAt (length before) j (before ++ (op ∷ rest)) ≡ length before + pick (leb (size op) j) 1 0
+
+-- a list of operations none of which is without bytes (an erase has 4,096, the header's write 1,200, the commit word's 4, a write of data at least 4)
 abbrev pub Sized : List Op → Type 0
 Sized [] = Unit {0}
 Sized (op ∷ ops) = (0 < size op) × Sized ops
@@ -108,4 +124,5 @@ pub record Claims : Type 0 where
   pub survives : Demand3
   pub reached : Reached
   pub settled : Settled
+  pub torn· : Torn
   pub between : Between

@@ -142,7 +142,7 @@ isDone Same = false
 isDone Different = false
 isDone (Refused r) = false
 
--- a cut call that did k operations, each to its last byte
+-- whether a cut call did any operation, to its last byte; k is how many
 abbrev pub anyDone : ℕ → Bool
 anyDone zero = false
 anyDone (suc k) = true

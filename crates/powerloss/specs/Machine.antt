@@ -53,14 +53,14 @@ cutAt n k j [] region = region
 cutAt n zero j (op ∷ ops) region = torn n j op region
 cutAt n (suc k) j (op ∷ ops) region = cutAt n k j ops (applied n op region)
 
--- how many of them are done then. E5: "an operation is done once all its bytes are". It goes by numbers alone: an erase torn over blank bytes
--- looks done and isn't.
+-- how many of them are done then. E5: "an operation is done once all its bytes are". This counts bytes and doesn't look at the flash: an erase that
+-- is cut over bytes that were 255 already isn't done.
 unfoldable pub doneAt : ℕ → ℕ → List Op → ℕ
 doneAt k j [] = 0
 doneAt zero j (op ∷ ops) = pick (leb (size op) j) 1 0
 doneAt (suc k) j (op ∷ ops) = suc (doneAt k j ops)
 
--- what a cut leaves of operations on the bank that is written
+-- the region that a cut leaves; the operations are on the bank that is written
 abbrev pub cutRegion : ℕ → ℕ → Writer → List Op → List ℕ → List ℕ
 cutRegion k j w ops region = cutAt (target (w .beginning .active)) k j ops region
 

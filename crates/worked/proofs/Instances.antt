@@ -1,11 +1,12 @@
--- The worked instances, computed call by call: the region is any, so only its length is asked for.
-use mathlib.Core.Path.{_≡_, refl, ap, _∙_}
-use mathlib.Core.Bool.{Bool, true, false}
+-- The worked instances, computed call by call: the region is any, so only its length is asked for, and what load found there is a variable, hd. An
+-- update is followed from any run whose history holds what load gives, so that one can follow another.
+use mathlib.Core.Path.{_≡_, refl, sym, ap, _∙_}
+use mathlib.Core.Bool.{Bool, true, false, false≢true}
 use mathlib.Core.Option.{none, some}
 use mathlib.Core.List.{List, [], _∷_, _++_, map}
 use Prim.Native.Nat.{ℕ, zero, suc, _<_}
 use native.Mathlib.Omega.{arith}
-use borrow.Author.Tests.{eq-eqb}
+use borrow.Author.Tests.{eq-eqb, le-leb}
 use lib.IntN.{pos}
 use lib.ListN.{length, take, set, getD}
 use lib.Seq.{sets}
@@ -28,7 +29,7 @@ use Rattle.header.specs.Region as Region
 use Rattle.headerwrite.specs.Header.{isFit, headerBytes, blankWord, commitBytes}
 use Rattle.headerwrite.specs.Types.{Bytes, Proper}
 use Rattle.bank.specs.declared.Loaded.{Loaded}
-use Rattle.bank.specs.declared.Loaded.the-variants.{Found, Nothing}
+use Rattle.bank.specs.declared.Loaded.the-variants.{Found, Nothing, Refused as NotRead}
 use Rattle.bank.specs.Bank.{loaded, orElse}
 use Rattle.flash.specs.Flash.{Op, erase, write, torn, performed}
 use Rattle.flash.proofs.Laws.{length-performed}
@@ -41,7 +42,7 @@ use Rattle.writer.specs.declared.Answer.{Answer}
 use Rattle.writer.specs.declared.Answer.the-variants.{Done, Took}
 use Rattle.writer.specs.declared.Writer.{Writer}
 use Rattle.writer.specs.State.{isDue, dataDue, firstDue, stageOf, target, nextGeneration, begunIn, activeOk, takenOk, tablesOk, operationOk, stageOk, inRange}
-use Rattle.lower.specs.Lower.{started, begun, withSource, sourceStep, withTable, tableStep, withBytes, took, bytesStep, withEnd, endStep, withClosed, closeStep, emptied, withBlock, pastEnd}
+use Rattle.lower.specs.Lower.{answerOf, started, begun, withSource, sourceStep, withTable, tableStep, withBytes, took, bytesStep, withEnd, endStep, withClosed, closeStep, emptied, withBlock, pastEnd}
 use Rattle.due.specs.Due.{padded, dueOps, operated, dueStep}
 use Rattle.commit.specs.declared.Stamp.the-variants.{Missing}
 use Rattle.commit.specs.Commit.{bankFor, recordsFor, commitStep, commitOps, wordStep, wordOps}
@@ -49,16 +50,16 @@ use Rattle.feed.specs.Run.{Lower, source, table, bytes, end, close, due, commit
 use Rattle.powerloss.specs.History.{Update, Note, sourceNote, tableNote, endNote, opened, bankOf, recordsAfter, blockBetween, updateAfter, isWord, committed, afterLower, afterLowerCut, afterBegin}
 use Rattle.powerloss.specs.Machine.{doneAt, Image, Run, Event, begin, call, cut, imageAfter, onCall, onCut, next, nextAll, found}
 use Rattle.powerloss.specs.Claim.{Typed, AllTyped}
-use Rattle.worked.specs.Instances.{key, dates, routes, data·, theSource, callsToClosing, callsBefore, updateWith, eraseCut, updated, written, Gives, WholeUpdate, CutBeforeTheWord, CutAfterTheWord, CutInTheWord, CutAtTheWordsEnd, CutInTheErase, Loads, WholeUpdateLoads, CutBeforeTheWordLoads, CutAfterTheWordLoads, CutInTheWordLoads, CutAtTheWordsEndLoads, CutInTheEraseLoads, FiveOperations, ErasedHasNone, ErasedUpdate}
+use Rattle.worked.specs.Instances.{key, dates, routes, data·, theSource, callsToClosing, callsBefore, updateWith, beforeTheWord, eraseCut, updated, theNew, theOld, written, Gives, WholeUpdate, CutBeforeTheWord, CutAfterTheWord, CutInTheWord, ThreeBytesWritten, CutAtTheWordsEnd, CutInTheErase, Loads, WholeUpdateLoads, CutBeforeTheWordLoads, CutAfterTheWordLoads, CutInTheWordLoads, CutAtTheWordsEndLoads, CutInTheEraseLoads, AfterOne, LastCommitted, FiveOperations, ErasedHasNone, onErased, ErasedUpdate}
 use Rattle.powerloss.proofs.Bytes.{bytes-nil, bytes-cons, bytes-fill}
 use Rattle.powerloss.proofs.Cuts.{cut-inside}
-use Rattle.powerloss.proofs.Load.{load-other, unmarked-refused}
+use Rattle.powerloss.proofs.Load.{load-own, load-read, load-other, unmarked-refused, target-fits}
 use Rattle.powerloss.proofs.Lowers.{mk}
-use Rattle.powerloss.proofs.Uppers.{demand3}
+use Rattle.powerloss.proofs.Uppers.{inv-all, inv-found, demand3}
 
 -- a state of this update
-abbrev st : Stage → Taken → Tables → List Source → List ℕ → Writer
-st g t b ss tail = record { stage = g; beginning = record { active = Nothing; comparing = false; now = pos 0 }; taken = t; tables = b; sources = ss; tail = tail }
+abbrev st : Loaded → Stage → Taken → Tables → List Source → List ℕ → Writer
+st hd g t b ss tail = record { stage = g; beginning = record { active = hd; comparing = false; now = pos 0 }; taken = t; tables = b; sources = ss; tail = tail }
 
 abbrev tk : ℕ → ℕ → ℕ → Bool → Taken
 tk n k crc closed = record { written = n; fill = k; crc = crc; different = false; closed = closed }
@@ -66,14 +67,11 @@ tk n k crc closed = record { written = n; fill = k; crc = crc; different = false
 abbrev tb : ℕ → ℕ → ℕ → ℕ → ℕ → Tables
 tb n t i crc k = record { count = n; table = t; start = i; crc = crc; begun = k }
 
-abbrev upd : List ℕ → List Note → Update
-upd xs ns = record { number = 0; generation = 0; now = pos 0; data· = xs; notes = ns; checked = pos 0 }
+abbrev upd : Loaded → List ℕ → List Note → Update
+upd hd xs ns = record { number = target hd; generation = nextGeneration hd; now = pos 0; data· = xs; notes = ns; checked = pos 0 }
 
-abbrev noImage : Image
-noImage = record { bank = []; given = none }
-
-abbrev at : List ℕ → Writer → Update → Run
-at region w u = mk region (some w) Nothing [] (some u) noImage
+abbrev at : Loaded → List Source → Image → List ℕ → Writer → Update → Run
+at hd rs im region w u = mk region (some w) hd rs (some u) im
 
 -- what a call does on a state: its answer, the state after it, its operations
 abbrev Does : Lower → List ℕ → Writer → Answer → Writer → List Op → Type 0
@@ -81,58 +79,58 @@ Does c region w x w′ ops = (lowerStep region w c ≡ record { answer = x; writ
 
 -- ---- each call's: sources, tail and CRCs are any where it doesn't look at them
 
-module _ (region : List ℕ) (ss : List Source) (tail : List ℕ) (a b : ℕ) where
-  does-key : Does (bytes key) region (st Idle (tk 0 0 a false) (tb 0 8 0 b 0) ss tail)
-      (Took 1) (st Idle (tk 0 1 (crc32 a key) false) (tb 0 8 0 (crc32 b key) 0) ss (sets tail 0 key)) []
-  unfolding lowerStep lowerOps bytesStep took withBytes stageOf inRange activeOk takenOk tablesOk stageOk isDue
-  does-key = (refl, refl)
+module _ (hd : Loaded) (ok : activeOk hd ≡ true) (region : List ℕ) (ss : List Source) (tail : List ℕ) (a b : ℕ) where
+  does-key : Does (bytes key) region (st hd Idle (tk 0 0 a false) (tb 0 8 0 b 0) ss tail)
+      (Took 1) (st hd Idle (tk 0 1 (crc32 a key) false) (tb 0 8 0 (crc32 b key) 0) ss (sets tail 0 key)) []
+  unfolding lowerStep lowerOps bytesStep took withBytes stageOf inRange takenOk tablesOk stageOk isDue
+  does-key = rw ok (refl, refl)
 
-  does-source : Does (source theSource) region (st Idle (tk 0 1 a false) (tb 0 8 0 b 0) ss tail)
-      Done (st Idle (tk 0 1 a false) (tb 1 8 0 b 0) (set ss 0 (emptied theSource)) tail) []
-  unfolding lowerStep lowerOps sourceStep withSource inRange activeOk takenOk tablesOk stageOk isDue
-  does-source = (refl, refl)
+  does-source : Does (source theSource) region (st hd Idle (tk 0 1 a false) (tb 0 8 0 b 0) ss tail)
+      Done (st hd Idle (tk 0 1 a false) (tb 1 8 0 b 0) (set ss 0 (emptied theSource)) tail) []
+  unfolding lowerStep lowerOps sourceStep withSource inRange takenOk tablesOk stageOk isDue
+  does-source = rw ok (refl, refl)
 
-  does-dates : Does (bytes dates) region (st Idle (tk 0 1 a false) (tb 1 8 0 b 0) ss tail)
-      (Took 8) (st Idle (tk 0 9 (crc32 a dates) false) (tb 1 8 0 (crc32 b dates) 0) ss (sets tail 1 dates)) []
-  unfolding lowerStep lowerOps bytesStep took withBytes stageOf inRange activeOk takenOk tablesOk stageOk isDue
-  does-dates = (refl, refl)
+  does-dates : Does (bytes dates) region (st hd Idle (tk 0 1 a false) (tb 1 8 0 b 0) ss tail)
+      (Took 8) (st hd Idle (tk 0 9 (crc32 a dates) false) (tb 1 8 0 (crc32 b dates) 0) ss (sets tail 1 dates)) []
+  unfolding lowerStep lowerOps bytesStep took withBytes stageOf inRange takenOk tablesOk stageOk isDue
+  does-dates = rw ok (refl, refl)
 
-  does-table : Does (table 0) region (st Idle (tk 0 9 a false) (tb 1 8 0 b 0) ss tail) Done (st Idle (tk 0 9 a false) (tb 1 0 9 0 1) ss tail) []
-  unfolding lowerStep lowerOps tableStep withTable begunIn inRange activeOk takenOk tablesOk stageOk isDue
-  does-table = (refl, refl)
+  does-table : Does (table 0) region (st hd Idle (tk 0 9 a false) (tb 1 8 0 b 0) ss tail) Done (st hd Idle (tk 0 9 a false) (tb 1 0 9 0 1) ss tail) []
+  unfolding lowerStep lowerOps tableStep withTable begunIn inRange takenOk tablesOk stageOk isDue
+  does-table = rw ok (refl, refl)
 
-  does-routes : Does (bytes routes) region (st Idle (tk 0 9 a false) (tb 1 0 9 b 1) ss tail)
-      (Took 3) (st Idle (tk 0 12 (crc32 a routes) false) (tb 1 0 9 (crc32 b routes) 1) ss (sets tail 9 routes)) []
-  unfolding lowerStep lowerOps bytesStep took withBytes stageOf inRange activeOk takenOk tablesOk stageOk isDue
-  does-routes = (refl, refl)
+  does-routes : Does (bytes routes) region (st hd Idle (tk 0 9 a false) (tb 1 0 9 b 1) ss tail)
+      (Took 3) (st hd Idle (tk 0 12 (crc32 a routes) false) (tb 1 0 9 (crc32 b routes) 1) ss (sets tail 9 routes)) []
+  unfolding lowerStep lowerOps bytesStep took withBytes stageOf inRange takenOk tablesOk stageOk isDue
+  does-routes = rw ok (refl, refl)
 
-  does-end : Does end region (st Idle (tk 0 12 a false) (tb 1 0 9 b 1) ss tail)
-      Done (st Idle (tk 0 12 a false) (tb 1 8 9 b 1) (set ss 0 (withBlock (getD ss 0 pastEnd) 0 (record { offset = 9; length = 3; crc = b }))) tail) []
-  unfolding lowerStep lowerOps endStep withEnd inRange activeOk takenOk tablesOk stageOk isDue
-  does-end = (refl, refl)
+  does-end : Does end region (st hd Idle (tk 0 12 a false) (tb 1 0 9 b 1) ss tail)
+      Done (st hd Idle (tk 0 12 a false) (tb 1 8 9 b 1) (set ss 0 (withBlock (getD ss 0 pastEnd) 0 (record { offset = 9; length = 3; crc = b }))) tail) []
+  unfolding lowerStep lowerOps endStep withEnd inRange takenOk tablesOk stageOk isDue
+  does-end = rw ok (refl, refl)
 
-  does-close : Does close region (st Idle (tk 0 12 a false) (tb 1 8 9 b 1) ss tail) Done (st (Due (Erase 0)) (tk 0 12 a true) (tb 1 8 9 b 1) ss tail) []
-  unfolding lowerStep lowerOps closeStep withClosed stageOf firstDue inRange activeOk takenOk tablesOk stageOk isDue
-  does-close = (refl, refl)
+  does-close : Does close region (st hd Idle (tk 0 12 a false) (tb 1 8 9 b 1) ss tail) Done (st hd (Due (Erase 0)) (tk 0 12 a true) (tb 1 8 9 b 1) ss tail) []
+  unfolding lowerStep lowerOps closeStep withClosed stageOf firstDue inRange takenOk tablesOk stageOk isDue
+  does-close = rw ok (refl, refl)
 
   -- the operations: the region has its size
   module _ (l : length region ≡ regionSize) where
-    does-header : Does due region (st (Due (Erase 0)) (tk 0 12 a true) (tb 1 8 9 b 1) ss tail) Done (st (Due (Erase 1)) (tk 0 12 a true) (tb 1 8 9 b 1) ss tail) (erase 0 ∷ [])
-    unfolding lowerStep lowerOps dueStep dueOps operated dataDue inRange activeOk takenOk tablesOk stageOk operationOk isDue
-    does-header = rw (eq-eqb (length region) regionSize l) (refl, refl)
+    does-header : Does due region (st hd (Due (Erase 0)) (tk 0 12 a true) (tb 1 8 9 b 1) ss tail) Done (st hd (Due (Erase 1)) (tk 0 12 a true) (tb 1 8 9 b 1) ss tail) (erase 0 ∷ [])
+    unfolding lowerStep lowerOps dueStep dueOps operated dataDue inRange takenOk tablesOk stageOk operationOk isDue
+    does-header = rw (eq-eqb (length region) regionSize l, ok) (refl, refl)
 
-    does-sector : Does due region (st (Due (Erase 1)) (tk 0 12 a true) (tb 1 8 9 b 1) ss tail) Done (st (Due (Write 0 12)) (tk 0 12 a true) (tb 1 8 9 b 1) ss tail) (erase 4096 ∷ [])
-    unfolding lowerStep lowerOps dueStep dueOps operated inRange activeOk takenOk tablesOk stageOk operationOk isDue
-    does-sector = rw (eq-eqb (length region) regionSize l) (refl, refl)
+    does-sector : Does due region (st hd (Due (Erase 1)) (tk 0 12 a true) (tb 1 8 9 b 1) ss tail) Done (st hd (Due (Write 0 12)) (tk 0 12 a true) (tb 1 8 9 b 1) ss tail) (erase 4096 ∷ [])
+    unfolding lowerStep lowerOps dueStep dueOps operated inRange takenOk tablesOk stageOk operationOk isDue
+    does-sector = rw (eq-eqb (length region) regionSize l, ok) (refl, refl)
 
-    does-write : Does due region (st (Due (Write 0 12)) (tk 0 12 a true) (tb 1 8 9 b 1) ss tail)
-        Done (st Idle (tk 12 0 a true) (tb 1 8 9 b 1) ss tail) (write 4096 (padded (take 12 tail)) ∷ [])
-    unfolding lowerStep lowerOps dueStep dueOps operated inRange activeOk takenOk tablesOk stageOk operationOk isDue
-    does-write = rw (eq-eqb (length region) regionSize l) (refl, refl)
+    does-write : Does due region (st hd (Due (Write 0 12)) (tk 0 12 a true) (tb 1 8 9 b 1) ss tail)
+        Done (st hd Idle (tk 12 0 a true) (tb 1 8 9 b 1) ss tail) (write 4096 (padded (take 12 tail)) ∷ [])
+    unfolding lowerStep lowerOps dueStep dueOps operated inRange takenOk tablesOk stageOk operationOk isDue
+    does-write = rw (eq-eqb (length region) regionSize l, ok) (refl, refl)
 
-    does-word : Does word region (st Headed (tk 12 0 a true) (tb 1 8 9 b 1) ss tail) Done (st Committed (tk 12 0 a true) (tb 1 8 9 b 1) ss tail) (write 44 commitBytes ∷ [])
-    unfolding lowerStep lowerOps wordStep wordOps inRange activeOk takenOk tablesOk stageOk isDue
-    does-word = rw (eq-eqb (length region) regionSize l) (refl, refl)
+    does-word : Does word region (st hd Headed (tk 12 0 a true) (tb 1 8 9 b 1) ss tail) Done (st hd Committed (tk 12 0 a true) (tb 1 8 9 b 1) ss tail) (write 44 commitBytes ∷ [])
+    unfolding lowerStep lowerOps wordStep wordOps inRange takenOk tablesOk stageOk isDue
+    does-word = rw (eq-eqb (length region) regionSize l, ok) (refl, refl)
 
 -- the sources at the commit: the record with its block, b the CRC of its Routes
 abbrev sources1 : List Source
@@ -141,38 +139,39 @@ sources1 = set (fill noSource 3) 0 (emptied theSource)
 abbrev sources2 : ℕ → List Source
 sources2 b = set sources1 0 (withBlock (getD sources1 0 pastEnd) 0 (record { offset = 9; length = 3; crc = b }))
 
-abbrev ready : List ℕ → ℕ → ℕ → Writer
-ready tail a b = st Idle (tk 12 0 a true) (tb 1 8 9 b 1) (sources2 b) tail
+abbrev ready : Loaded → List ℕ → ℕ → ℕ → Writer
+ready hd tail a b = st hd Idle (tk 12 0 a true) (tb 1 8 9 b 1) (sources2 b) tail
 
-abbrev headed : List ℕ → ℕ → ℕ → Writer
-headed tail a b = st Headed (tk 12 0 a true) (tb 1 8 9 b 1) (sources2 b) tail
+abbrev headed : Loaded → List ℕ → ℕ → ℕ → Writer
+headed hd tail a b = st hd Headed (tk 12 0 a true) (tb 1 8 9 b 1) (sources2 b) tail
 
-abbrev header : List ℕ → ℕ → ℕ → List Op
-header tail a b = write 0 (headerBytes (bankFor (ready tail a b) Missing) (recordsFor (ready tail a b)) blankWord) ∷ []
+abbrev header : Loaded → List ℕ → ℕ → ℕ → List Op
+header hd tail a b = write 0 (headerBytes (bankFor (ready hd tail a b) Missing) (recordsFor (ready hd tail a b)) blankWord) ∷ []
 
 -- refusal 13 isn't met
-fit : (tail : List ℕ) (a b : ℕ) → isFit (bankFor (ready tail a b) Missing) (recordsFor (ready tail a b)) ≡ true
+fit : (hd : Loaded) (tail : List ℕ) (a b : ℕ) → isFit (bankFor (ready hd tail a b) Missing) (recordsFor (ready hd tail a b)) ≡ true
 unfolding isFit judge spanOk sourceOk each bankFor fill noSource validDate isDate monthDays leap
-fit tail a b = refl
+fit hd tail a b = refl
 
-does-commit : (region tail : List ℕ) (a b : ℕ) → length region ≡ regionSize → Does (commit Missing true) region (ready tail a b) Done (headed tail a b) (header tail a b)
-unfolding lowerStep lowerOps commitStep commitOps inRange activeOk takenOk tablesOk stageOk isDue
-does-commit region tail a b l = rw (eq-eqb (length region) regionSize l, fit tail a b) (refl, refl)
+does-commit : (hd : Loaded) → activeOk hd ≡ true → (region tail : List ℕ) (a b : ℕ) → length region ≡ regionSize → Does (commit Missing true) region (ready hd tail a b) Done (headed hd tail a b) (header hd tail a b)
+unfolding lowerStep lowerOps commitStep commitOps inRange takenOk tablesOk stageOk isDue
+does-commit hd ok region tail a b l = rw (eq-eqb (length region) regionSize l, ok, fit hd tail a b) (refl, refl)
 
 -- ---- the list
 
 -- a call that isn't the commit word's, then the rest
-called : (c : Lower) (region : List ℕ) (g : Stage) (t : Taken) (b : Tables) (ss : List Source) (tail : List ℕ) (x : Answer) (w′ : Writer) (ops : List Op) (u : Update) (es : List Event)
-    → isWord c ≡ false → Does c region (st g t b ss tail) x w′ ops
-    → nextAll (at region (st g t b ss tail) u) (call c ∷ es) ≡ nextAll (at (performed 0 ops region) w′ (updateAfter c x u)) es
-unfolding nextAll next onCall afterLower committed imageAfter target
-called c region g t b ss tail x w′ ops u es e d = rw (e, d .0, d .1)
+called : (hd : Loaded) (rs : List Source) (im : Image) (c : Lower) (region : List ℕ) (g : Stage) (t : Taken) (b : Tables) (ss : List Source) (tail : List ℕ) (x : Answer) (w′ : Writer) (ops : List Op) (u : Update)
+    (es : List Event)
+    → isWord c ≡ false → Does c region (st hd g t b ss tail) x w′ ops
+    → nextAll (at hd rs im region (st hd g t b ss tail) u) (call c ∷ es) ≡ nextAll (at hd rs im (performed (target hd) ops region) w′ (updateAfter c x u)) es
+unfolding nextAll next onCall afterLower committed imageAfter
+called hd rs im c region g t b ss tail x w′ ops u es e d = rw (e, d .0, d .1)
 
 -- its operations, then those of the rest
-ran : (c : Lower) (region : List ℕ) (g : Stage) (t : Taken) (b : Tables) (ss : List Source) (tail : List ℕ) (x : Answer) (w′ : Writer) (ops : List Op) (cs : List Lower)
-    → Does c region (st g t b ss tail) x w′ ops → ranOps region (st g t b ss tail) (c ∷ cs) ≡ ops ++ ranOps (performed 0 ops region) w′ cs
-unfolding ranOps target
-ran c region g t b ss tail x w′ ops cs d = rw (d .0, d .1)
+ran : (hd : Loaded) (c : Lower) (region : List ℕ) (g : Stage) (t : Taken) (b : Tables) (ss : List Source) (tail : List ℕ) (x : Answer) (w′ : Writer) (ops : List Op) (cs : List Lower)
+    → Does c region (st hd g t b ss tail) x w′ ops → ranOps region (st hd g t b ss tail) (c ∷ cs) ≡ ops ++ ranOps (performed (target hd) ops region) w′ cs
+unfolding ranOps
+ran hd c region g t b ss tail x w′ ops cs d = rw (d .0, d .1)
 
 onlyOne : (r : Run) (e : Event) → nextAll r (e ∷ []) ≡ next r e
 unfolding nextAll
@@ -208,129 +207,210 @@ tail2 = sets tail1 1 dates
 abbrev tail3 : List ℕ
 tail3 = sets tail2 9 routes
 
-abbrev first : Writer
-first = st Idle (tk 0 0 0 false) (tb 0 8 0 0 0) (fill noSource 3) (fill 0 256)
+abbrev first : Loaded → Writer
+first hd = st hd Idle (tk 0 0 0 false) (tb 0 8 0 0 0) (fill noSource 3) (fill 0 256)
 
-abbrev dueFirst : Writer
-dueFirst = st (Due (Erase 0)) (tk 0 12 crcData true) (tb 1 8 9 crcRoutes 1) (sources2 crcRoutes) tail3
+abbrev dueFirst : Loaded → Writer
+dueFirst hd = st hd (Due (Erase 0)) (tk 0 12 crcData true) (tb 1 8 9 crcRoutes 1) (sources2 crcRoutes) tail3
 
-abbrev last· : Writer
-last· = headed tail3 crcData crcRoutes
+abbrev last· : Loaded → Writer
+last· hd = headed hd tail3 crcData crcRoutes
 
-module _ (region : List ℕ) (l : length region ≡ regionSize) where
+answer-ok : (hd : Loaded) → activeOk hd ≡ true → answerOf hd ≡ Done
+unfolding activeOk
+answer-ok (Found b) e = refl
+answer-ok Nothing e = refl
+answer-ok (NotRead r) e = absurd (false≢true e)
+
+-- what load gives on a region of its size names a bank there, or none
+ok-of : (region : List ℕ) (hd : Loaded) → length region ≡ regionSize → loaded region ≡ hd → activeOk hd ≡ true
+unfolding activeOk
+ok-of region (Found b) l e = le-leb (b .number) 1 (load-own region b l e .number)
+ok-of region Nothing l e = refl
+ok-of region (NotRead r) l e = absurd (load-read region r l e)
+
+-- the region before each of the operations
+module _ (hd : Loaded) (region : List ℕ) (l : length region ≡ regionSize) where
   abbrev region1 : List ℕ
-  region1 = performed 0 (erase 0 ∷ []) region
+  region1 = performed (target hd) (erase 0 ∷ []) region
 
   l1 : length region1 ≡ regionSize
-  l1 = length-performed 0 (erase 0 ∷ []) region (omega arith) l
+  l1 = length-performed (target hd) (erase 0 ∷ []) region (target-fits hd) l
 
   abbrev region2 : List ℕ
-  region2 = performed 0 (erase 4096 ∷ []) region1
+  region2 = performed (target hd) (erase 4096 ∷ []) region1
 
   l2 : length region2 ≡ regionSize
-  l2 = length-performed 0 (erase 4096 ∷ []) region1 (omega arith) l1
+  l2 = length-performed (target hd) (erase 4096 ∷ []) region1 (target-fits hd) l1
 
   abbrev dataOp : Op
   dataOp = write 4096 (padded (take 12 tail3))
 
   abbrev region3 : List ℕ
-  region3 = performed 0 (dataOp ∷ []) region2
+  region3 = performed (target hd) (dataOp ∷ []) region2
 
   l3 : length region3 ≡ regionSize
-  l3 = length-performed 0 (dataOp ∷ []) region2 (omega arith) l2
+  l3 = length-performed (target hd) (dataOp ∷ []) region2 (target-fits hd) l2
 
   abbrev region4 : List ℕ
-  region4 = performed 0 (header tail3 crcData crcRoutes) region3
+  region4 = performed (target hd) (header hd tail3 crcData crcRoutes) region3
 
   l4 : length region4 ≡ regionSize
-  l4 = length-performed 0 (header tail3 crcData crcRoutes) region3 (omega arith) l3
+  l4 = length-performed (target hd) (header hd tail3 crcData crcRoutes) region3 (target-fits hd) l3
 
-  begins : (es : List Event) → loaded region ≡ Nothing → nextAll (found region) (begin false (pos 0) ∷ es) ≡ nextAll (at region first (upd [] [])) es
-  unfolding nextAll next found begun started afterBegin opened target nextGeneration
-  begins es e = rw e
+-- an update from a run whose history holds what load gives
+module _ (hd : Loaded) (ok : activeOk hd ≡ true) (r : Run) (e : loaded (r .region) ≡ hd) (f : r .history .held ≡ hd) (l : length (r .region) ≡ regionSize) where
+  abbrev from : List ℕ → Writer → Update → Run
+  from region w u = at hd (r .history .records) (r .image) region w u
+
+  begins : (es : List Event) → nextAll r (begin false (pos 0) ∷ es) ≡ nextAll (from (r .region) (first hd) (upd hd [] [])) es
+  unfolding nextAll next begun started afterBegin opened
+  begins es = rw (e, f, answer-ok hd ok)
 
   -- after the closing
-  closed : (es : List Event) → loaded region ≡ Nothing → nextAll (found region) (begin false (pos 0) ∷ (map call callsToClosing ++ es)) ≡ nextAll (at region dueFirst (upd data· notes)) es
+  closed : (es : List Event) → nextAll r (begin false (pos 0) ∷ (map call callsToClosing ++ es)) ≡ nextAll (from (r .region) (dueFirst hd) (upd hd data· notes)) es
   unfolding updateAfter performed
-  closed es e =
-      begins _ e
-      ∙ called (bytes key) region _ _ _ _ _ _ _ _ (upd [] []) _ refl (does-key region (fill noSource 3) (fill 0 256) 0 0)
-      ∙ called (source theSource) region _ _ _ _ _ _ _ _ (upd key []) _ refl (does-source region (fill noSource 3) tail1 crc1 crc1)
-      ∙ called (bytes dates) region _ _ _ _ _ _ _ _ (upd key notes1) _ refl (does-dates region sources1 tail1 crc1 crc1)
-      ∙ called (table 0) region _ _ _ _ _ _ _ _ (upd (key ++ dates) notes1) _ refl (does-table region sources1 tail2 crc2 crc2)
-      ∙ called (bytes routes) region _ _ _ _ _ _ _ _ (upd (key ++ dates) notes2) _ refl (does-routes region sources1 tail2 crc2 0)
-      ∙ called end region _ _ _ _ _ _ _ _ (upd data· notes2) _ refl (does-end region sources1 tail3 crcData crcRoutes)
-      ∙ called close region _ _ _ _ _ _ _ _ (upd data· notes) _ refl (does-close region (sources2 crcRoutes) tail3 crcData crcRoutes)
+  closed es =
+      let g = r .region in
+      let rs = r .history .records in
+      let im = r .image in
+      begins _
+      ∙ called hd rs im (bytes key) g _ _ _ _ _ _ _ _ (upd hd [] []) _ refl (does-key hd ok g (fill noSource 3) (fill 0 256) 0 0)
+      ∙ called hd rs im (source theSource) g _ _ _ _ _ _ _ _ (upd hd key []) _ refl (does-source hd ok g (fill noSource 3) tail1 crc1 crc1)
+      ∙ called hd rs im (bytes dates) g _ _ _ _ _ _ _ _ (upd hd key notes1) _ refl (does-dates hd ok g sources1 tail1 crc1 crc1)
+      ∙ called hd rs im (table 0) g _ _ _ _ _ _ _ _ (upd hd (key ++ dates) notes1) _ refl (does-table hd ok g sources1 tail2 crc2 crc2)
+      ∙ called hd rs im (bytes routes) g _ _ _ _ _ _ _ _ (upd hd (key ++ dates) notes2) _ refl (does-routes hd ok g sources1 tail2 crc2 0)
+      ∙ called hd rs im end g _ _ _ _ _ _ _ _ (upd hd data· notes2) _ refl (does-end hd ok g sources1 tail3 crcData crcRoutes)
+      ∙ called hd rs im close g _ _ _ _ _ _ _ _ (upd hd data· notes) _ refl (does-close hd ok g (sources2 crcRoutes) tail3 crcData crcRoutes)
+
+  -- before the commit word's call
+  headed-by : (es : List Event) → nextAll r (begin false (pos 0) ∷ (map call callsBefore ++ es)) ≡ nextAll (from (region4 hd (r .region) l) (last· hd) (upd hd data· notes)) es
+  unfolding updateAfter performed
+  headed-by es =
+      let g = r .region in
+      let rs = r .history .records in
+      let im = r .image in
+      closed (call due ∷ call due ∷ call due ∷ call (commit Missing true) ∷ es)
+      ∙ called hd rs im due g _ _ _ _ _ _ _ _ (upd hd data· notes) _ refl (does-header hd ok g (sources2 crcRoutes) tail3 crcData crcRoutes l)
+      ∙ called hd rs im due (region1 hd g l) _ _ _ _ _ _ _ _ (upd hd data· notes) _ refl (does-sector hd ok (region1 hd g l) (sources2 crcRoutes) tail3 crcData crcRoutes (l1 hd g l))
+      ∙ called hd rs im due (region2 hd g l) _ _ _ _ _ _ _ _ (upd hd data· notes) _ refl (does-write hd ok (region2 hd g l) (sources2 crcRoutes) tail3 crcData crcRoutes (l2 hd g l))
+      ∙ called hd rs im (commit Missing true) (region3 hd g l) _ _ _ _ _ _ _ _ (upd hd data· notes) _ refl (does-commit hd ok (region3 hd g l) tail3 crcData crcRoutes (l3 hd g l))
 
   -- before the last event
-  before : (last : Event) → loaded region ≡ Nothing → nextAll (found region) (updateWith last) ≡ next (at region4 last· (upd data· notes)) last
-  unfolding updateWith updateAfter performed
-  before last e =
-      closed (call due ∷ call due ∷ call due ∷ call (commit Missing true) ∷ last ∷ []) e
-      ∙ called due region _ _ _ _ _ _ _ _ (upd data· notes) _ refl (does-header region (sources2 crcRoutes) tail3 crcData crcRoutes l)
-      ∙ called due region1 _ _ _ _ _ _ _ _ (upd data· notes) _ refl (does-sector region1 (sources2 crcRoutes) tail3 crcData crcRoutes l1)
-      ∙ called due region2 _ _ _ _ _ _ _ _ (upd data· notes) _ refl (does-write region2 (sources2 crcRoutes) tail3 crcData crcRoutes l2)
-      ∙ called (commit Missing true) region3 _ _ _ _ _ _ _ _ (upd data· notes) _ refl (does-commit region3 tail3 crcData crcRoutes l3)
-      ∙ onlyOne _ last
+  before : (last : Event) → nextAll r (updateWith last) ≡ next (from (region4 hd (r .region) l) (last· hd) (upd hd data· notes)) last
+  unfolding updateWith
+  before last = headed-by (last ∷ []) ∙ onlyOne _ last
 
 -- ---- the last event
 
 -- the bank that the history notes
-noted-bank : bankOf (upd data· notes) ≡ updated
+noted-bank : (hd : Loaded) → bankOf (upd hd data· notes) ≡ updated hd
 unfolding bankOf recordsAfter blockBetween fill
-noted-bank = refl
+noted-bank hd = refl
 
-module _ (region : List ℕ) (l : length region ≡ regionSize) where
-  by-word : next (at region last· (upd data· notes)) (call word) .history .held ≡ Found updated
+module _ (hd : Loaded) (ok : activeOk hd ≡ true) (rs : List Source) (im : Image) (region : List ℕ) (l : length region ≡ regionSize) where
+  abbrev atWord : Run
+  atWord = at hd rs im region (last· hd) (upd hd data· notes)
+
+  word-does : Does word region (last· hd) Done (st hd Committed (tk 12 0 crcData true) (tb 1 8 9 crcRoutes 1) (sources2 crcRoutes) tail3) (write 44 commitBytes ∷ [])
+  word-does = does-word hd ok region (sources2 crcRoutes) tail3 crcData crcRoutes l
+
+  by-word : next atWord (call word) .history .held ≡ theNew hd
   unfolding next onCall afterLower committed updateAfter
-  by-word = rw (does-word region (sources2 crcRoutes) tail3 crcData crcRoutes l .0) (ap Found noted-bank)
+  by-word = rw (word-does .0) (ap Found (noted-bank hd))
 
-  by-cut-before : next (at region last· (upd data· notes)) (cut word 0 0) .history .held ≡ Nothing
+  by-cut-before : next atWord (cut word 0 0) .history .held ≡ theOld hd
   unfolding next onCut afterLowerCut committed doneAt commitBytes le32
-  by-cut-before = rw (does-word region (sources2 crcRoutes) tail3 crcData crcRoutes l .1) refl
+  by-cut-before = rw (word-does .1) refl
 
-  by-cut-in : next (at region last· (upd data· notes)) (cut word 0 3) .history .held ≡ Nothing
+  by-cut-1 : next atWord (cut word 0 1) .history .held ≡ theOld hd
   unfolding next onCut afterLowerCut committed doneAt commitBytes le32
-  by-cut-in = rw (does-word region (sources2 crcRoutes) tail3 crcData crcRoutes l .1) refl
+  by-cut-1 = rw (word-does .1) refl
 
-  by-cut-at-end : next (at region last· (upd data· notes)) (cut word 0 4) .history .held ≡ Found updated
+  by-cut-2 : next atWord (cut word 0 2) .history .held ≡ theOld hd
   unfolding next onCut afterLowerCut committed doneAt commitBytes le32
-  by-cut-at-end = rw (does-word region (sources2 crcRoutes) tail3 crcData crcRoutes l .1) (ap Found noted-bank)
+  by-cut-2 = rw (word-does .1) refl
 
-  by-cut-after : next (at region last· (upd data· notes)) (cut word 1 0) .history .held ≡ Found updated
+  by-cut-3 : next atWord (cut word 0 3) .history .held ≡ theOld hd
+  unfolding next onCut afterLowerCut committed doneAt commitBytes le32
+  by-cut-3 = rw (word-does .1) refl
+
+  by-cut-4 : next atWord (cut word 0 4) .history .held ≡ theNew hd
+  unfolding next onCut afterLowerCut committed doneAt commitBytes le32
+  by-cut-4 = rw (word-does .1) (ap Found (noted-bank hd))
+
+  by-cut-after : next atWord (cut word 1 0) .history .held ≡ theNew hd
   unfolding next onCut afterLowerCut committed doneAt
-  by-cut-after = rw (does-word region (sources2 crcRoutes) tail3 crcData crcRoutes l .1) (ap Found noted-bank)
+  by-cut-after = rw (word-does .1) (ap Found (noted-bank hd))
 
-  by-erase-cut : (next (at region dueFirst (upd data· notes)) (cut due 0 100) .region ≡ torn 0 100 (erase 0) region)
-      × (next (at region dueFirst (upd data· notes)) (cut due 0 100) .history .held ≡ Nothing)
-  unfolding next onCut afterLowerCut committed target
-  by-erase-cut = rw (does-header region (sources2 crcRoutes) tail3 crcData crcRoutes l .1, cut-inside 0 (erase 0) [] region 100) (refl, refl)
+  three-bytes : next atWord (cut word 0 3) .region ≡ torn (target hd) 3 (write 44 commitBytes) region
+  unfolding next onCut
+  three-bytes = rw (word-does .1, cut-inside (target hd) (write 44 commitBytes) [] region 3) refl
 
-by : (last : Event) (held : Loaded) → ((region : List ℕ) → length region ≡ regionSize → next (at region last· (upd data· notes)) last .history .held ≡ held) → Gives last held
-by last held f region l e = ap (λ (r : Run). r .history .held) (before region l last e) ∙ f (region4 region l) (l4 region l)
+  by-erase-cut : (next (at hd rs im region (dueFirst hd) (upd hd data· notes)) (cut due 0 100) .region ≡ torn (target hd) 100 (erase 0) region)
+      × (next (at hd rs im region (dueFirst hd) (upd hd data· notes)) (cut due 0 100) .history .held ≡ hd)
+  unfolding next onCut afterLowerCut committed
+  by-erase-cut = rw (does-header hd ok region (sources2 crcRoutes) tail3 crcData crcRoutes l .1, cut-inside (target hd) (erase 0) [] region 100) (refl, refl)
+
+-- what the last event gives, on any state before it
+abbrev Ends : Event → (Loaded → Loaded) → Type 0
+Ends last held =
+    (hd : Loaded) → activeOk hd ≡ true → (rs : List Source) (im : Image) (region : List ℕ) → length region ≡ regionSize
+    → next (at hd rs im region (last· hd) (upd hd data· notes)) last .history .held ≡ held hd
+
+held-after : (last : Event) (held : Loaded → Loaded) → Ends last held
+    → (hd : Loaded) → activeOk hd ≡ true → (r : Run) → loaded (r .region) ≡ hd → r .history .held ≡ hd → length (r .region) ≡ regionSize
+    → nextAll r (updateWith last) .history .held ≡ held hd
+held-after last held g hd ok r e f l =
+    ap (λ (x : Run). x .history .held) (before hd ok r e f l last) ∙ g hd ok (r .history .records) (r .image) (region4 hd (r .region) l) (l4 hd (r .region) l)
+
+erase-after : (hd : Loaded) → activeOk hd ≡ true → (r : Run) → loaded (r .region) ≡ hd → r .history .held ≡ hd → length (r .region) ≡ regionSize
+    → (nextAll r eraseCut .region ≡ torn (target hd) 100 (erase 0) (r .region)) × (nextAll r eraseCut .history .held ≡ hd)
+unfolding eraseCut
+erase-after hd ok r e f l =
+    let q = closed hd ok r e f l (cut due 0 100 ∷ []) ∙ onlyOne _ (cut due 0 100) in
+    let p = by-erase-cut hd ok (r .history .records) (r .image) (r .region) l in
+    (ap (λ (x : Run). x .region) q ∙ p .0, ap (λ (x : Run). x .history .held) q ∙ p .1)
+
+by : (last : Event) (held : Loaded → Loaded) → Ends last held → Gives last held
+by last held g region l = unfold found in (held-after last held g (loaded region) (ok-of region (loaded region) l refl) (found region) refl refl l)
 
 pub wholeUpdate : WholeUpdate
-wholeUpdate = by (call word) (Found updated) by-word
+wholeUpdate = by (call word) theNew by-word
 
 pub cutBeforeTheWord : CutBeforeTheWord
-cutBeforeTheWord = by (cut word 0 0) Nothing by-cut-before
+cutBeforeTheWord = by (cut word 0 0) theOld by-cut-before
 
 pub cutAfterTheWord : CutAfterTheWord
-cutAfterTheWord = by (cut word 1 0) (Found updated) by-cut-after
+cutAfterTheWord = by (cut word 1 0) theNew by-cut-after
 
 pub cutInTheWord : CutInTheWord
-cutInTheWord = by (cut word 0 3) Nothing by-cut-in
+cutInTheWord = by (cut word 0 3) theOld by-cut-3
 
 pub cutAtTheWordsEnd : CutAtTheWordsEnd
-cutAtTheWordsEnd = by (cut word 0 4) (Found updated) by-cut-at-end
+cutAtTheWordsEnd = by (cut word 0 4) theNew by-cut-4
+
+-- the region that three bytes leave
+none-left : (r : Run) → nextAll r [] ≡ r
+unfolding nextAll
+none-left r = refl
+
+pub threeBytesWritten : ThreeBytesWritten
+unfolding found beforeTheWord
+threeBytesWritten region l =
+    let hd = loaded region in
+    let ok = ok-of region hd l refl in
+    let rs = found region .history .records in
+    let im = found region .image in
+    let g = region4 hd region l in
+    let q = headed-by hd ok (found region) refl refl l [] ∙ none-left _ in
+    ap (λ (x : Run). x .region) (before hd ok (found region) refl refl l (cut word 0 3))
+    ∙ three-bytes hd ok rs im g (l4 hd region l)
+    ∙ ap (λ (x : Run). torn (target hd) 3 (write 44 commitBytes) (x .region)) (sym q)
 
 -- the header sector's erase, cut
 pub cutInTheErase : CutInTheErase
-unfolding eraseCut
-cutInTheErase region l e =
-    let q = closed region l (cut due 0 100 ∷ []) e ∙ onlyOne (at region dueFirst (upd data· notes)) (cut due 0 100) in
-    let p = by-erase-cut region l in
-    (ap (λ (r : Run). r .region) q ∙ p .0, ap (λ (r : Run). r .history .held) q ∙ p .1)
+cutInTheErase region l = unfold found in (erase-after (loaded region) (ok-of region (loaded region) l refl) (found region) refl refl l)
 
 -- ---- load's answer, by demand 3
 
@@ -386,32 +466,69 @@ typed : (last : Event) → Typed last → AllTyped (updateWith last)
 unfolding updateWith
 typed last t = (zero-fits, (bytes-key, (proper, (bytes-dates, (tt, (bytes-routes, (tt, (tt, (tt, (tt, (tt, (tt, (t, tt)))))))))))))
 
-loads-by : (last : Event) (held : Loaded) → Typed last → Gives last held → Loads last held
-loads-by last held t g region l y e = demand3 region (updateWith last) l y (typed last t) .loads ∙ g region l e
+loads-by : (last : Event) (held : Loaded → Loaded) → Typed last → Gives last held → Loads last held
+loads-by last held t g region l y = demand3 region (updateWith last) l y (typed last t) .loads ∙ g region l
 
 pub wholeUpdateLoads : WholeUpdateLoads
-wholeUpdateLoads = loads-by (call word) (Found updated) tt wholeUpdate
+wholeUpdateLoads = loads-by (call word) theNew tt wholeUpdate
 
 pub cutBeforeTheWordLoads : CutBeforeTheWordLoads
-cutBeforeTheWordLoads = loads-by (cut word 0 0) Nothing tt cutBeforeTheWord
+cutBeforeTheWordLoads = loads-by (cut word 0 0) theOld tt cutBeforeTheWord
 
 pub cutAfterTheWordLoads : CutAfterTheWordLoads
-cutAfterTheWordLoads = loads-by (cut word 1 0) (Found updated) tt cutAfterTheWord
+cutAfterTheWordLoads = loads-by (cut word 1 0) theNew tt cutAfterTheWord
 
 pub cutInTheWordLoads : CutInTheWordLoads
-cutInTheWordLoads = loads-by (cut word 0 3) Nothing tt cutInTheWord
+cutInTheWordLoads = loads-by (cut word 0 3) theOld tt cutInTheWord
 
 pub cutAtTheWordsEndLoads : CutAtTheWordsEndLoads
-cutAtTheWordsEndLoads = loads-by (cut word 0 4) (Found updated) tt cutAtTheWordsEnd
+cutAtTheWordsEndLoads = loads-by (cut word 0 4) theNew tt cutAtTheWordsEnd
 
 erase-typed : AllTyped eraseCut
 unfolding eraseCut
 erase-typed = (zero-fits, (bytes-key, (proper, (bytes-dates, (tt, (bytes-routes, (tt, (tt, (tt, tt)))))))))
 
 pub cutInTheEraseLoads : CutInTheEraseLoads
-cutInTheEraseLoads region l y e =
-    let p = cutInTheErase region l e in
-    rw (p .0, p .1) at (demand3 region eraseCut l y erase-typed .loads)
+cutInTheEraseLoads region l y =
+    let p = cutInTheErase region l in
+    ap loaded (sym (p .0)) ∙ demand3 region eraseCut l y erase-typed .loads ∙ p .1
+
+-- ---- one update, then other events
+
+next-append : (xs ys : List Event) (r : Run) → nextAll r (xs ++ ys) ≡ nextAll (nextAll r xs) ys
+unfolding nextAll
+next-append [] ys r = refl
+next-append (x ∷ xs) ys r = next-append xs ys (next r x)
+
+typed-append : (xs ys : List Event) → AllTyped xs → AllTyped ys → AllTyped (xs ++ ys)
+typed-append [] ys p q = q
+typed-append (x ∷ xs) ys p q = (p .0, typed-append xs ys (p .1) q)
+
+after-one : (es : List Event) (held : Loaded → Loaded) → AllTyped es
+    → ((hd : Loaded) → activeOk hd ≡ true → (r : Run) → loaded (r .region) ≡ hd → r .history .held ≡ hd → length (r .region) ≡ regionSize → nextAll r es .history .held ≡ held hd)
+    → AfterOne es held
+after-one es held p g region l y =
+    let one = updateWith (call word) in
+    let r = nextAll (found region) one in
+    let k = inv-all one (found region) (typed (call word) tt) (inv-found region l y) .kept in
+    let f = wholeUpdate region l in
+    let e = k .loads ∙ f in
+    demand3 region (one ++ es) l y (typed-append one es (typed (call word) tt) p) .loads
+    ∙ ap (λ (x : Run). x .history .held) (next-append one es (found region))
+    ∙ g (theNew (loaded region)) (ok-of (r .region) (theNew (loaded region)) (k .size) e) r e f (k .size)
+
+after-by : (last : Event) (held : Loaded → Loaded) → Typed last → Ends last held → AfterOne (updateWith last) held
+after-by last held t g = after-one (updateWith last) held (typed last t) (held-after last held g)
+
+pub lastCommitted : LastCommitted
+lastCommitted =
+    record {
+      inTheErase = after-one eraseCut theOld erase-typed (λ hd ok r e f l. erase-after hd ok r e f l .1);
+      oneByte = after-by (cut word 0 1) theOld tt by-cut-1;
+      twoBytes = after-by (cut word 0 2) theOld tt by-cut-2;
+      threeBytes = after-by (cut word 0 3) theOld tt by-cut-3;
+      fourBytes = after-by (cut word 0 4) theNew tt by-cut-4;
+    }
 
 -- ---- the operations
 
@@ -423,53 +540,50 @@ data-op : padded (take 12 tail3) ≡ data·
 unfolding padded fill
 data-op = refl
 
-header-op : header tail3 crcData crcRoutes ≡ write 0 (headerBytes updated (written ∷ []) blankWord) ∷ []
-unfolding bankFor fill target nextGeneration
-header-op = rw crc-data
+header-op : (hd : Loaded) → header hd tail3 crcData crcRoutes ≡ write 0 (headerBytes (updated hd) (written ∷ []) blankWord) ∷ []
+unfolding bankFor fill
+header-op hd = rw crc-data
 
-module _ (region : List ℕ) (l : length region ≡ regionSize) where
+module _ (hd : Loaded) (ok : activeOk hd ≡ true) (region : List ℕ) (l : length region ≡ regionSize) where
   abbrev s2 : List Source
   s2 = sources2 crcRoutes
 
-  ops-word : ranOps (region4 region l) last· (word ∷ []) ≡ write 44 commitBytes ∷ []
-  unfolding ranOps target
-  ops-word = rw (does-word (region4 region l) s2 tail3 crcData crcRoutes (l4 region l) .1)
+  ops-word : ranOps (region4 hd region l) (last· hd) (word ∷ []) ≡ write 44 commitBytes ∷ []
+  unfolding ranOps
+  ops-word = rw (does-word hd ok (region4 hd region l) s2 tail3 crcData crcRoutes (l4 hd region l) .1)
 
-  ops-commit : ranOps (region3 region l) (ready tail3 crcData crcRoutes) (commit Missing true ∷ word ∷ [])
-      ≡ write 0 (headerBytes updated (written ∷ []) blankWord) ∷ write 44 commitBytes ∷ []
+  ops-commit : ranOps (region3 hd region l) (ready hd tail3 crcData crcRoutes) (commit Missing true ∷ word ∷ [])
+      ≡ write 0 (headerBytes (updated hd) (written ∷ []) blankWord) ∷ write 44 commitBytes ∷ []
   ops-commit =
-      ran (commit Missing true) (region3 region l) _ _ _ _ _ _ _ _ (word ∷ []) (does-commit (region3 region l) tail3 crcData crcRoutes (l3 region l))
-      ∙ (λ i. header-op i ++ ops-word i)
+      ran hd (commit Missing true) (region3 hd region l) _ _ _ _ _ _ _ _ (word ∷ []) (does-commit hd ok (region3 hd region l) tail3 crcData crcRoutes (l3 hd region l))
+      ∙ (λ i. header-op hd i ++ ops-word i)
 
   abbrev committing : List Lower
   committing = commit Missing true ∷ word ∷ []
 
-  ops-due : ranOps region (st (Due (Erase 0)) (tk 0 12 crcData true) (tb 1 8 9 crcRoutes 1) s2 tail3) (due ∷ due ∷ due ∷ committing)
-      ≡ erase 0 ∷ erase 4096 ∷ write 4096 data· ∷ write 0 (headerBytes updated (written ∷ []) blankWord) ∷ write 44 commitBytes ∷ []
+  ops-due : ranOps region (dueFirst hd) (due ∷ due ∷ due ∷ committing)
+      ≡ erase 0 ∷ erase 4096 ∷ write 4096 data· ∷ write 0 (headerBytes (updated hd) (written ∷ []) blankWord) ∷ write 44 commitBytes ∷ []
   ops-due =
-      ran due region _ _ _ _ _ _ _ _ (due ∷ due ∷ committing) (does-header region s2 tail3 crcData crcRoutes l)
+      ran hd due region _ _ _ _ _ _ _ _ (due ∷ due ∷ committing) (does-header hd ok region s2 tail3 crcData crcRoutes l)
       ∙ ap (λ (ops : List Op). erase 0 ∷ ops)
-      (ran due (region1 region l) _ _ _ _ _ _ _ _ (due ∷ committing) (does-sector (region1 region l) s2 tail3 crcData crcRoutes (l1 region l))
+      (ran hd due (region1 hd region l) _ _ _ _ _ _ _ _ (due ∷ committing) (does-sector hd ok (region1 hd region l) s2 tail3 crcData crcRoutes (l1 hd region l))
       ∙ ap (λ (ops : List Op). erase 4096 ∷ ops)
-      (ran due (region2 region l) _ _ _ _ _ _ _ _ committing (does-write (region2 region l) s2 tail3 crcData crcRoutes (l2 region l))
+      (ran hd due (region2 hd region l) _ _ _ _ _ _ _ _ committing (does-write hd ok (region2 hd region l) s2 tail3 crcData crcRoutes (l2 hd region l))
       ∙ (λ i. write 4096 (data-op i) ∷ ops-commit i)))
 
-begun-first : (region : List ℕ) → loaded region ≡ Nothing → begun region false (pos 0) .writer ≡ first
-unfolding begun started
-begun-first region e = rw e
-
 pub fiveOperations : FiveOperations
-unfolding performed
-fiveOperations region l e =
-    ap (λ (w : Writer). ranOps region w (callsBefore ++ (word ∷ []))) (begun-first region e)
-    ∙ ran (bytes key) region _ _ _ _ _ _ _ _ _ (does-key region (fill noSource 3) (fill 0 256) 0 0)
-    ∙ ran (source theSource) region _ _ _ _ _ _ _ _ _ (does-source region (fill noSource 3) tail1 crc1 crc1)
-    ∙ ran (bytes dates) region _ _ _ _ _ _ _ _ _ (does-dates region sources1 tail1 crc1 crc1)
-    ∙ ran (table 0) region _ _ _ _ _ _ _ _ _ (does-table region sources1 tail2 crc2 crc2)
-    ∙ ran (bytes routes) region _ _ _ _ _ _ _ _ _ (does-routes region sources1 tail2 crc2 0)
-    ∙ ran end region _ _ _ _ _ _ _ _ _ (does-end region sources1 tail3 crcData crcRoutes)
-    ∙ ran close region _ _ _ _ _ _ _ _ _ (does-close region (sources2 crcRoutes) tail3 crcData crcRoutes)
-    ∙ ops-due region l
+unfolding performed begun started
+fiveOperations region l =
+    let hd = loaded region in
+    let ok = ok-of region hd l refl in
+    ran hd (bytes key) region _ _ _ _ _ _ _ _ _ (does-key hd ok region (fill noSource 3) (fill 0 256) 0 0)
+    ∙ ran hd (source theSource) region _ _ _ _ _ _ _ _ _ (does-source hd ok region (fill noSource 3) tail1 crc1 crc1)
+    ∙ ran hd (bytes dates) region _ _ _ _ _ _ _ _ _ (does-dates hd ok region sources1 tail1 crc1 crc1)
+    ∙ ran hd (table 0) region _ _ _ _ _ _ _ _ _ (does-table hd ok region sources1 tail2 crc2 crc2)
+    ∙ ran hd (bytes routes) region _ _ _ _ _ _ _ _ _ (does-routes hd ok region sources1 tail2 crc2 0)
+    ∙ ran hd end region _ _ _ _ _ _ _ _ _ (does-end hd ok region sources1 tail3 crcData crcRoutes)
+    ∙ ran hd close region _ _ _ _ _ _ _ _ _ (does-close hd ok region (sources2 crcRoutes) tail3 crcData crcRoutes)
+    ∙ ops-due hd ok region l
 
 -- ---- an erased region
 
@@ -499,11 +613,15 @@ erasedHasNone =
 erased-bytes : Bytes erased
 erased-bytes = bytes-fill 255 regionSize (omega arith)
 
+-- what load gives on an erased region follows from what it found there: none
+on-erased : (last : Event) (held : Loaded → Loaded) → Loads last held → onErased last ≡ held Nothing
+on-erased last held g = g erased erased-size erased-bytes ∙ ap held erasedHasNone
+
 pub erasedUpdate : ErasedUpdate
 erasedUpdate = (
-  wholeUpdateLoads erased erased-size erased-bytes erasedHasNone,
-  cutBeforeTheWordLoads erased erased-size erased-bytes erasedHasNone,
-  cutInTheWordLoads erased erased-size erased-bytes erasedHasNone,
-  cutAtTheWordsEndLoads erased erased-size erased-bytes erasedHasNone,
-  cutAfterTheWordLoads erased erased-size erased-bytes erasedHasNone,
+  on-erased (call word) theNew wholeUpdateLoads,
+  on-erased (cut word 0 0) theOld cutBeforeTheWordLoads,
+  on-erased (cut word 0 3) theOld cutInTheWordLoads,
+  on-erased (cut word 0 4) theNew cutAtTheWordsEndLoads,
+  on-erased (cut word 1 0) theNew cutAfterTheWordLoads,
 )

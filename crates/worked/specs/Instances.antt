@@ -1,5 +1,6 @@
--- Worked instances of DEMAND 3, on every region where load finds no bank: a small update, all its calls answered; the same list with its last
--- call, the commit word's, cut before its write, inside it and after it; and one that is cut inside its first operation.
+-- Worked instances of DEMAND 3, on every region of 983,040 bytes, whatever load finds there: a small update, all its calls answered; the same list
+-- with its last call, the commit word's, cut before its write, inside it and after it; one that is cut inside its first operation; and two updates,
+-- the second cut.
 use mathlib.Core.Path.{_≡_}
 use mathlib.Core.Bool.{true, false}
 use mathlib.Core.List.{List, [], _∷_, _++_, map}
@@ -18,6 +19,7 @@ use Rattle.bank.specs.declared.Loaded.{Loaded}
 use Rattle.bank.specs.declared.Loaded.the-variants.{Found, Nothing}
 use Rattle.bank.specs.Bank.{loaded}
 use Rattle.flash.specs.Flash.{erase, write, torn}
+use Rattle.writer.specs.State.{target, nextGeneration}
 use Rattle.lower.specs.Lower.{begun, emptied, withBlock}
 use Rattle.commit.specs.declared.Stamp.the-variants.{Missing}
 use Rattle.feed.specs.Run.{Lower, source, table, bytes, end, close, due, commit, word, ranOps}
@@ -55,7 +57,7 @@ theSource =
       validator = fill 0 66;
     }
 
--- the calls up to the closing; the header sector's erase is due then
+-- the calls up to the closing, with it; the header sector's erase is due then
 abbrev pub callsToClosing : List Lower
 callsToClosing =
     bytes key
@@ -67,7 +69,7 @@ callsToClosing =
     ∷ close
     ∷ []
 
--- the calls up to the commit word's
+-- the calls before the commit word's
 abbrev pub callsBefore : List Lower
 callsBefore = callsToClosing ++ (due ∷ due ∷ due ∷ commit Missing true ∷ [])
 
@@ -75,13 +77,14 @@ callsBefore = callsToClosing ++ (due ∷ due ∷ due ∷ commit Missing true ∷
 unfoldable pub updateWith : Event → List Event
 updateWith last = begin false (pos 0) ∷ (map call callsBefore ++ (last ∷ []))
 
--- the bank of that update: bank 0 of generation 0, twelve data bytes and their CRC, one source, a key of one byte, checked at 0
-abbrev pub updated : Bank
-updated =
+-- the bank of that update, over what load found: the bank that isn't the found one's, the generation after it (0 and 0 where none was found),
+-- twelve data bytes and their CRC, one source, a key of one byte, checked at 0
+abbrev pub updated : Loaded → Bank
+updated l =
     record {
-      number = 0;
+      number = target l;
       version = 3;
-      generation = 0;
+      generation = nextGeneration l;
       length = 12;
       crc = crc32 0 data·;
       count = 1;
@@ -89,60 +92,89 @@ updated =
       checked = pos 0;
     }
 
+-- what load gives afterwards: the update's bank, or what was there before
+abbrev pub theNew : Loaded → Loaded
+theNew l = Found (updated l)
+
+abbrev pub theOld : Loaded → Loaded
+theOld l = l
+
 -- after the list with that last event, G is this
-abbrev pub Gives : Event → Loaded → Type 0
-Gives last held = (region : List ℕ) → length region ≡ regionSize → loaded region ≡ Nothing → nextAll (found region) (updateWith last) .history .held ≡ held
+abbrev pub Gives : Event → (Loaded → Loaded) → Type 0
+Gives last held = (region : List ℕ) → length region ≡ regionSize → nextAll (found region) (updateWith last) .history .held ≡ held (loaded region)
 
 -- the whole update commits
 abbrev pub WholeUpdate : Type 0
-WholeUpdate = Gives (call word) (Found updated)
+WholeUpdate = Gives (call word) theNew
 
--- the power fails before the commit word's write: there is no bank, as at first
+-- the power fails before the commit word's write: G is as at first
 abbrev pub CutBeforeTheWord : Type 0
-CutBeforeTheWord = Gives (cut word 0 0) Nothing
+CutBeforeTheWord = Gives (cut word 0 0) theOld
 
 -- the power fails after the commit word's write: the update is committed
 abbrev pub CutAfterTheWord : Type 0
-CutAfterTheWord = Gives (cut word 1 0) (Found updated)
+CutAfterTheWord = Gives (cut word 1 0) theNew
 
--- the power fails inside the commit word's write, after three of its four bytes: there is no bank; after the fourth the write is done
+-- the power fails inside the commit word's write, after three of its four bytes: G is as at first, and the region has just these three bytes more;
+-- after the fourth the write is done
 abbrev pub CutInTheWord : Type 0
-CutInTheWord = Gives (cut word 0 3) Nothing
+CutInTheWord = Gives (cut word 0 3) theOld
+
+unfoldable pub beforeTheWord : List Event
+beforeTheWord = begin false (pos 0) ∷ map call callsBefore
+
+abbrev pub ThreeBytesWritten : Type 0
+ThreeBytesWritten =
+    (region : List ℕ) → length region ≡ regionSize
+    → nextAll (found region) (updateWith (cut word 0 3)) .region ≡ torn (target (loaded region)) 3 (write 44 commitBytes) (nextAll (found region) beforeTheWord .region)
 
 abbrev pub CutAtTheWordsEnd : Type 0
-CutAtTheWordsEnd = Gives (cut word 0 4) (Found updated)
+CutAtTheWordsEnd = Gives (cut word 0 4) theNew
 
 -- the power fails inside the header sector's erase, after 100 of its 4,096 bytes: that sector's first 100 bytes are 255, the rest of the region
--- is as it was found, and there is no bank
+-- is as it was found, and so is G
 unfoldable pub eraseCut : List Event
 eraseCut = begin false (pos 0) ∷ (map call callsToClosing ++ (cut due 0 100 ∷ []))
 
 abbrev pub CutInTheErase : Type 0
 CutInTheErase =
-    (region : List ℕ) → length region ≡ regionSize → loaded region ≡ Nothing
-    → (nextAll (found region) eraseCut .region ≡ torn 0 100 (erase 0) region) × (nextAll (found region) eraseCut .history .held ≡ Nothing)
+    (region : List ℕ) → length region ≡ regionSize
+    → (nextAll (found region) eraseCut .region ≡ torn (target (loaded region)) 100 (erase 0) region) × (nextAll (found region) eraseCut .history .held ≡ loaded region)
 
 -- and so load answers, by DEMAND 3
-abbrev pub Loads : Event → Loaded → Type 0
-Loads last held = (region : List ℕ) → length region ≡ regionSize → Bytes region → loaded region ≡ Nothing → loaded (nextAll (found region) (updateWith last) .region) ≡ held
+abbrev pub Loads : Event → (Loaded → Loaded) → Type 0
+Loads last held = (region : List ℕ) → length region ≡ regionSize → Bytes region → loaded (nextAll (found region) (updateWith last) .region) ≡ held (loaded region)
 
 abbrev pub WholeUpdateLoads : Type 0
-WholeUpdateLoads = Loads (call word) (Found updated)
+WholeUpdateLoads = Loads (call word) theNew
 
 abbrev pub CutBeforeTheWordLoads : Type 0
-CutBeforeTheWordLoads = Loads (cut word 0 0) Nothing
+CutBeforeTheWordLoads = Loads (cut word 0 0) theOld
 
 abbrev pub CutAfterTheWordLoads : Type 0
-CutAfterTheWordLoads = Loads (cut word 1 0) (Found updated)
+CutAfterTheWordLoads = Loads (cut word 1 0) theNew
 
 abbrev pub CutInTheWordLoads : Type 0
-CutInTheWordLoads = Loads (cut word 0 3) Nothing
+CutInTheWordLoads = Loads (cut word 0 3) theOld
 
 abbrev pub CutAtTheWordsEndLoads : Type 0
-CutAtTheWordsEndLoads = Loads (cut word 0 4) (Found updated)
+CutAtTheWordsEndLoads = Loads (cut word 0 4) theNew
 
 abbrev pub CutInTheEraseLoads : Type 0
-CutInTheEraseLoads = (region : List ℕ) → length region ≡ regionSize → Bytes region → loaded region ≡ Nothing → loaded (torn 0 100 (erase 0) region) ≡ Nothing
+CutInTheEraseLoads = (region : List ℕ) → length region ≡ regionSize → Bytes region → loaded (torn (target (loaded region)) 100 (erase 0) region) ≡ loaded region
+
+-- E5: "A user at the stop must still get the last committed timetable, also when the cut falls in the header erase or after one, two or three bytes
+-- of the commit word." The whole update, and then other events: load gives the first update's bank, or the second's over it.
+abbrev pub AfterOne : List Event → (Loaded → Loaded) → Type 0
+AfterOne events held =
+    (region : List ℕ) → length region ≡ regionSize → Bytes region → loaded (nextAll (found region) (updateWith (call word) ++ events) .region) ≡ held (theNew (loaded region))
+
+pub record LastCommitted : Type 0 where
+  pub inTheErase : AfterOne eraseCut theOld
+  pub oneByte : AfterOne (updateWith (cut word 0 1)) theOld
+  pub twoBytes : AfterOne (updateWith (cut word 0 2)) theOld
+  pub threeBytes : AfterOne (updateWith (cut word 0 3)) theOld
+  pub fourBytes : AfterOne (updateWith (cut word 0 4)) theNew
 
 -- the record that commit writes: the source with the block of its Routes, three bytes from byte 9 on
 abbrev pub written : Source
@@ -152,26 +184,26 @@ written = withBlock (emptied theSource) 0 (record { offset = 9; length = 3; crc 
 -- 255 in the commit word, the commit word's.
 abbrev pub FiveOperations : Type 0
 FiveOperations =
-    (region : List ℕ) → length region ≡ regionSize → loaded region ≡ Nothing
+    (region : List ℕ) → length region ≡ regionSize
     → ranOps region (begun region false (pos 0) .writer) (callsBefore ++ (word ∷ []))
-    ≡ erase 0 ∷ erase 4096 ∷ write 4096 data· ∷ write 0 (headerBytes updated (written ∷ []) blankWord) ∷ write 44 commitBytes ∷ []
+    ≡ erase 0 ∷ erase 4096 ∷ write 4096 data· ∷ write 0 (headerBytes (updated (loaded region)) (written ∷ []) blankWord) ∷ write 44 commitBytes ∷ []
 
--- There is such a region: load finds no bank on an erased one.
+-- Load finds no bank on an erased region.
 abbrev pub ErasedHasNone : Type 0
 ErasedHasNone = loaded (fill 255 regionSize) ≡ Nothing
 
--- So on an erased region load gives the bank after the whole update; none after a cut before the commit word or after three of its bytes; the
--- bank after its fourth byte and after the word.
+-- So there load gives bank 0 of generation 0 after the whole update; none after a cut before the commit word or after three of its bytes; the bank
+-- with all four bytes written, whether the cut counts as inside that write (k = 0, j = 4) or behind it (k = 1, j = 0).
 abbrev pub onErased : Event → Loaded
 onErased last = loaded (nextAll (found (fill 255 regionSize)) (updateWith last) .region)
 
 abbrev pub ErasedUpdate : Type 0
 ErasedUpdate =
-    (onErased (call word) ≡ Found updated)
+    (onErased (call word) ≡ Found (updated Nothing))
     × (onErased (cut word 0 0) ≡ Nothing)
     × (onErased (cut word 0 3) ≡ Nothing)
-    × (onErased (cut word 0 4) ≡ Found updated)
-    × (onErased (cut word 1 0) ≡ Found updated)
+    × (onErased (cut word 0 4) ≡ Found (updated Nothing))
+    × (onErased (cut word 1 0) ≡ Found (updated Nothing))
 
 -- all of them: what `instances_hold` promises
 pub record Instances : Type 0 where
@@ -179,6 +211,7 @@ pub record Instances : Type 0 where
   pub cutBefore : CutBeforeTheWord
   pub cutAfter : CutAfterTheWord
   pub cutIn : CutInTheWord
+  pub threeBytes : ThreeBytesWritten
   pub cutAtEnd : CutAtTheWordsEnd
   pub cutInErase : CutInTheErase
   pub wholeLoads : WholeUpdateLoads
@@ -187,6 +220,7 @@ pub record Instances : Type 0 where
   pub cutInLoads : CutInTheWordLoads
   pub cutAtEndLoads : CutAtTheWordsEndLoads
   pub cutInEraseLoads : CutInTheEraseLoads
+  pub lastCommitted : LastCommitted
   pub operations : FiveOperations
   pub erased : ErasedHasNone
   pub erasedUpdate : ErasedUpdate

@@ -1,4 +1,4 @@
-use Rattle.worked.proofs.Instances.{wholeUpdate, cutBeforeTheWord, cutAfterTheWord, cutInTheWord, cutAtTheWordsEnd, cutInTheErase, wholeUpdateLoads, cutBeforeTheWordLoads, cutAfterTheWordLoads, cutInTheWordLoads, cutAtTheWordsEndLoads, cutInTheEraseLoads, fiveOperations, erasedHasNone, erasedUpdate}
+use Rattle.worked.proofs.Instances.{wholeUpdate, cutBeforeTheWord, cutAfterTheWord, cutInTheWord, threeBytesWritten, cutAtTheWordsEnd, cutInTheErase, wholeUpdateLoads, cutBeforeTheWordLoads, cutAfterTheWordLoads, cutInTheWordLoads, cutAtTheWordsEndLoads, cutInTheEraseLoads, lastCommitted, fiveOperations, erasedHasNone, erasedUpdate}
 use Rattle.worked.proofs.instances_hold.Statement.{statement}
 use Rattle.worked.proofs.instances_hold.Tie as tie
 
@@ -9,6 +9,7 @@ returns c =
       cutBefore = cutBeforeTheWord;
       cutAfter = cutAfterTheWord;
       cutIn = cutInTheWord;
+      threeBytes = threeBytesWritten;
       cutAtEnd = cutAtTheWordsEnd;
       cutInErase = cutInTheErase;
       wholeLoads = wholeUpdateLoads;
@@ -17,6 +18,7 @@ returns c =
       cutInLoads = cutInTheWordLoads;
       cutAtEndLoads = cutAtTheWordsEndLoads;
       cutInEraseLoads = cutInTheEraseLoads;
+      lastCommitted = lastCommitted;
       operations = fiveOperations;
       erased = erasedHasNone;
       erasedUpdate = erasedUpdate;
