@@ -97,7 +97,7 @@ static int turn(Host *h, uint8_t *region)
     return over && h->next > 7;
 }
 
-/* An update whose power goes once so many operations are done: its state is gone then. How many
+/* An update that loses power once so many operations are done: its state is gone then. How many
    were done, and whether it came to its end. */
 static int update(uint8_t *region, int power, bool *whole)
 {
@@ -146,8 +146,8 @@ typedef struct Span {
 } Span;
 
 /* The flash operation of the next turn; its size is 0 where it does none. The state has the one that
-   is due: of an erase the number of its sector, of a write how many bytes are before its own and how
-   many those are, without padding. A commit writes the header, then the commit word. */
+   is due: of an erase the number of its sector, of a write its offset in the data and its length
+   without padding. A commit writes the header, then the commit word. */
 static Span operation(const Host *h)
 {
     const TtState *s = &h->state;
@@ -168,24 +168,25 @@ static bool same(TtBankNumbers a, TtBankNumbers b)
     return a.found == b.found && a.number == b.number && a.generation == b.generation;
 }
 
-/* The power goes inside an operation, after each of its bytes: those so far are as it leaves them, the
+/* The power fails inside an operation, after each of its bytes: those so far are as it leaves them, the
    others as they were. The commit word is shown byte by byte. */
 static void cut_inside(int number, Span span, uint8_t *torn, const uint8_t *after)
 {
     TtBankNumbers old = load(torn);
+    bool word = span.offset % BANK == WORD;
     size_t kept = 0;
     for (size_t j = 1; j <= span.size; j++) {
         torn[span.offset + j - 1] = after[span.offset + j - 1];
         TtBankNumbers found = load(torn);
         kept += j < span.size && same(found, old);
-        if (span.size == WORD_SIZE) {
+        if (word) {
             printf("operation %d, %s at %zu, ", number, span.what, span.offset);
             printf("%zu of %zu bytes: ", j, span.size);
             give(found);
             printf("\n");
         }
     }
-    if (span.size != WORD_SIZE) {
+    if (!word) {
         printf("inside operation %d, %s at %zu: ", number, span.what, span.offset);
         give(old);
         printf(" at %zu of %zu cuts\n", kept, span.size - 1);

@@ -64,7 +64,12 @@ pub fn update_line(p: Plan, c: Count) {
 // What all updates came to.
 pub fn say_total(fd: i32, updates: u32, all: Count) {
     count(fd, b"", updates);
-    count(fd, b" updates, ", all.cuts);
+    if updates == 1 {
+        say(fd, b" update, ");
+    } else {
+        say(fd, b" updates, ");
+    }
+    count(fd, b"", all.cuts);
     count(fd, b" cuts between operations, ", all.inside);
     count(fd, b" inside, ", all.again);
     count(fd, b" begun again, ", all.wrong);

@@ -45,12 +45,10 @@ fn help_options() {
     tell(b"                       half, headed, random or all; default all\n");
     tell(b"  --update KIND        255, 257, full, compared, short (255 and 257) or all;\n");
     tell(b"                       default short\n");
-    tell(
-        b"  --torn CUTS          which cuts inside an operation: some (each byte of the header's\n",
-    );
-    tell(b"                       erase and write and of the commit word, eight places in each\n");
-    tell(b"                       other operation), all (each byte of each operation) or none;\n");
-    tell(b"                       default some\n");
+    tell(b"  --torn CUTS          which cuts inside an operation: some (each byte of the\n");
+    tell(b"                       header sector's erase, the header's write and the commit\n");
+    tell(b"                       word, eight places in each other operation), all (each\n");
+    tell(b"                       byte of each operation) or none; default some\n");
     tell(b"  --svg FILE           a picture for a browser: cut by cut, what load gave\n");
     tell(b"  --progress           say on standard error how far it is, as on a terminal\n");
     tell(b"  --help               this text\n");

@@ -143,7 +143,7 @@ fn explain_strips(fd: i32, torn: u32) {
         line(
             fd,
             138,
-            b"The strips are cuts inside three operations, by how many of their bytes are done: a cell is 32 bytes, in the commit word one byte.",
+            b"The strips are cuts inside three operations, by how many of their bytes are done: a cell is 32 bytes, in the commit word one byte. A row's cell is red for a cut inside its operation too.",
         );
     }
 }

@@ -86,7 +86,7 @@ pub fn word(bank: usize) -> Span {
     }
 }
 
-// Whether a cut after j bytes is one of those between the first byte and the last but one. They lie otherwise in each operation: k is its number.
+// Whether a cut after j bytes is one of those between the first byte and the last but one. They differ from operation to operation: k is its number.
 fn is_between(n: usize, j: usize, k: u32) -> bool {
     if n < FEW {
         return true;

@@ -406,6 +406,17 @@ fn show_whole(s: Span, marks: &mut [u8], c: Count) {
     strips::put(marks, s, s.size, m);
 }
 
+// Where a cut inside an operation was wrong, the cell of the cut after it is too: most operations have no strip.
+fn show_wrong(before: Count, inside: Count, marks: &mut [u8], c: Count) {
+    if before.wrong != inside.wrong {
+        put8(
+            marks,
+            wrapping_sub_u32(c.cuts, 1) as usize,
+            gave(false, false),
+        );
+    }
+}
+
 // A step that does a flash operation, the cuts inside it, and the one after it.
 fn operate(
     s: Span,
@@ -422,6 +433,7 @@ fn operate(
     let d = inside_if_tried(s, region, was, again, data, marks, p, c);
     let e = look(u, region, before, again, data, marks, p, d);
     show_whole(s, marks, e);
+    show_wrong(c, d, marks, e);
     e
 }
 

@@ -15,6 +15,7 @@ const HEADER: usize = 1200;
 /// Where the commit word stands in a bank, and its size.
 const WORD: usize = 44;
 const WORD_SIZE: usize = 4;
+const COMMIT_WORD: &str = "commit word";
 
 /// What the host hands over next.
 enum Next {
@@ -99,7 +100,7 @@ fn turn(
     Ok(Some(usize::from(matches!(next, Next::Commit | Next::Word))))
 }
 
-/// An update whose power goes once `power` operations are done: the writer is
+/// An update that loses power once `power` operations are done: the writer is
 /// gone then. How many were done, and whether it came to its end.
 fn update(region: &mut [u8], power: usize) -> Result<(usize, bool), Refusal> {
     let mut writer = Writer::new(region, false, NOW)?;
@@ -129,12 +130,12 @@ fn operation(writer: &Writer, rest: &[Next], bank: usize) -> Option<Span> {
         (Some(Operation::Erase { offset }), _) => span("erase", offset, SECTOR),
         (Some(Operation::Write { offset, length }), _) => span("write", offset, length),
         (None, Some(Next::Commit)) => span("header", bank, HEADER),
-        (None, Some(Next::Word)) => span("commit word", bank + WORD, WORD_SIZE),
+        (None, Some(Next::Word)) => span(COMMIT_WORD, bank + WORD, WORD_SIZE),
         (None, _) => None,
     }
 }
 
-/// The power goes inside an operation, after each of its bytes: those so far are as
+/// The power fails inside an operation, after each of its bytes: those so far are as
 /// it leaves them, the others as they were. The commit word is shown byte by byte.
 fn cut_inside(number: usize, span: &Span, before: &[u8], after: &[u8]) -> Result<(), Refusal> {
     let Span { what, offset, size } = *span;
@@ -142,12 +143,12 @@ fn cut_inside(number: usize, span: &Span, before: &[u8], after: &[u8]) -> Result
     let (mut torn, mut kept) = (before.to_vec(), 0);
     for j in 1..=size {
         torn[offset + j - 1] = after[offset + j - 1];
-        if size == WORD_SIZE {
+        if what == COMMIT_WORD {
             show(&format!("operation {number}, {what} at {offset}, {j} of {size} bytes"), &torn)?;
         }
         kept += usize::from(j < size && cache::load(&torn)? == old);
     }
-    if size != WORD_SIZE {
+    if what != COMMIT_WORD {
         let (cuts, old) = (size - 1, given(old));
         println!("inside operation {number}, {what} at {offset}: {old} at {kept} of {cuts} cuts");
     }
