@@ -184,6 +184,13 @@ clear-part (suc m) [] b h l = absurd (not-suc-le-zero h)
 clear-part (suc m) (w ∷ ws) [] h l = absurd (not-suc-le-zero l)
 clear-part (suc m) (w ∷ ws) (x ∷ b) h l = ap (λ (r : List ℕ). bitAnd x w ∷ r) (clear-part m ws b (le-of-suc-le-suc h) (le-of-suc-le-suc l))
 
+-- and what is blanked is 255
+pub blank-is : (n : ℕ) (b : List ℕ) → n ≤ length b → blank n b ≡ fill 255 n ++ drop n b
+unfolding blank fill
+blank-is zero b h = refl
+blank-is (suc n) [] h = absurd (not-suc-le-zero h)
+blank-is (suc n) (x ∷ b) h = ap (λ (r : List ℕ). 255 ∷ r) (blank-is n b (le-of-suc-le-suc h))
+
 -- the same from a place on: w is what the whole operation leaves there, and p what its first j bytes do
 part-at : (at j : ℕ) (b w p : List ℕ) → at ≤ length b → p ≡ take j w ++ drop j (drop at b) → take at b ++ p ≡ take (at + j) (take at b ++ w) ++ drop (at + j) b
 part-at at j b w p l e =
@@ -381,6 +388,13 @@ first-part n j op region h e f l =
     let k = length-bank region n e h in
     ap (withBank region n) (part-of j op b (omega arith) l)
     ∙ part-with region (done (size op) op b) n (place op + j) e h (length-done (size op) op b ∙ k) (omega arith)
+
+-- the header sector's erase, cut: the bank's first bytes are 255
+pub torn-first : (n j : ℕ) (region : List ℕ) → length region ≡ regionSize → n ≤ 1 → j ≤ sectorSize → torn n j (erase 0) region ≡ withBank region n (fill 255 j ++ drop j (bankOf region n))
+unfolding torn done
+torn-first n j region e h l =
+    let m : min j sectorSize ≡ j = omega arith in
+    ap (λ (k : ℕ). withBank region n (blank k (bankOf region n))) m ∙ ap (withBank region n) (blank-is j (bankOf region n) (omega (arith, length-bank region n e h)))
 
 -- and what doesn't changes nothing
 pub after-not : (region : List ℕ) (n : ℕ) (op : Op) → fits region n op ≡ false → after n op region ≡ region

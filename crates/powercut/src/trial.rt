@@ -9,6 +9,7 @@ use crate::text::copy;
 use crate::text::paste;
 use crate::text::put8;
 use crate::text::same_bytes;
+use crate::torn::NONE;
 use crate::torn::SECTOR;
 use crate::torn::Span;
 use crate::torn::TRY_NONE;
@@ -437,7 +438,7 @@ fn operate(
     e
 }
 
-// What a step came to: a flash operation is looked at.
+// What a step came to: a flash operation is looked at. One that was not told before is wrong: it could not be cut inside.
 fn next(
     s: Span,
     u: Update,
@@ -451,7 +452,8 @@ fn next(
     c: Count,
 ) -> Count {
     if u.flash {
-        return operate(s, u, region, was, before, again, data, marks, p, c);
+        let d = operate(s, u, region, was, before, again, data, marks, p, c);
+        return with_whole(d, s.kind != NONE);
     }
     c
 }

@@ -3,7 +3,7 @@
 use mathlib.Core.Path.{_≡_, refl, sym, ap, _∙_}
 use mathlib.Core.Bool.{Bool, true, false}
 use mathlib.Core.List.{List, [], _∷_, _++_}
-use mathlib.Core.Option.{some}
+use mathlib.Core.Option.{Option, none, some}
 use Prim.Native.Nat.{ℕ, zero, suc, _+_, _≤_, _<_}
 use native.Mathlib.Nat.{suc-add}
 use borrow.Author.Tests.{le-leb, lt-leb, leb-true, leb-false}
@@ -20,8 +20,9 @@ use Rattle.writer.specs.State.{target}
 use Rattle.lower.specs.Lower.{started}
 use Rattle.feed.specs.Run.{Lower, lowerOps}
 use Rattle.update.specs.Upper.{Upper, upperOps, beginOps}
+use Rattle.powerloss.specs.History.{Update, History, afterLowerCut}
 use Rattle.powerloss.specs.Machine.{Run, cut, beginKeyCut, upperCut, cutAt, doneAt, onCut, onUpperCut, next}
-use Rattle.powerloss.specs.Claim.{Sized, Between, Torn}
+use Rattle.powerloss.specs.Claim.{Torn, CutTyped, NoneOpen, Dropped, Sized, Between}
 
 -- no operations: nothing is torn, and none is done
 pub cut-none : (n k j : ℕ) (region : List ℕ) → cutAt n k j [] region ≡ region
@@ -111,6 +112,34 @@ torn-calls =
       beginning = λ r comparing now identity texts lengths before rest op j f.
           begin-at r comparing now identity texts lengths (length before) j ∙ rw f (cut-at (target (loaded (r .region))) j before rest op (r .region));
       number = number-at;
+    }
+
+pub cut-typed : CutTyped
+cut-typed = record { lower = λ c k j p. p; upper = λ c k j p. p; beginning = λ comparing now identity texts lengths k j p. p }
+
+-- ---- a cut drops the update
+
+no-open : (c : Lower) (n : ℕ) (h : History) (v : Option Update) → afterLowerCut c n h v .open· ≡ none
+unfolding afterLowerCut
+no-open c n h none = refl
+no-open c n h (some u) = refl
+
+drops : (c : Lower) (k j : ℕ) (r : Run) (w : Writer) → r .state ≡ some w → NoneOpen (next r (cut c k j))
+unfolding next onCut
+drops c k j r w e = rw e (refl, no-open c (doneAt k j (lowerOps (r .region) w c)) (r .history) (r .history .open·))
+
+upper-drops : (c : Upper) (k j : ℕ) (r : Run) (w : Writer) → r .state ≡ some w → NoneOpen (next r (upperCut c k j))
+unfolding next onUpperCut
+upper-drops c k j r w e = rw e (refl, refl)
+
+pub dropped : Dropped
+unfolding next
+dropped =
+    record {
+      lower = λ r w c k j e. drops c k j r w e;
+      upper = λ r w c k j e. upper-drops c k j r w e;
+      lowerBeginning = λ r comparing now. (refl, refl);
+      beginning = λ r comparing now identity texts lengths k j. (refl, refl);
     }
 
 pub between : Between

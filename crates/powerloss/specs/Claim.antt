@@ -108,6 +108,22 @@ pub record Torn : Type 0 where
       → next r (beginKeyCut comparing now identity texts lengths (length before) j) .region ≡ torn (target (loaded (r .region))) j op (performed (target (loaded (r .region))) before (r .region))
   pub number : (before rest : List Op) (op : Op) (j : ℕ) → doneAt (length before) j (before ++ (op ∷ rest)) ≡ length before + pick (leb (size op) j) 1 0
 
+-- A cut asks no more of a call's arguments than the call does, and nothing of k and j (proofs/Cuts.antt: cut-typed).
+pub record CutTyped : Type 0 where
+  pub lower : (c : Lower) (k j : ℕ) → Typed (call c) → Typed (cut c k j)
+  pub upper : (c : Upper) (k j : ℕ) → Typed (upper c) → Typed (upperCut c k j)
+  pub beginning : (comparing : Bool) (now : ℤ) (identity texts lengths : List ℕ) (k j : ℕ) → Typed (beginKey comparing now identity texts lengths) → Typed (beginKeyCut comparing now identity texts lengths k j)
+
+-- "A cut drops the update": no state and no open update are left (proofs/Cuts.antt: dropped).
+abbrev pub NoneOpen : Run → Type 0
+NoneOpen r = (r .state ≡ none) × (r .history .open· ≡ none)
+
+pub record Dropped : Type 0 where
+  pub lower : (r : Run) (w : Writer) (c : Lower) (k j : ℕ) → r .state ≡ some w → NoneOpen (next r (cut c k j))
+  pub upper : (r : Run) (w : Writer) (c : Upper) (k j : ℕ) → r .state ≡ some w → NoneOpen (next r (upperCut c k j))
+  pub lowerBeginning : (r : Run) (comparing : Bool) (now : ℤ) → NoneOpen (next r (beginCut comparing now))
+  pub beginning : (r : Run) (comparing : Bool) (now : ℤ) (identity texts lengths : List ℕ) (k j : ℕ) → NoneOpen (next r (beginKeyCut comparing now identity texts lengths k j))
+
 -- a list of operations none of which is without bytes (an erase has 4,096, the header's write 1,200, the commit word's 4, a write of data at least 4)
 abbrev pub Sized : List Op → Type 0
 Sized [] = Unit {0}
@@ -125,4 +141,6 @@ pub record Claims : Type 0 where
   pub reached : Reached
   pub settled : Settled
   pub torn· : Torn
+  pub typed : CutTyped
+  pub dropped : Dropped
   pub between : Between

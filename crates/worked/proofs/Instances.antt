@@ -1,6 +1,6 @@
 -- The worked instances, computed call by call: the region is any, so only its length is asked for, and what load found there is a variable, hd. An
 -- update is followed from any run whose history holds what load gives, so that one can follow another.
-use mathlib.Core.Path.{_≡_, refl, sym, ap, _∙_}
+use mathlib.Core.Path.{_≡_, refl, sym, ap, _∙_, subst}
 use mathlib.Core.Bool.{Bool, true, false, false≢true}
 use mathlib.Core.Option.{none, some}
 use mathlib.Core.List.{List, [], _∷_, _++_, map}
@@ -8,7 +8,7 @@ use Prim.Native.Nat.{ℕ, zero, suc, _<_}
 use native.Mathlib.Omega.{arith}
 use borrow.Author.Tests.{eq-eqb, le-leb}
 use lib.IntN.{pos}
-use lib.ListN.{length, take, set, getD}
+use lib.ListN.{length, take, drop, set, getD}
 use lib.Seq.{sets}
 use mir.Syntax.{w64}
 use mir.Val.{SFits}
@@ -31,8 +31,8 @@ use Rattle.headerwrite.specs.Types.{Bytes, Proper}
 use Rattle.bank.specs.declared.Loaded.{Loaded}
 use Rattle.bank.specs.declared.Loaded.the-variants.{Found, Nothing, Refused as NotRead}
 use Rattle.bank.specs.Bank.{loaded, orElse}
-use Rattle.flash.specs.Flash.{Op, erase, write, torn, performed}
-use Rattle.flash.proofs.Laws.{length-performed}
+use Rattle.flash.specs.Flash.{Op, erase, write, withBank, torn, performed}
+use Rattle.flash.proofs.Laws.{length-performed, torn-first}
 use Rattle.writer.specs.declared.Operation.the-variants.{Erase, Write}
 use Rattle.writer.specs.declared.Stage.{Stage}
 use Rattle.writer.specs.declared.Stage.the-variants.{Idle, Due, Headed, Committed}
@@ -48,9 +48,9 @@ use Rattle.commit.specs.declared.Stamp.the-variants.{Missing}
 use Rattle.commit.specs.Commit.{bankFor, recordsFor, commitStep, commitOps, wordStep, wordOps}
 use Rattle.feed.specs.Run.{Lower, source, table, bytes, end, close, due, commit, word, lowerStep, lowerOps, ranOps}
 use Rattle.powerloss.specs.History.{Update, Note, sourceNote, tableNote, endNote, opened, bankOf, recordsAfter, blockBetween, updateAfter, isWord, committed, afterLower, afterLowerCut, afterBegin}
-use Rattle.powerloss.specs.Machine.{doneAt, Image, Run, Event, begin, call, cut, imageAfter, onCall, onCut, next, nextAll, found}
-use Rattle.powerloss.specs.Claim.{Typed, AllTyped}
-use Rattle.worked.specs.Instances.{key, dates, routes, data·, theSource, callsToClosing, callsBefore, updateWith, beforeTheWord, eraseCut, updated, theNew, theOld, written, Gives, WholeUpdate, CutBeforeTheWord, CutAfterTheWord, CutInTheWord, ThreeBytesWritten, CutAtTheWordsEnd, CutInTheErase, Loads, WholeUpdateLoads, CutBeforeTheWordLoads, CutAfterTheWordLoads, CutInTheWordLoads, CutAtTheWordsEndLoads, CutInTheEraseLoads, AfterOne, LastCommitted, FiveOperations, ErasedHasNone, onErased, ErasedUpdate}
+use Rattle.powerloss.specs.Machine.{doneAt, Image, bankIn, Run, Event, begin, call, cut, imageAfter, onCall, onCut, next, nextAll, found}
+use Rattle.powerloss.specs.Claim.{Typed, AllTyped, Holds}
+use Rattle.worked.specs.Instances.{key, dates, routes, data·, theSource, callsToClosing, callsBefore, updateWith, beforeTheWord, eraseCut, updated, theNew, theOld, written, Gives, WholeUpdate, CutBeforeTheWord, CutAfterTheWord, CutInTheWord, ThreeBytesWritten, CutAtTheWordsEnd, CutInTheErase, Loads, WholeUpdateLoads, CutBeforeTheWordLoads, CutAfterTheWordLoads, CutInTheWordLoads, CutAtTheWordsEndLoads, CutInTheEraseLoads, Data, WholeUpdateData, CutAtTheWordsEndData, AfterOne, LastCommitted, FiveOperations, ErasedHasNone, onErased, ErasedUpdate}
 use Rattle.powerloss.proofs.Bytes.{bytes-nil, bytes-cons, bytes-fill}
 use Rattle.powerloss.proofs.Cuts.{cut-inside}
 use Rattle.powerloss.proofs.Load.{load-own, load-read, load-other, unmarked-refused, target-fits}
@@ -365,12 +365,12 @@ held-after last held g hd ok r e f l =
     ap (λ (x : Run). x .history .held) (before hd ok r e f l last) ∙ g hd ok (r .history .records) (r .image) (region4 hd (r .region) l) (l4 hd (r .region) l)
 
 erase-after : (hd : Loaded) → activeOk hd ≡ true → (r : Run) → loaded (r .region) ≡ hd → r .history .held ≡ hd → length (r .region) ≡ regionSize
-    → (nextAll r eraseCut .region ≡ torn (target hd) 100 (erase 0) (r .region)) × (nextAll r eraseCut .history .held ≡ hd)
+    → (nextAll r eraseCut .region ≡ withBank (r .region) (target hd) (fill 255 100 ++ drop 100 (Region.bankOf (r .region) (target hd)))) × (nextAll r eraseCut .history .held ≡ hd)
 unfolding eraseCut
 erase-after hd ok r e f l =
     let q = closed hd ok r e f l (cut due 0 100 ∷ []) ∙ onlyOne _ (cut due 0 100) in
     let p = by-erase-cut hd ok (r .history .records) (r .image) (r .region) l in
-    (ap (λ (x : Run). x .region) q ∙ p .0, ap (λ (x : Run). x .history .held) q ∙ p .1)
+    (ap (λ (x : Run). x .region) q ∙ p .0 ∙ torn-first (target hd) 100 (r .region) l (target-fits hd) (omega arith), ap (λ (x : Run). x .history .held) q ∙ p .1)
 
 by : (last : Event) (held : Loaded → Loaded) → Ends last held → Gives last held
 by last held g region l = unfold found in (held-after last held g (loaded region) (ok-of region (loaded region) l refl) (found region) refl refl l)
@@ -489,9 +489,40 @@ unfolding eraseCut
 erase-typed = (zero-fits, (bytes-key, (proper, (bytes-dates, (tt, (bytes-routes, (tt, (tt, (tt, tt)))))))))
 
 pub cutInTheEraseLoads : CutInTheEraseLoads
-cutInTheEraseLoads region l y =
-    let p = cutInTheErase region l in
-    ap loaded (sym (p .0)) ∙ demand3 region eraseCut l y erase-typed .loads ∙ p .1
+cutInTheEraseLoads region l y = demand3 region eraseCut l y erase-typed .loads ∙ cutInTheErase region l .1
+
+-- ---- the bank's data, by demand 3
+
+abbrev Ended : Event → Type 0
+Ended last =
+    (hd : Loaded) → activeOk hd ≡ true → (rs : List Source) (im : Image) (region : List ℕ) → length region ≡ regionSize
+    → next (at hd rs im region (last· hd) (upd hd data· notes)) last .image .given ≡ some data·
+
+given-word : Ended (call word)
+unfolding next onCall imageAfter
+given-word hd ok rs im region l = rw (word-does hd ok rs im region l .0) refl
+
+given-cut : Ended (cut word 0 4)
+unfolding next onCut imageAfter doneAt commitBytes le32
+given-cut hd ok rs im region l = rw (word-does hd ok rs im region l .1) refl
+
+data-by : (last : Event) → Typed last → Gives last theNew → Ended last → Data last
+unfolding found
+data-by last t g f region l y =
+    let hd = loaded region in
+    let ok = ok-of region hd l refl in
+    let r = nextAll (found region) (updateWith last) in
+    let d = demand3 region (updateWith last) l y (typed last t) in
+    let h : r .image .given ≡ some data· =
+    ap (λ (x : Run). x .image .given) (before hd ok (found region) refl refl l last) ∙ f hd ok (found region .history .records) (found region .image) (region4 hd region l) (l4 hd region l) in
+    let b : Region.bankOf (r .region) (target hd) ≡ r .image .bank = ap (bankIn (r .region)) (sym (g region l)) ∙ d .image in
+    ap (λ (x : List ℕ). Region.dataOf x 12) b ∙ subst (Holds (r .image .bank)) h (d .given)
+
+pub wholeUpdateData : WholeUpdateData
+wholeUpdateData = data-by (call word) tt wholeUpdate given-word
+
+pub cutAtTheWordsEndData : CutAtTheWordsEndData
+cutAtTheWordsEndData = data-by (cut word 0 4) tt cutAtTheWordsEnd given-cut
 
 -- ---- one update, then other events
 
@@ -571,6 +602,15 @@ module _ (hd : Loaded) (ok : activeOk hd ≡ true) (region : List ℕ) (l : leng
       (ran hd due (region2 hd region l) _ _ _ _ _ _ _ _ committing (does-write hd ok (region2 hd region l) s2 tail3 crcData crcRoutes (l2 hd region l))
       ∙ (λ i. write 4096 (data-op i) ∷ ops-commit i)))
 
+-- the two words, byte by byte
+blank-is : blankWord ≡ 255 ∷ 255 ∷ 255 ∷ 255 ∷ []
+unfolding blankWord fill
+blank-is = refl
+
+word-is : commitBytes ≡ 84 ∷ 77 ∷ 79 ∷ 67 ∷ []
+unfolding commitBytes le32
+word-is = refl
+
 pub fiveOperations : FiveOperations
 unfolding performed begun started
 fiveOperations region l =
@@ -584,6 +624,7 @@ fiveOperations region l =
     ∙ ran hd end region _ _ _ _ _ _ _ _ _ (does-end hd ok region sources1 tail3 crcData crcRoutes)
     ∙ ran hd close region _ _ _ _ _ _ _ _ _ (does-close hd ok region (sources2 crcRoutes) tail3 crcData crcRoutes)
     ∙ ops-due hd ok region l
+    ∙ (λ i. erase 0 ∷ erase 4096 ∷ write 4096 data· ∷ write 0 (headerBytes (updated hd) (written ∷ []) (blank-is i)) ∷ write 44 (word-is i) ∷ [])
 
 -- ---- an erased region
 

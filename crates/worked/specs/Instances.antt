@@ -6,19 +6,19 @@ use mathlib.Core.Bool.{true, false}
 use mathlib.Core.List.{List, [], _∷_, _++_, map}
 use Prim.Native.Nat.{ℕ}
 use lib.IntN.{pos}
-use lib.ListN.{length}
+use lib.ListN.{length, drop}
 use Rattle.leaf.specs.Crc.{crc32}
 use Rattle.record.specs.declared.Source.{Source}
 use Rattle.record.specs.Record.{noBlock}
 use Rattle.record.specs.Runs.{fill}
 use Rattle.header.specs.declared.Bank.{Bank}
-use Rattle.header.specs.Region.{regionSize}
-use Rattle.headerwrite.specs.Header.{headerBytes, blankWord, commitBytes}
+use Rattle.header.specs.Region.{regionSize, bankOf, dataOf}
+use Rattle.headerwrite.specs.Header.{headerBytes, commitBytes}
 use Rattle.headerwrite.specs.Types.{Bytes}
 use Rattle.bank.specs.declared.Loaded.{Loaded}
 use Rattle.bank.specs.declared.Loaded.the-variants.{Found, Nothing}
 use Rattle.bank.specs.Bank.{loaded}
-use Rattle.flash.specs.Flash.{erase, write, torn}
+use Rattle.flash.specs.Flash.{erase, write, torn, withBank}
 use Rattle.writer.specs.State.{target, nextGeneration}
 use Rattle.lower.specs.Lower.{begun, emptied, withBlock}
 use Rattle.commit.specs.declared.Stamp.the-variants.{Missing}
@@ -131,15 +131,16 @@ ThreeBytesWritten =
 abbrev pub CutAtTheWordsEnd : Type 0
 CutAtTheWordsEnd = Gives (cut word 0 4) theNew
 
--- the power fails inside the header sector's erase, after 100 of its 4,096 bytes: that sector's first 100 bytes are 255, the rest of the region
--- is as it was found, and so is G
+-- the power fails inside the header sector's erase, after 100 of its 4,096 bytes: the bank's first 100 bytes are 255, its others are as they were
+-- found, and so are the other bank and G
 unfoldable pub eraseCut : List Event
 eraseCut = begin false (pos 0) ∷ (map call callsToClosing ++ (cut due 0 100 ∷ []))
 
 abbrev pub CutInTheErase : Type 0
 CutInTheErase =
     (region : List ℕ) → length region ≡ regionSize
-    → (nextAll (found region) eraseCut .region ≡ torn (target (loaded region)) 100 (erase 0) region) × (nextAll (found region) eraseCut .history .held ≡ loaded region)
+    → (nextAll (found region) eraseCut .region ≡ withBank region (target (loaded region)) (fill 255 100 ++ drop 100 (bankOf region (target (loaded region)))))
+    × (nextAll (found region) eraseCut .history .held ≡ loaded region)
 
 -- and so load answers, by DEMAND 3
 abbrev pub Loads : Event → (Loaded → Loaded) → Type 0
@@ -161,7 +162,18 @@ abbrev pub CutAtTheWordsEndLoads : Type 0
 CutAtTheWordsEndLoads = Loads (cut word 0 4) theNew
 
 abbrev pub CutInTheEraseLoads : Type 0
-CutInTheEraseLoads = (region : List ℕ) → length region ≡ regionSize → Bytes region → loaded (torn (target (loaded region)) 100 (erase 0) region) ≡ loaded region
+CutInTheEraseLoads = (region : List ℕ) → length region ≡ regionSize → Bytes region → loaded (nextAll (found region) eraseCut .region) ≡ loaded region
+
+-- where the commit word is there, the bank's data are the twelve bytes
+abbrev pub Data : Event → Type 0
+Data last =
+    (region : List ℕ) → length region ≡ regionSize → Bytes region → dataOf (bankOf (nextAll (found region) (updateWith last) .region) (target (loaded region))) 12 ≡ data·
+
+abbrev pub WholeUpdateData : Type 0
+WholeUpdateData = Data (call word)
+
+abbrev pub CutAtTheWordsEndData : Type 0
+CutAtTheWordsEndData = Data (cut word 0 4)
 
 -- E5: "A user at the stop must still get the last committed timetable, also when the cut falls in the header erase or after one, two or three bytes
 -- of the commit word." The whole update, and then other events: load gives the first update's bank, or the second's over it.
@@ -181,12 +193,17 @@ abbrev pub written : Source
 written = withBlock (emptied theSource) 0 (record { offset = 9; length = 3; crc = crc32 0 routes })
 
 -- The update's five flash operations: the erases of the header sector and of the first data sector, the data's write, the header's with
--- 255 in the commit word, the commit word's.
+-- 255 in the commit word, the commit word's, 0x434f4d54 with its lowest byte first.
 abbrev pub FiveOperations : Type 0
 FiveOperations =
     (region : List ℕ) → length region ≡ regionSize
     → ranOps region (begun region false (pos 0) .writer) (callsBefore ++ (word ∷ []))
-    ≡ erase 0 ∷ erase 4096 ∷ write 4096 data· ∷ write 0 (headerBytes (updated (loaded region)) (written ∷ []) blankWord) ∷ write 44 commitBytes ∷ []
+    ≡ erase 0
+    ∷ erase 4096
+    ∷ write 4096 data·
+    ∷ write 0 (headerBytes (updated (loaded region)) (written ∷ []) (255 ∷ 255 ∷ 255 ∷ 255 ∷ []))
+    ∷ write 44 (84 ∷ 77 ∷ 79 ∷ 67 ∷ [])
+    ∷ []
 
 -- Load finds no bank on an erased region.
 abbrev pub ErasedHasNone : Type 0
@@ -220,6 +237,8 @@ pub record Instances : Type 0 where
   pub cutInLoads : CutInTheWordLoads
   pub cutAtEndLoads : CutAtTheWordsEndLoads
   pub cutInEraseLoads : CutInTheEraseLoads
+  pub wholeData : WholeUpdateData
+  pub cutAtEndData : CutAtTheWordsEndData
   pub lastCommitted : LastCommitted
   pub operations : FiveOperations
   pub erased : ErasedHasNone

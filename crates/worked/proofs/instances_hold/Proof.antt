@@ -1,4 +1,4 @@
-use Rattle.worked.proofs.Instances.{wholeUpdate, cutBeforeTheWord, cutAfterTheWord, cutInTheWord, threeBytesWritten, cutAtTheWordsEnd, cutInTheErase, wholeUpdateLoads, cutBeforeTheWordLoads, cutAfterTheWordLoads, cutInTheWordLoads, cutAtTheWordsEndLoads, cutInTheEraseLoads, lastCommitted, fiveOperations, erasedHasNone, erasedUpdate}
+use Rattle.worked.proofs.Instances.{wholeUpdate, cutBeforeTheWord, cutAfterTheWord, cutInTheWord, threeBytesWritten, cutAtTheWordsEnd, cutInTheErase, wholeUpdateLoads, cutBeforeTheWordLoads, cutAfterTheWordLoads, cutInTheWordLoads, cutAtTheWordsEndLoads, cutInTheEraseLoads, wholeUpdateData, cutAtTheWordsEndData, lastCommitted, fiveOperations, erasedHasNone, erasedUpdate}
 use Rattle.worked.proofs.instances_hold.Statement.{statement}
 use Rattle.worked.proofs.instances_hold.Tie as tie
 
@@ -18,6 +18,8 @@ returns c =
       cutInLoads = cutInTheWordLoads;
       cutAtEndLoads = cutAtTheWordsEndLoads;
       cutInEraseLoads = cutInTheEraseLoads;
+      wholeData = wholeUpdateData;
+      cutAtEndData = cutAtTheWordsEndData;
       lastCommitted = lastCommitted;
       operations = fiveOperations;
       erased = erasedHasNone;
