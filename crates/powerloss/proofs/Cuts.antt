@@ -14,7 +14,7 @@ use Rattle.number.specs.Number.{pick}
 use Rattle.header.specs.Region.{regionSize, bankOf}
 use Rattle.bank.specs.Bank.{loaded}
 use Rattle.flash.specs.Flash.{Op, size, torn, applied, performed}
-use Rattle.flash.proofs.Laws.{done-zero, torn-none, length-applied}
+use Rattle.flash.proofs.Laws.{done-zero, torn-none, torn-whole, length-applied}
 use Rattle.writer.specs.declared.Writer.{Writer}
 use Rattle.writer.specs.State.{target}
 use Rattle.lower.specs.Lower.{started}
@@ -111,6 +111,7 @@ torn-calls =
       upper = λ r w c before rest op j e f. upper-at c (length before) j r w e ∙ rw f (cut-at (target (w .beginning .active)) j before rest op (r .region));
       beginning = λ r comparing now identity texts lengths before rest op j f.
           begin-at r comparing now identity texts lengths (length before) j ∙ rw f (cut-at (target (loaded (r .region))) j before rest op (r .region));
+      whole = λ n j op region h e l. torn-whole region n e h j op l;
       number = number-at;
     }
 

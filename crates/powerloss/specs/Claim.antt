@@ -18,7 +18,7 @@ use Rattle.number.specs.Number.{pick}
 use Rattle.bank.specs.Bank.{loaded}
 use Rattle.header.specs.Region.{regionSize, dataOf}
 use Rattle.headerwrite.specs.Types.{Bytes, Proper}
-use Rattle.flash.specs.Flash.{Op, size, torn, performed}
+use Rattle.flash.specs.Flash.{Op, size, torn, applied, performed}
 use Rattle.writer.specs.declared.Writer.{Writer}
 use Rattle.writer.specs.declared.Answer.the-variants.{Done}
 use Rattle.writer.specs.State.{target, inRange, isDue}
@@ -96,8 +96,8 @@ Settled =
     → (c : Upper) → UpperTyped c → upperStep (nextAll (found region) events .region) w c .answer ≡ Done → isDue (upperStep (nextAll (found region) events .region) w c .writer .taken) ≡ false
 
 -- The list has E5's cuts: of a call whose operations are `before`, then `op`, then `rest`, the ones before may be done whole, of op the first j bytes,
--- whatever j is, and the rest not at all. So it is for every call of both layers, and for the beginning with a key. And op counts as done once all
--- its bytes are. (proofs/Cuts.antt: torn-calls)
+-- whatever j is, and the rest not at all. So it is for every call of both layers, and for the beginning with a key. Past its size op is whole and
+-- nothing more, and it counts as done once all its bytes are. (proofs/Cuts.antt: torn-calls)
 pub record Torn : Type 0 where
   pub lower : (r : Run) (w : Writer) (c : Lower) (before rest : List Op) (op : Op) (j : ℕ) → r .state ≡ some w → lowerOps (r .region) w c ≡ before ++ (op ∷ rest)
       → next r (cut c (length before) j) .region ≡ torn (target (w .beginning .active)) j op (performed (target (w .beginning .active)) before (r .region))
@@ -106,6 +106,7 @@ pub record Torn : Type 0 where
   pub beginning : (r : Run) (comparing : Bool) (now : ℤ) (identity texts lengths : List ℕ) (before rest : List Op) (op : Op) (j : ℕ)
       → beginOps (r .region) comparing now identity texts lengths ≡ before ++ (op ∷ rest)
       → next r (beginKeyCut comparing now identity texts lengths (length before) j) .region ≡ torn (target (loaded (r .region))) j op (performed (target (loaded (r .region))) before (r .region))
+  pub whole : (n j : ℕ) (op : Op) (region : List ℕ) → n ≤ 1 → length region ≡ regionSize → size op ≤ j → torn n j op region ≡ applied n op region
   pub number : (before rest : List Op) (op : Op) (j : ℕ) → doneAt (length before) j (before ++ (op ∷ rest)) ≡ length before + pick (leb (size op) j) 1 0
 
 -- A cut asks no more of a call's arguments than the call does, and nothing of k and j (proofs/Cuts.antt: cut-typed).
