@@ -97,8 +97,8 @@ static int turn(Host *h, uint8_t *region)
     return over && h->next > 7;
 }
 
-/* An update that loses power once so many operations are done: its state is gone then. How many
-   were done, and whether it came to its end. */
+/* An update that loses power after `power` operations: its state is gone then. How many were
+   done, and whether it came to its end. */
 static int update(uint8_t *region, int power, bool *whole)
 {
     static Host h;

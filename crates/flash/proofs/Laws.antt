@@ -358,7 +358,7 @@ module _ (region : List ℕ) (n : ℕ) (e : length region ≡ regionSize) (h : n
   unfolding after
   after-fits k = rw (eq-eqb (length region) regionSize e, le-leb n 1 h, le-leb (place op + size op) bankSize k)
 
--- the first p bytes of a part as d has them and the rest as they were, among what stands before and behind it
+-- the first p bytes of a part as d has them and the rest as they were, between what stands before it and after it
 part-there : (l d : List ℕ) (i s p : ℕ) → length (take i l) ≡ i → length d ≡ s → s ≤ length (drop i l) → p ≤ s
     → take i l ++ ((take p d ++ drop p (take s (drop i l))) ++ drop (i + s) l) ≡ take (i + p) (take i l ++ (d ++ drop (i + s) l)) ++ drop (i + p) l
 part-there l d i s p k f m h =

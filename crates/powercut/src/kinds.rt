@@ -5,6 +5,7 @@ use crate::text::same;
 use crate::torn::TRY_ALL;
 use crate::torn::TRY_NONE;
 use crate::torn::TRY_SOME;
+use crate::torn::TRY_UNKNOWN;
 
 // A kind of leftover by its name; 6 is all, 7 none.
 pub fn leftover_named(s: &[u8]) -> u32 {
@@ -60,7 +61,7 @@ pub fn update_named(s: &[u8]) -> u32 {
     if same(s, b"all") { 5 } else { 6 }
 }
 
-// Which cuts inside operations are tried, by name; 3 is none of them.
+// Which cuts inside operations are tried, by name.
 pub fn torn_named(s: &[u8]) -> u32 {
     if same(s, b"none") {
         return TRY_NONE;
@@ -68,7 +69,11 @@ pub fn torn_named(s: &[u8]) -> u32 {
     if same(s, b"some") {
         return TRY_SOME;
     }
-    if same(s, b"all") { TRY_ALL } else { 3 }
+    if same(s, b"all") {
+        TRY_ALL
+    } else {
+        TRY_UNKNOWN
+    }
 }
 
 // Whether a choice of updates takes in a kind.

@@ -24,7 +24,7 @@ pub fn number_after(l: Loaded) -> u32 {
 }
 
 // Where that bank starts.
-fn start(l: Loaded) -> usize {
+pub fn start(l: Loaded) -> usize {
     (number_after(l) % 2) as usize * 491520
 }
 

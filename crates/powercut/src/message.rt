@@ -32,7 +32,7 @@ fn help_start() {
     tell(b"powercut [options] [IMAGE]\n");
     tell(b"\n");
     tell(b"Runs whole updates over a board's two timetable banks, cuts the power between\n");
-    tell(b"flash operations and inside them, and holds what load then gives against what\n");
+    tell(b"flash operations and inside them, and compares what load then gives with what\n");
     tell(b"must be there.\n");
     tell(b"\n");
     tell(b"  IMAGE                a region of 983040 bytes, or a whole flash dump of 4194304\n");

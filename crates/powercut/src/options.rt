@@ -4,6 +4,7 @@ use crate::kinds::torn_named;
 use crate::kinds::update_named;
 use crate::text::same;
 use crate::torn::TRY_SOME;
+use crate::torn::TRY_UNKNOWN;
 use leaf::bytes::get8;
 use slice::part;
 use std::num::wrapping_add_usize;
@@ -89,7 +90,7 @@ fn take_update(o: Options, space: &mut [u8]) -> Options {
 fn take_torn(o: Options, space: &mut [u8]) -> Options {
     let n = os::arg(wrapping_add_usize(o.at, 1), space);
     let torn = torn_named(part(space, 0, n));
-    if torn == 3 {
+    if torn == TRY_UNKNOWN {
         return ended(o, End::Torn);
     }
     Options {

@@ -10,18 +10,17 @@ use crate::torn::Span;
 use crate::torn::WORD;
 use leaf::bytes::get8;
 use std::num::wrapping_add_u32;
-use std::num::wrapping_add_usize;
 
 // A cell that no cut was tried for.
 pub const UNTRIED: u8 = 3;
 // What a mark has more where the update was begun again.
 pub const AGAIN: u8 = 4;
 
-// The marks of the cuts between operations stand first; behind them so many for each strip.
+// The marks of the cuts between operations come first, then those of each strip: where the first strip starts, and the room of each.
 const FIRST: u32 = 2048;
 
 const ROOM: u32 = 256;
-// So many bytes make one cell, but of the commit word one byte.
+// How many bytes make one cell; in the commit word each byte is one.
 const GROUP: usize = 32;
 
 // Where the marks of a strip start.

@@ -28,11 +28,14 @@ pub const TRY_SOME: u32 = 1;
 
 pub const TRY_ALL: u32 = 2;
 
+// No such choice.
+pub const TRY_UNKNOWN: u32 = 3;
+
 // How many cuts between the first byte and the last but one are tried in an operation on data, where not all are.
 const BETWEEN: usize = 6;
 // An operation of fewer bytes is tried after each of them.
 const FEW: usize = 16;
-// After each so many cuts inside operations the update is begun again.
+// The update is begun again after each 509th cut inside an operation.
 const AGAIN: u32 = 509;
 
 // The bytes of the region that an operation is about, and what it is.
@@ -108,7 +111,7 @@ pub fn is_tried(choice: u32, s: Span, j: usize, k: u32) -> bool {
 }
 
 // Whether the update is begun again after a cut: in the header's write after its first byte and around the commit word, in the word
-// after each byte, and after every 509th cut inside an operation; before it there were so many.
+// after each byte, and after every 509th cut inside an operation. `before` is the number of those before this one.
 pub fn is_sampled(s: Span, j: usize, before: u32) -> bool {
     let around = (WORD_AT <= j) & (j <= WORD_AT + WORD);
     let in_header = (s.kind == HEADER_WRITE) & ((j == 1) | around);

@@ -2,6 +2,7 @@
 use crate::data::key_length;
 use crate::kinds;
 use crate::leftover::number_after;
+use crate::leftover::start;
 use crate::out::count;
 use crate::out::say;
 use crate::strips;
@@ -46,7 +47,7 @@ pub struct Plan {
 }
 
 // How many cuts there were between operations and inside them, on how many load gave what was found and the new bank, from how many the
-// update was begun again, and how many were wrong: the first of them at a cut, or, where byte isn't 0, in an operation after so many bytes.
+// update was begun again, and how many were wrong: the first of them at a cut, or, where byte isn't 0, in an operation after that number of bytes.
 pub struct Count {
     pub cuts: u32,
     pub inside: u32,
@@ -464,12 +465,6 @@ struct Tried {
     count: Count,
 }
 
-// Where the bank starts that is written.
-fn target(p: Plan) -> usize {
-    let b = p.fresh;
-    (b.number % 2) as usize * 491520
-}
-
 // A step, with its cuts. The bytes that it is about are kept as they were.
 fn turn(
     t: Tried,
@@ -484,7 +479,8 @@ fn turn(
     let was: &mut [u8] = &mut space;
     let u = t.update;
     let c = t.count;
-    let s = next_operation(u, target(p));
+    let found = p.found;
+    let s = next_operation(u, start(found));
     copy(part(region, s.at, s.size), was);
     let update = step(u, region, data);
     let count = next(s, update, region, was, before, again, data, marks, p, c);

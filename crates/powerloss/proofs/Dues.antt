@@ -1,5 +1,5 @@
 -- The call that does what is due carries the invariant on, whole or cut after any of its bytes. The header sector's erase isn't begun or has
--- made byte 0 255, and the other operations lie behind that byte: the magic is gone, the bank meets 3, and load gives the other one.
+-- made byte 0 255, and the other operations lie after that byte: the magic is gone, the bank meets 3, and load gives the other one.
 use mathlib.Core.Path.{_≡_, refl, sym, ap, _∙_, subst}
 use mathlib.Core.Bool.{Bool, true, false, _||_, false≢true}
 use mathlib.Core.Logic.{_⊎_, inl, inr}
@@ -35,7 +35,7 @@ use Rattle.powerloss.specs.Machine.{Image, cutAt}
 use Rattle.powerloss.proofs.Cuts.{cut-none, cut-inside, cut-after}
 use Rattle.powerloss.proofs.Load.{target-fits}
 use Rattle.powerloss.proofs.Inv.{Kept, Live, Laid, Lies, LiveAt, Mode, Open, kept-unmarked, live-after}
-use Rattle.powerloss.proofs.Laid.{behind-unmarked, bare-erase, laid-erase, laid-write}
+use Rattle.powerloss.proofs.Laid.{later-unmarked, bare-erase, laid-erase, laid-write}
 use Rattle.powerloss.proofs.Range.{range-of, tail-aligned, due-fill, empty-taken, empty-idle, write-ok, data-ok, due-ok, due-of, erase-mode, write-at, erase-data, tables-later}
 use Rattle.powerloss.proofs.Quiet.{data-lies}
 
@@ -172,7 +172,7 @@ module _ (region : List ℕ) (hd : Loaded) (rs : List Source) (im : Image) (w : 
       let r′ = applied (target a) op region in
       one-op (target a) region hd rs im (withStage w (Due (writeDue t))) u k op
       (λ i. kept-unmarked-at region hd a rs im k (m .0) op i
-      (behind-unmarked 0 4096 (t .written) (t .fill) (w .tail) (u .data·) b (m .1) i op (omega arith) (omega (arith, length-at region hd a rs im k (m .0) op, e .0, e .1, position-fits t (own .taken), due-fill t (d .0)))))
+      (later-unmarked 0 4096 (t .written) (t .fill) (w .tail) (u .data·) b (m .1) i op (omega arith) (omega (arith, length-at region hd a rs im k (m .0) op, e .0, e .1, position-fits t (own .taken), due-fill t (d .0)))))
       (restage r′ (Due (writeDue t)) c (due-of false t (writeDue t) (d .0) (write-ok t)) (
         live-at region hd a rs im k (m .0) op,
         subst (Laid 256 4097 (t .written) (t .fill) (w .tail) (u .data·)) (sym (bank-at region hd a rs im k (m .0) op)) h,
@@ -194,7 +194,7 @@ module _ (region : List ℕ) (hd : Loaded) (rs : List Source) (im : Image) (w : 
       let r′ = applied (target a) op region in
       one-op (target a) region hd rs im (withEmptied w (t .different)) u k op
       (λ i. kept-unmarked-at region hd a rs im k (m .0) op i
-      (behind-unmarked 256 4097 (t .written) (t .fill) (w .tail) (u .data·) b (m .1) i op (omega arith) (omega (arith, length-at region hd a rs im k (m .0) op, position-fits t (own .taken)))))
+      (later-unmarked 256 4097 (t .written) (t .fill) (w .tail) (u .data·) b (m .1) i op (omega arith) (omega (arith, length-at region hd a rs im k (m .0) op, position-fits t (own .taken)))))
       (empty r′ (t .different) (d .0)
       (subst (λ (x : Bool). Mode x Idle r′ hd a (emptied t (t .different)) (w .tail) u) (sym c) (
         live-at region hd a rs im k (m .0) op,

@@ -39,9 +39,9 @@ pub laid-blank : (lo hi wr fl : ℕ) (tail d b : List ℕ) → Laid lo hi wr fl 
 laid-blank lo hi wr fl tail d b h i l =
     ap (λ (x : List ℕ). byte x i) (h .lies) ∙ byte-fill 4096 i (h .front ++ (fill 255 (h .gap) ++ h .rest)) l
 
--- and stays without its mark under an operation behind it, however far that is done
-pub behind-unmarked : (lo hi wr fl : ℕ) (tail d b : List ℕ) → Laid lo hi wr fl tail d b → (j : ℕ) (op : Op) → 0 < place op → place op ≤ length b → marked (done j op b) ≡ false
-behind-unmarked lo hi wr fl tail d b h j op p l =
+-- and stays without its mark under an operation at a later place, however far that is done
+pub later-unmarked : (lo hi wr fl : ℕ) (tail d b : List ℕ) → Laid lo hi wr fl tail d b → (j : ℕ) (op : Op) → 0 < place op → place op ≤ length b → marked (done j op b) ≡ false
+later-unmarked lo hi wr fl tail d b h j op p l =
     no-magic (done j op b) (done-before j op 0 b p l ∙ laid-blank lo hi wr fl tail d b h 0 (omega arith))
 
 -- nor does the header's write mark it, however far it is done: its byte 47 is 255

@@ -25,7 +25,7 @@ use Rattle.bank.specs.declared.Loaded.{Loaded}
 use Rattle.bank.specs.declared.Loaded.the-variants.{Found, Nothing, Refused as NotRead}
 use Rattle.bank.specs.Bank.{dataOk, thenData, validated, generation, firstTried, orElse, loaded}
 use Rattle.bank.proofs.Laws.{named-is}
-use Rattle.writer.specs.State.{target}
+use Rattle.writer.specs.State.{target, activeOk}
 
 -- ---- a bank's bytes decide what validate says of it
 
@@ -183,6 +183,13 @@ read-by (Refused r) (Refused s) = refl
 pub load-read : (region : List ℕ) (r : Refusal) → length region ≡ regionSize → loaded region ≡ NotRead r → ⊥
 load-read region r e g =
     false≢true (sym (ap isRead g) ∙ ap isRead (loaded-is region e) ∙ read-by (validated region (firstTried region)) (validated region (1 - firstTried region)))
+
+-- what load gives on a region of its size names a bank there, or none
+pub active-ok : (region : List ℕ) (hd : Loaded) → length region ≡ regionSize → loaded region ≡ hd → activeOk hd ≡ true
+unfolding activeOk
+active-ok region (Found b) l e = le-leb (b .number) 1 (load-own region b l e .number)
+active-ok region Nothing l e = refl
+active-ok region (NotRead r) l e = absurd (load-read region r l e)
 
 -- the bank that isn't written is the one that load gives
 pub target-fits : (hd : Loaded) → target hd ≤ 1

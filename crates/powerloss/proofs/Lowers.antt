@@ -6,7 +6,7 @@ use mathlib.Core.Option.{Option, none, some}
 use mathlib.Core.List.{List, [], _∷_}
 use Prim.Native.Nat.{ℕ, zero, suc, _<_}
 use native.Mathlib.Omega.{arith}
-use borrow.Author.Tests.{eq-eqb, le-leb, leb-true, leb-false}
+use borrow.Author.Tests.{eq-eqb, leb-true, leb-false}
 use lib.Dec.{leb, lit<}
 use lib.IntN.{ℤ}
 use lib.ListN.{length}
@@ -42,7 +42,7 @@ use Rattle.powerloss.specs.Machine.{cutAt, doneAt, Image, Run, begin, cu
 use Rattle.powerloss.specs.Claim.{LowerTyped}
 use Rattle.powerloss.proofs.Bytes.{bytes-fill}
 use Rattle.powerloss.proofs.Cuts.{cut-none, cut-inside, cut-after, done-none, done-inside, done-at-end, done-after}
-use Rattle.powerloss.proofs.Load.{load-own, other-held, target-fits}
+use Rattle.powerloss.proofs.Load.{active-ok, other-held, target-fits}
 use Rattle.powerloss.proofs.Inv.{Kept, Mode, Open, State}
 use Rattle.powerloss.proofs.Range.{range-of, tables-none}
 use Rattle.powerloss.proofs.Quiet.{on-source, on-table, on-end, on-unchanged}
@@ -232,16 +232,10 @@ begin-open region hd c now f l e ok =
       mode = begin-mode c region hd now l e;
     }
 
-active-ok : (region : List ℕ) (hd : Loaded) → length region ≡ regionSize → loaded region ≡ hd → answerOf hd ≡ Done → activeOk hd ≡ true
-unfolding activeOk
-active-ok region (Found b) l e d = le-leb (b .number) 1 (load-own region b l e .number)
-active-ok region Nothing l e d = refl
-active-ok region (NotRead r) l e d = absurd (false≢true (ap isDone d))
-
 -- the new state, where the beginning is answered
 pub begun-open : (region : List ℕ) (hd : Loaded) (rs : List Source) (im : Image) (c : Bool) (now : ℤ) → SFits w64 now → Kept region hd rs im → answerOf hd ≡ Done
     → Open region hd (started hd c now) (takes [] (opened hd now))
-begun-open region hd rs im c now f k d = begin-open region hd c now f (k .size) (k .loads) (active-ok region hd (k .size) (k .loads) d)
+begun-open region hd rs im c now f k d = begin-open region hd c now f (k .size) (k .loads) (active-ok region hd (k .size) (k .loads))
 
 begin-by : (c : Bool) (now : ℤ) (region : List ℕ) (s : Option Writer) (hd : Loaded) (rs : List Source) (v : Option Update) (im : Image) → SFits w64 now → Inv (mk region s hd rs v im) → (x : Answer) → answerOf hd ≡ x
     → Inv (record {

@@ -6,7 +6,7 @@ use mathlib.Core.Option.{none, some}
 use mathlib.Core.List.{List, [], _∷_, _++_, map}
 use Prim.Native.Nat.{ℕ, zero, suc, _<_}
 use native.Mathlib.Omega.{arith}
-use borrow.Author.Tests.{eq-eqb, le-leb}
+use borrow.Author.Tests.{eq-eqb}
 use lib.IntN.{pos}
 use lib.ListN.{length, take, drop, set, getD}
 use lib.Seq.{sets}
@@ -53,7 +53,7 @@ use Rattle.powerloss.specs.Claim.{Typed, AllTyped, Holds}
 use Rattle.worked.specs.Instances.{key, dates, routes, data·, theSource, callsToClosing, callsBefore, updateWith, beforeTheWord, eraseCut, updated, theNew, theOld, written, Gives, WholeUpdate, CutBeforeTheWord, CutAfterTheWord, CutInTheWord, ThreeBytesWritten, CutAtTheWordsEnd, CutInTheErase, Loads, WholeUpdateLoads, CutBeforeTheWordLoads, CutAfterTheWordLoads, CutInTheWordLoads, CutAtTheWordsEndLoads, CutInTheEraseLoads, Data, WholeUpdateData, CutAtTheWordsEndData, AfterOne, LastCommitted, FiveOperations, ErasedHasNone, onErased, ErasedUpdate}
 use Rattle.powerloss.proofs.Bytes.{bytes-nil, bytes-cons, bytes-fill}
 use Rattle.powerloss.proofs.Cuts.{cut-inside}
-use Rattle.powerloss.proofs.Load.{load-own, load-read, load-other, unmarked-refused, target-fits}
+use Rattle.powerloss.proofs.Load.{load-other, active-ok, unmarked-refused, target-fits}
 use Rattle.powerloss.proofs.Lowers.{mk}
 use Rattle.powerloss.proofs.Uppers.{inv-all, inv-found, demand3}
 
@@ -222,13 +222,6 @@ answer-ok (Found b) e = refl
 answer-ok Nothing e = refl
 answer-ok (NotRead r) e = absurd (false≢true e)
 
--- what load gives on a region of its size names a bank there, or none
-ok-of : (region : List ℕ) (hd : Loaded) → length region ≡ regionSize → loaded region ≡ hd → activeOk hd ≡ true
-unfolding activeOk
-ok-of region (Found b) l e = le-leb (b .number) 1 (load-own region b l e .number)
-ok-of region Nothing l e = refl
-ok-of region (NotRead r) l e = absurd (load-read region r l e)
-
 -- the region before each of the operations
 module _ (hd : Loaded) (region : List ℕ) (l : length region ≡ regionSize) where
   abbrev region1 : List ℕ
@@ -373,7 +366,7 @@ erase-after hd ok r e f l =
     (ap (λ (x : Run). x .region) q ∙ p .0 ∙ torn-first (target hd) 100 (r .region) l (target-fits hd) (omega arith), ap (λ (x : Run). x .history .held) q ∙ p .1)
 
 by : (last : Event) (held : Loaded → Loaded) → Ends last held → Gives last held
-by last held g region l = unfold found in (held-after last held g (loaded region) (ok-of region (loaded region) l refl) (found region) refl refl l)
+by last held g region l = unfold found in (held-after last held g (loaded region) (active-ok region (loaded region) l refl) (found region) refl refl l)
 
 pub wholeUpdate : WholeUpdate
 wholeUpdate = by (call word) theNew by-word
@@ -399,7 +392,7 @@ pub threeBytesWritten : ThreeBytesWritten
 unfolding found beforeTheWord
 threeBytesWritten region l =
     let hd = loaded region in
-    let ok = ok-of region hd l refl in
+    let ok = active-ok region hd l refl in
     let rs = found region .history .records in
     let im = found region .image in
     let g = region4 hd region l in
@@ -410,7 +403,7 @@ threeBytesWritten region l =
 
 -- the header sector's erase, cut
 pub cutInTheErase : CutInTheErase
-cutInTheErase region l = unfold found in (erase-after (loaded region) (ok-of region (loaded region) l refl) (found region) refl refl l)
+cutInTheErase region l = unfold found in (erase-after (loaded region) (active-ok region (loaded region) l refl) (found region) refl refl l)
 
 -- ---- load's answer, by demand 3
 
@@ -510,7 +503,7 @@ data-by : (last : Event) → Typed last → Gives last theNew → Ended last →
 unfolding found
 data-by last t g f region l y =
     let hd = loaded region in
-    let ok = ok-of region hd l refl in
+    let ok = active-ok region hd l refl in
     let r = nextAll (found region) (updateWith last) in
     let d = demand3 region (updateWith last) l y (typed last t) in
     let h : r .image .given ≡ some data· =
@@ -546,7 +539,7 @@ after-one es held p g region l y =
     let e = k .loads ∙ f in
     demand3 region (one ++ es) l y (typed-append one es (typed (call word) tt) p) .loads
     ∙ ap (λ (x : Run). x .history .held) (next-append one es (found region))
-    ∙ g (theNew (loaded region)) (ok-of (r .region) (theNew (loaded region)) (k .size) e) r e f (k .size)
+    ∙ g (theNew (loaded region)) (active-ok (r .region) (theNew (loaded region)) (k .size) e) r e f (k .size)
 
 after-by : (last : Event) (held : Loaded → Loaded) → Typed last → Ends last held → AfterOne (updateWith last) held
 after-by last held t g = after-one (updateWith last) held (typed last t) (held-after last held g)
@@ -615,7 +608,7 @@ pub fiveOperations : FiveOperations
 unfolding performed begun started
 fiveOperations region l =
     let hd = loaded region in
-    let ok = ok-of region hd l refl in
+    let ok = active-ok region hd l refl in
     ran hd (bytes key) region _ _ _ _ _ _ _ _ _ (does-key hd ok region (fill noSource 3) (fill 0 256) 0 0)
     ∙ ran hd (source theSource) region _ _ _ _ _ _ _ _ _ (does-source hd ok region (fill noSource 3) tail1 crc1 crc1)
     ∙ ran hd (bytes dates) region _ _ _ _ _ _ _ _ _ (does-dates hd ok region sources1 tail1 crc1 crc1)

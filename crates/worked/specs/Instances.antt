@@ -210,7 +210,7 @@ abbrev pub ErasedHasNone : Type 0
 ErasedHasNone = loaded (fill 255 regionSize) ≡ Nothing
 
 -- So there load gives bank 0 of generation 0 after the whole update; none after a cut before the commit word or after three of its bytes; the bank
--- with all four bytes written, whether the cut counts as inside that write (k = 0, j = 4) or behind it (k = 1, j = 0).
+-- with all four bytes written, whether the cut counts as inside that write (k = 0, j = 4) or as after it (k = 1, j = 0).
 abbrev pub onErased : Event → Loaded
 onErased last = loaded (nextAll (found (fill 255 regionSize)) (updateWith last) .region)
 

@@ -29,8 +29,8 @@ fn places(random: &mut Random, total: usize) -> Vec<usize> {
     places
 }
 
-/// Cuts after so many, twice at the header erase and at the header write, and after
-/// each byte of the commit word.
+/// A cut at each of these places, one more at the header erase and at the header
+/// write, and one after each byte of the commit word.
 fn cuts(random: &mut Random, operations: &[Operation]) -> Vec<Cut> {
     let total = operations.len();
     let mut places = places(random, total);

@@ -71,7 +71,7 @@ impl Core {
         }
         answer
     }
-    /// Where the supply fails inside the last operation, the bytes behind its first
+    /// Where the supply fails inside the last operation, the bytes after its first
     /// j are again what they were before it.
     fn tear(&mut self, span: Range<usize>, before: &[u8]) {
         let begun = self.operations.len();

@@ -46,7 +46,7 @@ fn bytes(random: &mut Random, operation: &Operation) -> usize {
 }
 
 impl Cut {
-    /// Before, between or behind these operations, or inside one.
+    /// Before, between or after these operations, or inside one.
     pub fn random(random: &mut Random, operations: &[Operation]) -> Self {
         let total = operations.len();
         let k = if random.once_in(4) { total } else { random.below(total.max(1)) };

@@ -131,7 +131,7 @@ impl History {
             open.after(call, answer);
         }
     }
-    /// A call that was cut with so many operations done: no answer, and the update
+    /// A call that was cut with `done` operations done: no answer, and the update
     /// is dropped. `None` is a beginning.
     pub fn cut(&mut self, call: Option<&Call>, done: usize) {
         if matches!(call, Some(Call::Word)) && done > 0 {
