@@ -1,4 +1,4 @@
-use Rattle.worked.proofs.Instances.{wholeUpdate, cutBeforeTheWord, cutAfterTheWord, cutInTheWord, threeBytesWritten, cutAtTheWordsEnd, cutInTheErase, wholeUpdateLoads, cutBeforeTheWordLoads, cutAfterTheWordLoads, cutInTheWordLoads, cutAtTheWordsEndLoads, cutInTheEraseLoads, wholeUpdateData, cutAtTheWordsEndData, lastCommitted, fiveOperations, erasedHasNone, erasedUpdate}
+use Rattle.worked.proofs.Computed.{wholeUpdate, cutBeforeTheWord, cutAfterTheWord, cutInTheWord, threeBytesWritten, cutAtTheWordsEnd, cutInTheErase, wholeUpdateLoads, cutBeforeTheWordLoads, cutAfterTheWordLoads, cutInTheWordLoads, cutAtTheWordsEndLoads, cutInTheEraseLoads, wholeUpdateData, cutAtTheWordsEndData, lastCommitted, fiveOperations, erasedHasNone, erasedUpdate}
 use Rattle.worked.proofs.instances_hold.Statement.{statement}
 use Rattle.worked.proofs.instances_hold.Tie as tie
 
