@@ -9,7 +9,7 @@ use borrow.Author.Tests.{eq-eqb, ne-eqb, eqb-true, eqb-false, le-leb, leb-true}
 use lib.Dec.{leb, eqb, lit<}
 use lib.ListN.{length, take, drop, length-take}
 use lib.Seq.{take-add, take-all}
-use Rattle.number.specs.Number.{pick}
+use Rattle.base.specs.Number.{pick}
 use Rattle.leaf.specs.Crc.{crc32}
 use Rattle.leaf.proofs.Checksum.{crc32-append, crc32-nil}
 use Rattle.refusal.specs.declared.Refusal.{Refusal}

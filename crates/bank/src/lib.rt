@@ -7,6 +7,7 @@ ghost use Rattle.leaf.specs.Crc as Crc;
 ghost use Rattle.header.specs.Region.{bankOf, dataOf};
 ghost use Rattle.bank.specs.Bank as Banks;
 ghost use Rattle.bank.specs.Turns as Turns;
+use base::slice::part;
 use header::Bank;
 use header::Validated;
 use header::header_of;
@@ -14,7 +15,6 @@ use leaf::bytes::get;
 use leaf::crc::crc32;
 use leaf::generation::newer;
 use refusal::Refusal;
-use slice::part;
 
 pub enum Loaded {
     Found(Bank),

@@ -4,7 +4,7 @@ ghost use mathlib.Core.Path.{_≡_};
 ghost use Prim.Native.Nat.{_≤_};
 ghost use lib.Dec.{leb};
 ghost use lib.ListN.{length};
-ghost use Rattle.number.specs.Number.{pick};
+ghost use Rattle.base.specs.Number.{pick};
 ghost use Rattle.refusal.specs.Refusal.{numberOf};
 ghost use Rattle.key.specs.Layout as Keys;
 ghost use Rattle.key.specs.Picks as Picks;
@@ -89,7 +89,7 @@ pub struct BankRowNumbers {
 fn number_of(r: Refusal) -> u32
     ensures { λ n. ⌜ n ≡ numberOf r ⌝ }
 {
-    number::wide(refusal::number(r))
+    base::number::wide(refusal::number(r))
 }
 
 fn no_bank(r: u32) -> BankNumbers

@@ -4,7 +4,7 @@ use mathlib.Core.List.{[], _∷_}
 use Prim.Native.Nat.{ℕ, suc, zero, _+_, _*_, _/_, _%_, _<_, _^_}
 use native.Mathlib.Omega.{arith}
 use native.Mathlib.Nat.{add-mul, one-mul, mod-lt, mod-mod-of-dvd, dvd-mul-right, max-eq-right}
-use Rattle.number.specs.Number.{wrap32, rotateLeft32}
+use Rattle.base.specs.Number.{wrap32, rotateLeft32}
 use Rattle.bloom.specs.Bloom.{stepOf, position, positions}
 use Rattle.bloom.specs.Places.{Within}
 use Rattle.bloom.specs.Claims.{Differ}

@@ -5,7 +5,7 @@ use Prim.Native.Nat.{ℕ, _+_, _*_, _/_, _%_, _^_}
 use lib.Bits.{bitOr}
 use lib.Dec.{leb, eqb}
 use lib.ListN.{length, set}
-use Rattle.number.specs.Number.{pick, wrap32, rotateLeft32}
+use Rattle.base.specs.Number.{pick, wrap32, rotateLeft32}
 use Rattle.leaf.specs.Bytes.{byte}
 use Rattle.leaf.specs.Crc.{crc32}
 use Rattle.refusal.specs.declared.Refusal.the-variants.{Argument}

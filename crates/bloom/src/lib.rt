@@ -5,8 +5,8 @@ ghost use Prim.Native.Nat.{_*_, _/_, _%_, _<_, _≤_};
 ghost use lib.ListN.{length};
 ghost use Rattle.bloom.specs.Bloom as Bloom;
 ghost use Rattle.bloom.specs.Places.{four, Within};
+use base::number::rotate13;
 use leaf::crc::crc32;
-use number::rotate13;
 use refusal::Refusal;
 
 // What a query and an insertion answer: whether all four bits were set.

@@ -1,7 +1,7 @@
 -- A row as it is read. It reads the grammar, no more and no less (specs/Claims.antt: sound, complete).
 use Prim.Native.Nat.{ℕ, zero, suc}
 use lib.Dec.{eqb}
-use Rattle.number.specs.Number.{pick}
+use Rattle.base.specs.Number.{pick}
 use mathlib.Core.List.{List, [], _∷_}
 use lib.ListN.{getD, drop}
 use Rattle.csv.specs.Csv.{isText}

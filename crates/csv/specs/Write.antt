@@ -2,7 +2,7 @@
 use Prim.Native.Nat.{ℕ}
 use lib.Dec.{eqb}
 use mathlib.Core.Bool.{Bool, false, _||_}
-use Rattle.number.specs.Number.{pick}
+use Rattle.base.specs.Number.{pick}
 use mathlib.Core.List.{List, [], _∷_, _++_}
 
 -- a byte for whose sake a value is quoted: "a quote, comma, CR or LF"

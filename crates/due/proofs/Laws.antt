@@ -9,7 +9,7 @@ use lib.Dec.{eqb, leb, ltb}
 use lib.ListN.{length, take, drop, replicate, length-append}
 use lib.Seq.{sets, sets-eq, take-at, length-take-le, take-append-add}
 use borrow.Author.Tests.{eqb-true, eq-eqb, ne-eqb, ltb-true}
-use Rattle.number.specs.Number.{pick}
+use Rattle.base.specs.Number.{pick}
 use Rattle.record.specs.Runs.{fill}
 use Rattle.record.proofs.Series.{fill-split, length-fill, drop-new}
 use Rattle.header.specs.Region.{regionSize, bankSize}

@@ -2,7 +2,7 @@
 use mathlib.Core.Path.{_≡_, refl, sym, ap, _∙_}
 use mathlib.Core.Bool.{Bool, true, false}
 use Prim.Native.Nat.{ℕ}
-use Rattle.number.specs.Number.{pick}
+use Rattle.base.specs.Number.{pick}
 use Rattle.leaf.specs.Date.{isDate, dateNumber, newDate}
 use Rattle.leaf.specs.declared.date.Date.{Date}
 use Rattle.leaf.specs.declared.date.NewDate.{NewDate}

@@ -1,6 +1,6 @@
 -- What crosses to C where the core's own answer is an enum.
 use Prim.Native.Nat.{ℕ}
-use Rattle.number.specs.Number.{pick}
+use Rattle.base.specs.Number.{pick}
 use Rattle.leaf.specs.Date.{isDate, dateNumber}
 
 -- Date::new's answer as a number: the date's, or 0, which is no date's

@@ -5,7 +5,7 @@ ghost use Rattle.leaf.specs.Bytes as Bytes;
 ghost use Rattle.leaf.specs.Crc as Crc;
 ghost use Rattle.leaf.specs.Date as Dates;
 ghost use Rattle.leaf.specs.Generation as Generation;
-ghost use Rattle.number.specs.Number.{rotateLeft32};
+ghost use Rattle.base.specs.Number.{rotateLeft32};
 ghost use Rattle.export.specs.Export.{dateOrZero};
 use leaf::date::Date;
 use leaf::date::NewDate;
@@ -90,5 +90,5 @@ pub extern "C" fn tt_valid_date(d: u32) -> bool
 pub extern "C" fn tt_rotate13(x: u32) -> u32
     ensures { λ r. ⌜ r ≡ rotateLeft32 13 x ⌝ }
 {
-    number::rotate13(x)
+    base::number::rotate13(x)
 }

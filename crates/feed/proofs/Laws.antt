@@ -7,7 +7,7 @@ use native.Mathlib.Omega.{arith}
 use lib.Dec.{eqb}
 use lib.ListN.{length, take, drop, length-drop, drop-of-length-le}
 use lib.Seq.{take-all, drop-drop}
-use Rattle.number.specs.Number.{pick}
+use Rattle.base.specs.Number.{pick}
 use Rattle.refusal.specs.declared.Refusal.the-variants.{Region, Turn}
 use Rattle.header.specs.Region.{regionSize}
 use Rattle.flash.specs.Flash.{Op, performed}

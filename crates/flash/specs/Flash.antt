@@ -6,7 +6,7 @@ use Prim.Native.Nat.{ℕ, zero, suc, _+_, _*_, min}
 use lib.Bits.{bitAnd}
 use lib.Dec.{leb, eqb}
 use lib.ListN.{take, drop, length}
-use Rattle.number.specs.Number.{pick}
+use Rattle.base.specs.Number.{pick}
 use Rattle.header.specs.Region.{regionSize, bankSize, sectorSize, bankOf}
 
 -- An operation on a bank: the erase of the sector at a place, or a write of bytes at a place. Places count from the bank's start.

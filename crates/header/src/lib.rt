@@ -18,18 +18,18 @@ ghost use Rattle.header.specs.Header.{
   sourceOk,
   headerOf,
 };
+use base::number::le;
+use base::number::wider;
+use base::slice::part;
 use leaf::bytes::get;
 use leaf::bytes::get_time;
 use leaf::crc::crc32;
 use leaf::date::valid_date;
-use number::le;
-use number::wider;
 use record::Block;
 use record::Source;
 use record::decode;
 use record::source_size;
 use refusal::Refusal;
-use slice::part;
 
 // A bank's numbers; `key` is the key's length.
 #[repr(C)]

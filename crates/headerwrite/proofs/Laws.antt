@@ -9,7 +9,7 @@ use lib.Dec.{eqb, leb}
 use lib.IntN.{ℤ}
 use lib.ListN.{length, take, drop, getD, length-append}
 use lib.Seq.{take-at, drop-at}
-use Rattle.number.specs.Number.{pick, unsigned}
+use Rattle.base.specs.Number.{pick, unsigned}
 use Rattle.leaf.specs.Bytes.{byte, word, time, le32, le64}
 use Rattle.leaf.proofs.Laws.{word-front, time-front, length-le32}
 use Rattle.leaf.proofs.Numbers.{both-left}

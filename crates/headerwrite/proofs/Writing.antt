@@ -9,7 +9,7 @@ use lib.Dec.{leb}
 use lib.IntN.{ℤ, pos}
 use lib.ListN.{length, take, length-append}
 use lib.Seq.{sets, length-sets, length-take-le, take-all}
-use Rattle.number.specs.Number.{pick}
+use Rattle.base.specs.Number.{pick}
 use Rattle.leaf.specs.Bytes.{word, le32, le64, written}
 use Rattle.leaf.specs.Crc.{crc32}
 use Rattle.leaf.proofs.Laws.{length-le32, length-le64, written-sets}

@@ -11,13 +11,13 @@ use crate::out::signed_field;
 use crate::out::table;
 use crate::out::time_field;
 use bank::Loaded;
+use base::slice::part;
 use header::Bank;
 use header::Validated;
 use key::SameKey;
 use loaded::FreshAnswer;
 use record::Block;
 use record::Source;
-use slice::part;
 use std::num::wrapping_add_usize;
 
 fn good(b: Bank) {

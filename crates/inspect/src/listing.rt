@@ -10,10 +10,10 @@ use crate::out::say;
 use crate::out::table;
 use crate::text::between;
 use crate::text::put8;
+use base::slice::part;
 use header::Bank;
 use row::column_count;
 use rowread::ReadAnswer;
-use slice::part;
 use std::num::wrapping_add_usize;
 
 // Zeros for a row's values: a row has at most 8,192 bytes with its LF.

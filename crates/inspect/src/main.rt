@@ -11,7 +11,7 @@ ghost use mathlib.Core.Path.{_≡_};
 ghost use lib.ListN.{length};
 use crate::image::Size;
 use crate::options::Options;
-use slice::part;
+use base::slice::part;
 
 // Zeros for an argument: Linux hands over none of more bytes.
 fn argument_room() -> [u8; 131072]

@@ -2,8 +2,8 @@
 use crate::options::End;
 use crate::options::Options;
 use crate::out::say;
+use base::slice::part;
 use libc::STDERR_FILENO;
-use slice::part;
 
 fn complain(text: &[u8]) {
     io::write_all(STDERR_FILENO, text);

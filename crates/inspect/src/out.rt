@@ -1,12 +1,12 @@
 // Pieces of a line on standard output.
 use crate::text::bits;
 use crate::text::put8;
+use base::number::wide64;
+use base::number::wider;
+use base::slice::part;
 use leaf::bytes::get8;
 use libc::STDOUT_FILENO;
-use number::wide64;
-use number::wider;
 use refusal::Refusal;
-use slice::part;
 
 pub fn say(text: &[u8]) {
     io::write_all(STDOUT_FILENO, text);

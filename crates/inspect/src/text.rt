@@ -1,7 +1,7 @@
 // Words and numbers in an argument.
+use base::number::wide64;
+use base::slice::part;
 use leaf::bytes::get8;
-use number::wide64;
-use slice::part;
 use std::num::wrapping_add_usize;
 
 // A number, or what is none.
@@ -106,7 +106,8 @@ pub fn set(lengths: &mut [u32], at: usize, n: u32) {
 pub fn bits(z: i64) -> u64 {
     let mut b = [0u8; 8];
     leaf::bytes::put_time(&mut b, 0, z);
-    number::wider(leaf::bytes::get(&b, 0)) + number::wider(leaf::bytes::get(&b, 4)) * 4294967296
+    base::number::wider(leaf::bytes::get(&b, 0))
+        + base::number::wider(leaf::bytes::get(&b, 4)) * 4294967296
 }
 
 // The signed number of 64 bits.

@@ -9,7 +9,7 @@ use native.Mathlib.Numerals.{add-one}
 use native.Mathlib.Omega.{arith}
 use lib.ListN.{length, getD, length-append}
 use borrow.Author.Tests.{leb-true}
-use Rattle.number.specs.Number.{pick}
+use Rattle.base.specs.Number.{pick}
 use Rattle.key.specs.Order.{Text, Pick, pickOrder}
 use Rattle.key.specs.Picks.{pickOf, unlessCode, firsts, place, insert, distinct, In}
 use Rattle.key.specs.Layout.{every, sized, sizes, joined, field, entry}

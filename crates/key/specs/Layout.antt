@@ -4,7 +4,7 @@ use mathlib.Core.List.{List, [], _∷_, _++_}
 use Prim.Native.Nat.{ℕ, zero, suc, _/_, _%_, _*_}
 use lib.ListN.{length, getD}
 use lib.Dec.{leb}
-use Rattle.number.specs.Number.{pick}
+use Rattle.base.specs.Number.{pick}
 use Rattle.leaf.specs.Bytes.{written}
 use Rattle.refusal.specs.declared.Refusal.the-variants.{Argument, Identity, Small}
 use Rattle.key.specs.Order.{Text, Pick}

@@ -3,7 +3,7 @@ use mathlib.Core.List.{List, [], _∷_, _++_, map}
 use mathlib.Core.Path.{_≡_}
 use Prim.Native.Nat.{ℕ, _+_, _-_, _≤_, _<_, min, Ordering, Ordering·lt, Ordering·eq, Ordering·gt}
 use lib.ListN.{length, take, drop, getD}
-use Rattle.number.specs.Number.{pick}
+use Rattle.base.specs.Number.{pick}
 use Rattle.key.specs.Order.{Text, Pick}
 use Rattle.key.specs.Picks.{sum, pickOf, insert}
 use Rattle.key.specs.Layout.{entry}

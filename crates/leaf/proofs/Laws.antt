@@ -15,7 +15,7 @@ use lib.Seq.{sets, sets-eq, length-sets, getD-set-other, getD-append-add, getD-d
 use mir.Syntax.{w64}
 use mir.Val.{SFits, toZ}
 use mir.ValLaws.{toZ-ofZ, toZ-fits, ofZ-fits}
-use Rattle.number.specs.Number.{unsigned, wrappingSub32}
+use Rattle.base.specs.Number.{unsigned, wrappingSub32}
 use Rattle.leaf.specs.Bytes.{byte, word, time, le32, le64, written}
 use Rattle.leaf.specs.Generation.{newer, next}
 use Rattle.leaf.specs.Date.{leap, monthDays, isDate, dateNumber, validDate, SomeDate}

@@ -11,7 +11,7 @@ use lib.Dec.{T, ltb}
 use mir.Syntax.{w64}
 use mir.Val.{SFits, Fits, ofZ, toZ, sel}
 use mir.ValLaws.{toZ-ofZ, toZ-pos, ofZ-toZ}
-use Rattle.number.specs.Number.{pick, signed, unsigned, wrappingSub32}
+use Rattle.base.specs.Number.{pick, signed, unsigned, wrappingSub32}
 
 pub both-left : (a b : Bool) → (a && b) ≡ true → a ≡ true
 both-left true b e = refl

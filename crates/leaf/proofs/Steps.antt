@@ -10,7 +10,7 @@ use lib.Dec.{leb, eqb, leb·suc-zero}
 use lib.IntN.{ℤ}
 use lib.ListN.{length, drop, getD, set, List·getD-eq-default}
 use lib.Seq.{getD-set-other}
-use Rattle.number.specs.Number.{unsigned, signed}
+use Rattle.base.specs.Number.{unsigned, signed}
 use Rattle.leaf.specs.Bytes.{byte, word, time, le32, le64, written}
 use Rattle.leaf.specs.Date.{leap, monthDays, isDate, newDate, dateNumber}
 use Rattle.leaf.specs.declared.date.Date.{Date}

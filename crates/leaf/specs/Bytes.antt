@@ -4,7 +4,7 @@ use Prim.Native.Nat.{ℕ, _+_, _*_, _/_, _%_, _^_}
 use lib.Dec.{leb}
 use lib.IntN.{ℤ}
 use lib.ListN.{length, take, drop, getD}
-use Rattle.number.specs.Number.{pick, signed, unsigned}
+use Rattle.base.specs.Number.{pick, signed, unsigned}
 
 abbrev pub byte : List ℕ → ℕ → ℕ
 byte l at = getD l at 0

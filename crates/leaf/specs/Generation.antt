@@ -3,7 +3,7 @@ use mathlib.Core.Bool.{Bool}
 use Prim.Native.Nat.{ℕ, _+_}
 use lib.IntN.{pos}
 use lib.Signed.{ltZ}
-use Rattle.number.specs.Number.{wrap32, wrappingSub32, signed}
+use Rattle.base.specs.Number.{wrap32, wrappingSub32, signed}
 
 -- newer(a, b): a - b, wrapping, read as signed 32 bits, is above zero
 unfoldable pub newer : ℕ → ℕ → Bool

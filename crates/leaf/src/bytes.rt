@@ -5,9 +5,9 @@ ghost use Prim.Native.Nat.{_+_, _<_, _≤_, _^_};
 ghost use lib.Dec.{leb};
 ghost use lib.ListN.{drop};
 ghost use Rattle.leaf.specs.Bytes as Bytes;
-ghost use Rattle.number.specs.Number as Number;
-use number::wide;
-use number::wider;
+ghost use Rattle.base.specs.Number as Number;
+use base::number::wide;
+use base::number::wider;
 
 // The byte at a place, 0 past the end.
 pub fn get8(b: &[u8], i: usize) -> u8

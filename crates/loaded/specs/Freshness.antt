@@ -6,7 +6,7 @@ use lib.Dec.{leb, eqb}
 use lib.IntN.{ℤ, pos, negsuc}
 use lib.ListN.{length}
 use lib.Signed.{leZ}
-use Rattle.number.specs.Number.{pick}
+use Rattle.base.specs.Number.{pick}
 use Rattle.leaf.specs.Date.{validDate}
 use Rattle.refusal.specs.declared.Refusal.the-variants.{Region, Argument}
 use Rattle.record.specs.declared.Source.{Source}

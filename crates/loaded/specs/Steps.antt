@@ -3,7 +3,7 @@ use mathlib.Core.Bool.{Bool, true, false, _&&_}
 use mathlib.Core.List.{List, [], _∷_}
 use lib.IntN.{ℤ, pos}
 use lib.Signed.{leZ}
-use Rattle.number.specs.Number.{pick}
+use Rattle.base.specs.Number.{pick}
 use Rattle.record.specs.declared.Source.{Source}
 use Rattle.loaded.specs.declared.Days.{Days}
 use Rattle.loaded.specs.declared.SourceTimes.{SourceTimes}

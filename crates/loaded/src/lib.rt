@@ -8,7 +8,7 @@ ghost use lib.Signed.{leZ};
 ghost use Prim.Native.Nat.{_+_, _*_, _-_, _≤_};
 ghost use Rattle.header.specs.Region.{bankOf};
 ghost use Rattle.header.specs.Header.{recordsOf};
-ghost use Rattle.number.specs.Number.{pick};
+ghost use Rattle.base.specs.Number.{pick};
 ghost use Rattle.record.specs.Record.{noSource};
 ghost use Rattle.record.specs.Runs.{each, fill};
 ghost use Rattle.loaded.specs.Source as Sources;
@@ -17,18 +17,18 @@ ghost use Rattle.loaded.specs.Steps as Steps;
 ghost use Rattle.loaded.specs.KeyMatch as Keys;
 use bank::bank_of;
 use bank::header;
+use base::number::le;
+use base::slice::part;
 use header::Bank;
 use header::Validated;
 use header::record_at;
 use key::SameKey;
 use key::picks_fit;
 use leaf::date::valid_date;
-use number::le;
 use record::Source;
 use record::no_source;
 use record::source_size;
 use refusal::Refusal;
-use slice::part;
 
 pub enum Outcome {
     Done,

@@ -8,7 +8,7 @@ use native.Mathlib.Omega.{arith}
 use borrow.Author.Tests.{eq-eqb, eqb-true, lt-ltb, ltb-true}
 use lib.Dec.{ltb, eqb}
 use lib.ListN.{length}
-use Rattle.number.specs.Number.{pick}
+use Rattle.base.specs.Number.{pick}
 use Rattle.header.specs.Region.{regionSize}
 use Rattle.header.proofs.Laws.{and-left, and-right}
 use Rattle.writer.specs.declared.Operation.the-variants.{Erase, Write, Compare}

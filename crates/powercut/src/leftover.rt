@@ -6,12 +6,12 @@ use crate::text::shuffle_bank;
 use crate::update::begin;
 use crate::update::run;
 use bank::Loaded;
+use base::slice::part;
 use header::Bank;
 use leaf::bytes::get;
 use leaf::bytes::put;
 use leaf::crc::crc32;
 use record::source_size;
-use slice::part;
 use std::num::wrapping_add_usize;
 use std::num::wrapping_sub_u32;
 

@@ -19,8 +19,8 @@ ghost use lib.ListN.{length};
 use crate::image::Size;
 use crate::options::Options;
 use crate::trial::Count;
+use base::slice::part;
 use libc::STDERR_FILENO;
-use slice::part;
 use std::num::wrapping_add_u32;
 
 // Zeros for an argument: Linux hands over none of more bytes.

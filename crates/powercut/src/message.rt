@@ -2,9 +2,9 @@
 use crate::options::End;
 use crate::options::Options;
 use crate::out::say;
+use base::slice::part;
 use libc::STDERR_FILENO;
 use libc::STDOUT_FILENO;
-use slice::part;
 
 fn complain(text: &[u8]) {
     say(STDERR_FILENO, text);

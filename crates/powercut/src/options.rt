@@ -5,8 +5,8 @@ use crate::kinds::update_named;
 use crate::text::same;
 use crate::torn::TRY_SOME;
 use crate::torn::TRY_UNKNOWN;
+use base::slice::part;
 use leaf::bytes::get8;
-use slice::part;
 use std::num::wrapping_add_usize;
 
 // What the arguments so far come to: go on, help, or what is wrong.

@@ -1,5 +1,5 @@
 // Pieces of a line.
-use number::wider;
+use base::number::wider;
 
 pub fn say(fd: i32, text: &[u8]) {
     io::write_all(fd, text);

@@ -13,8 +13,8 @@ use crate::torn::HEADER_WRITE;
 use crate::torn::TRY_NONE;
 use crate::trial::Count;
 use crate::trial::Plan;
+use base::slice::part;
 use leaf::bytes::get8;
-use slice::part;
 use std::num::wrapping_add_u32;
 use std::num::wrapping_sub_u32;
 
@@ -92,7 +92,7 @@ fn patterns(fd: i32) {
 }
 
 fn rect(fd: i32, mark: u8, x: u32, y: u32, width: u32) {
-    field(fd, b"<rect class=\"m", number::wide(mark));
+    field(fd, b"<rect class=\"m", base::number::wide(mark));
     field(fd, b"\" x=\"", x);
     field(fd, b"\" y=\"", y);
     field(fd, b"\" width=\"", width);

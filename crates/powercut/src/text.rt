@@ -1,6 +1,6 @@
 // Words of an argument, and runs of bytes.
+use base::slice::part;
 use leaf::bytes::get8;
-use slice::part;
 use std::num::wrapping_add_usize;
 
 // What stands from a place up to another.

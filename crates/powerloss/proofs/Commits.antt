@@ -15,7 +15,7 @@ use lib.Seq.{getD-take, length-take-le}
 use lib.Signed.{leZ}
 use mir.Syntax.{w64}
 use mir.Val.{SFits}
-use Rattle.number.specs.Number.{pick}
+use Rattle.base.specs.Number.{pick}
 use Rattle.leaf.specs.Bytes.{byte}
 use Rattle.leaf.specs.Crc.{crc32}
 use Rattle.leaf.specs.Generation.{next}

@@ -10,7 +10,7 @@ use borrow.Author.Tests.{le-leb, lt-leb, leb-true, leb-false}
 use lib.Dec.{leb}
 use lib.IntN.{ℤ}
 use lib.ListN.{length, take}
-use Rattle.number.specs.Number.{pick}
+use Rattle.base.specs.Number.{pick}
 use Rattle.header.specs.Region.{regionSize, bankOf}
 use Rattle.bank.specs.Bank.{loaded}
 use Rattle.flash.specs.Flash.{Op, size, torn, applied, performed}

@@ -8,7 +8,7 @@ use native.Mathlib.Numerals.{add-one}
 use borrow.Author.Tests.{le-leb, ne-eqb}
 use lib.Dec.{leb, eqb}
 use lib.ListN.{length, take}
-use Rattle.number.specs.Number.{pick}
+use Rattle.base.specs.Number.{pick}
 use Rattle.refusal.specs.declared.Refusal.the-variants.{Full, Turn}
 use Rattle.record.specs.declared.Source.{Source}
 use Rattle.header.specs.Region.{capacity}

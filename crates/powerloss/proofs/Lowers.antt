@@ -12,7 +12,7 @@ use lib.IntN.{ℤ}
 use lib.ListN.{length}
 use mir.Syntax.{w64}
 use mir.Val.{SFits}
-use Rattle.number.specs.Number.{pick}
+use Rattle.base.specs.Number.{pick}
 use Rattle.leaf.proofs.Checksum.{crc32-nil}
 use Rattle.refusal.specs.declared.Refusal.the-variants.{Turn}
 use Rattle.record.specs.declared.Source.{Source}

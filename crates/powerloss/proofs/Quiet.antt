@@ -10,7 +10,7 @@ use borrow.Author.Tests.{eqb-true, eqb-false, leb-true, ltb-true, not-true}
 use lib.Dec.{leb, ltb, eqb, lit<}
 use lib.ListN.{length, take, drop, getD, length-set}
 use lib.Seq.{drop-length, length-take-le}
-use Rattle.number.specs.Number.{pick}
+use Rattle.base.specs.Number.{pick}
 use Rattle.leaf.specs.Crc.{crc32}
 use Rattle.leaf.proofs.Checksum.{crc32-nil, crc32-lt}
 use Rattle.refusal.specs.declared.Refusal.the-variants.{Region, Argument, Full, Turn}

@@ -9,7 +9,7 @@ use borrow.Author.Tests.{leb-true, not-true}
 use lib.Dec.{leb}
 use lib.ListN.{length, take, drop, length-append, length-take}
 use lib.Seq.{sets, sets-eq, length-sets, drop-append-le, take-at, length-take-le}
-use Rattle.number.specs.Number.{pick}
+use Rattle.base.specs.Number.{pick}
 use Rattle.leaf.specs.Crc.{crc32}
 use Rattle.leaf.proofs.Checksum.{crc32-append}
 use Rattle.refusal.specs.declared.Refusal.the-variants.{Full, Turn}

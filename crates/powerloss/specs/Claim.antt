@@ -14,7 +14,7 @@ use lib.IntN.{ℤ}
 use lib.ListN.{length, take}
 use mir.Syntax.{w64}
 use mir.Val.{SFits}
-use Rattle.number.specs.Number.{pick}
+use Rattle.base.specs.Number.{pick}
 use Rattle.bank.specs.Bank.{loaded}
 use Rattle.header.specs.Region.{regionSize, dataOf}
 use Rattle.headerwrite.specs.Types.{Bytes, Proper}

@@ -12,7 +12,7 @@ use Rattle.header.specs.declared.Bank.{Bank}
 use Rattle.header.specs.Region as Region
 use Rattle.header.specs.Header as Header
 use Rattle.record.specs.declared.Source.{Source}
-use Rattle.number.specs.Number.{pick}
+use Rattle.base.specs.Number.{pick}
 use Rattle.flash.specs.Flash.{Op, size, torn, applied}
 use Rattle.writer.specs.declared.Answer.{Answer}
 use Rattle.writer.specs.declared.Answer.the-variants.{Done, Took, NoneDue, Same, Different, Refused}

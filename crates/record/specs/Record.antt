@@ -4,7 +4,7 @@ use Prim.Native.Nat.{ℕ, _+_, _*_, _-_}
 use lib.Dec.{ltb}
 use lib.IntN.{pos}
 use lib.ListN.{take}
-use Rattle.number.specs.Number.{pick}
+use Rattle.base.specs.Number.{pick}
 use Rattle.leaf.specs.Bytes.{byte, word, time, le32, le64}
 use Rattle.record.specs.Runs.{many, puts, fill}
 use Rattle.record.specs.declared.Block.{Block}

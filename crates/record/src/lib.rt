@@ -20,12 +20,12 @@ ghost use Rattle.record.specs.Record.{
   tailBytes,
   sourceBytes,
 };
+use base::number::wide;
 use leaf::bytes::get;
 use leaf::bytes::get_time;
 use leaf::bytes::get8;
 use leaf::bytes::put;
 use leaf::bytes::put_time;
-use number::wide;
 
 // Where a table's bytes stand in the data, and their CRC.
 #[repr(C)]

@@ -7,8 +7,8 @@ ghost use Prim.Native.Nat.{_+_, _*_, _%_, _^_, _≤_, _<_};
 ghost use lib.Bits.{bitXor};
 ghost use lib.ListN.{length, take, drop};
 ghost use Rattle.register.specs.Register.{steps, run, little};
-use number::wide64;
-use number::wider;
+use base::number::wide64;
+use base::number::wider;
 ghost use Rattle.register.specs.Pending.{Nibbles, two, three, five};
 
 // Entry 16 j + n is the nibble n after 4 (j + 1) steps.

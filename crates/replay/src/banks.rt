@@ -14,6 +14,7 @@ use bank::Checking;
 use bank::Loaded;
 use bank::Progress;
 use bank::Turn;
+use base::number::wide;
 use header::Bank;
 use header::Validated;
 use key::SameKey;
@@ -21,7 +22,6 @@ use loaded::Day;
 use loaded::Days;
 use loaded::FreshAnswer;
 use loaded::Outcome;
-use number::wide;
 use record::Source;
 use refusal::Refusal;
 

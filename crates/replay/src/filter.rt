@@ -5,9 +5,9 @@ use crate::text::number32;
 use crate::text::place;
 use crate::text::unhex;
 use crate::text::word;
+use base::slice::part;
 use bloom::Filter;
 use leaf::bytes::get8;
-use slice::part;
 
 // Whether the answer is what the line has last, 1 for present and 0 for absent.
 fn is_answer(l: &[u8], a: Filter) -> bool {

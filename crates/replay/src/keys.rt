@@ -3,10 +3,10 @@ use crate::text::first;
 use crate::text::is_word;
 use crate::text::unhex;
 use crate::text::word;
+use base::number::wide;
 use key::KeyAnswer;
 use key::SameKey;
 use leaf::bytes::get8;
-use number::wide;
 
 // Each byte as a number, 0 past the end.
 fn widen(bytes: &[u8], out: &mut [u32]) {

@@ -50,7 +50,7 @@ fn next(l: &[u8]) -> bool {
 }
 
 fn rotate(l: &[u8]) -> bool {
-    number::rotate13(number32(l, word(l, 1))) == number32(l, word(l, 2))
+    base::number::rotate13(number32(l, word(l, 1))) == number32(l, word(l, 2))
 }
 
 fn crc(l: &[u8]) -> bool {

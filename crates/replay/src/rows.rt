@@ -7,11 +7,11 @@ use crate::text::place;
 use crate::text::unhex;
 use crate::text::word;
 use crate::text::words;
+use base::number::wide;
+use base::slice::part;
 use leaf::bytes::get8;
-use number::wide;
 use row::RowAnswer;
 use rowread::ReadAnswer;
-use slice::part;
 use std::num::wrapping_add_usize;
 
 pub fn names_line(l: &[u8]) -> bool {

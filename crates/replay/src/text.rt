@@ -1,7 +1,7 @@
 // Words of a line, numbers and bytes in them.
 ghost use Prim.Native.Nat.{_<_};
+use base::slice::part;
 use leaf::bytes::get8;
-use slice::part;
 
 // The place of the first byte b from a place on, or the end.
 pub fn find(s: &[u8], from: usize, b: u8) -> usize {

@@ -11,7 +11,7 @@ use lib.Dec.{eqb, leb}
 use lib.ListN.{length, take, drop, getD, set, drop-of-length-le, length-drop, length-append, length-set, length-take}
 use lib.Seq.{sets, sets-eq, length-sets, set-set, set-comm, drop-cons, drop-drop, take-all, take-add, getD-take, getD-drop, getD-set-same, getD-set-other}
 use borrow.Author.Tests.{eq-eqb, ne-eqb, eqb-true, le-leb, lt-leb}
-use Rattle.number.specs.Number.{pick}
+use Rattle.base.specs.Number.{pick}
 use Rattle.csv.specs.Write.{special, anySpecial, doubled, fieldOf, behind, rowOf}
 use Rattle.csv.proofs.Laws.{sets-append}
 use Rattle.row.specs.Write.{cutBy}

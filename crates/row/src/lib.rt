@@ -4,7 +4,7 @@ ghost use Prim.Native.Nat.{_+_, _-_, _≤_, _<_, min};
 ghost use lib.Dec.{eqb, leb};
 ghost use lib.ListN.{length, take, drop};
 ghost use lib.Seq.{sets};
-ghost use Rattle.number.specs.Number.{pick};
+ghost use Rattle.base.specs.Number.{pick};
 ghost use Rattle.csv.specs.Write.{special, anySpecial, doubled, fieldOf, rowOf};
 ghost use Rattle.row.specs.Columns.{columnCount, namesLine};
 ghost use Rattle.row.specs.Write.{handed, within, after, namesAnswer, rowAnswer};

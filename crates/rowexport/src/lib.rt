@@ -38,7 +38,7 @@ pub struct FilterNumbers {
 fn number_of(r: Refusal) -> u32
     ensures { λ n. ⌜ n ≡ numberOf r ⌝ }
 {
-    number::wide(refusal::number(r))
+    base::number::wide(refusal::number(r))
 }
 
 fn of_row(a: RowAnswer) -> RowNumbers

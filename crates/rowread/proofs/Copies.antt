@@ -14,7 +14,7 @@ use Rattle.csv.proofs.Grammar.{field-complete, comma-stops, lf-stops, sound}
 use Rattle.csv.proofs.Laws.{sets-append}
 use Rattle.csv.proofs.Places.{field-place}
 use Rattle.rowread.specs.Stored.{valuesOf, joined, endsOf}
-use Rattle.number.specs.Number.{pick}
+use Rattle.base.specs.Number.{pick}
 use Rattle.rowread.specs.Steps.{valueOf, restOf, IsRow, isStop, lineOf}
 use Rattle.rowread.proofs.Lines.{no-quote, run-end, run-part}
 use Rattle.rowread.proofs.Laws.{inner-out, inner-byte, inner-twice, inner-close, past, plain-size, field-plain}

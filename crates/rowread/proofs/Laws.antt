@@ -11,7 +11,7 @@ use lib.Dec.{eqb}
 use lib.ListN.{length, drop, getD, drop-of-length-le, length-drop, length-append, List·getD-eq-default}
 use lib.Seq.{drop-cons, getD-drop, drop-drop}
 use borrow.Author.Tests.{eq-eqb, ne-eqb, eqb-true}
-use Rattle.number.specs.Number.{pick}
+use Rattle.base.specs.Number.{pick}
 use Rattle.csv.specs.Csv.{isText}
 use Rattle.csv.specs.Read.{Got, got, bad, push, plainValue, plainRest, inner, closing, fieldAt, Row, row, malformed, front, rowEnd, ended, parted, values}
 use Rattle.csv.proofs.Places.{field-place}

@@ -11,7 +11,7 @@ use lib.Dec.{eqb}
 use lib.ListN.{length, take, drop, getD, set, drop-of-length-le, length-drop, length-take, length-append}
 use lib.Seq.{sets, drop-cons, drop-drop, take-all, take-suc, split-at}
 use borrow.Author.Tests.{eq-eqb, ne-eqb, eqb-true}
-use Rattle.number.specs.Number.{pick}
+use Rattle.base.specs.Number.{pick}
 use Rattle.csv.specs.Csv.{isText, NonEscaped, none, text, Field, nonEscaped, lf, Record, last, more}
 use Rattle.csv.specs.Read.{Got, push, inner}
 use Rattle.csv.proofs.Laws.{sets-append}

@@ -8,7 +8,7 @@ use lib.Dec.{eqb, leb}
 use lib.ListN.{length, take, drop, length-append, take-append-drop}
 use lib.Seq.{take-append-add, drop-append-seam, drop-drop}
 use borrow.Author.Tests.{le-leb, eq-eqb, ne-eqb}
-use Rattle.number.specs.Number.{pick}
+use Rattle.base.specs.Number.{pick}
 use Rattle.csv.specs.Csv.{Record, maxRow}
 use Rattle.csv.specs.Write.{rowOf, fieldOf, behind}
 use Rattle.csv.specs.Read as Csv

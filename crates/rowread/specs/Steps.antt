@@ -6,7 +6,7 @@ use mathlib.Core.List.{List, [], _∷_, _++_}
 use lib.Dec.{eqb}
 use lib.ListN.{length, take, drop, getD}
 use lib.Seq.{sets}
-use Rattle.number.specs.Number.{pick}
+use Rattle.base.specs.Number.{pick}
 use Rattle.csv.specs.Csv.{Record}
 use Rattle.csv.specs.Read.{Got, got, bad, Row, row, malformed, values}
 use Rattle.rowread.specs.declared.Piece.{Piece}

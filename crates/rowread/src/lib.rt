@@ -4,7 +4,7 @@ ghost use mathlib.Core.Bool.{true};
 ghost use Prim.Native.Nat.{_+_, _-_, _≤_, _<_, min};
 ghost use lib.ListN.{length, take, drop, getD};
 ghost use lib.Seq.{sets};
-ghost use Rattle.number.specs.Number.{pick};
+ghost use Rattle.base.specs.Number.{pick};
 ghost use Rattle.csv.specs.Csv.{isText, Inner, Field};
 ghost use Rattle.csv.specs.Read.{plainValue, inner, fieldAt, rowEnd, values};
 ghost use Rattle.rowread.specs.Stored.{valuesOf, valuesAt, joined, endsOf, readAnswer, after};

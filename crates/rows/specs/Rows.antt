@@ -3,7 +3,7 @@ use mathlib.Core.List.{List, []}
 use Prim.Native.Nat.{ℕ, _+_}
 use lib.Dec.{leb, ltb}
 use lib.ListN.{take, drop, getD}
-use Rattle.number.specs.Number.{pick}
+use Rattle.base.specs.Number.{pick}
 use Rattle.refusal.specs.declared.Refusal.the-variants.{Source as NoSuchSource}
 use Rattle.record.specs.declared.Block.{Block}
 use Rattle.record.specs.Record.{noBlock}

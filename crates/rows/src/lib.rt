@@ -6,6 +6,7 @@ ghost use Rattle.record.specs.Record.{noBlock};
 ghost use Rattle.rowread.specs.Stored.{joined, endsOf, after};
 ghost use Rattle.rows.specs.Rows.{bytesOf, valuesIn, askedRow};
 use bank::bank_of;
+use base::slice::part;
 use loaded::Outcome;
 use record::Block;
 use record::Source;
@@ -13,7 +14,6 @@ use refusal::Refusal;
 use row::column_count;
 use rowread::ReadAnswer;
 use rowread::read_row;
-use slice::part;
 
 // The block of a table.
 fn block_of(s: Source, table: u32) -> Block

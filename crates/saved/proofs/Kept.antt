@@ -2,7 +2,7 @@
 use mathlib.Core.Path.{_≡_, refl}
 use mathlib.Core.Bool.{Bool, true, false}
 use mathlib.Core.List.{List}
-use Rattle.number.specs.Number.{pick}
+use Rattle.base.specs.Number.{pick}
 use Rattle.record.specs.declared.Source.{Source}
 use Rattle.writer.specs.declared.Parts.{Parts}
 use Rattle.writer.specs.Parts.{withSources}

@@ -4,7 +4,7 @@ use mathlib.Core.Bool.{Bool, true, false, not, _&&_}
 use Prim.Native.Nat.{ℕ}
 use lib.Dec.{leb, eqb}
 use lib.IntN.{pos}
-use Rattle.number.specs.Number.{pick}
+use Rattle.base.specs.Number.{pick}
 use Rattle.refusal.specs.declared.Refusal.the-variants.{Turn}
 use Rattle.header.specs.declared.Bank.{Bank}
 use Rattle.bank.specs.declared.Loaded.{Loaded}

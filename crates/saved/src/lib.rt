@@ -1,6 +1,6 @@
 // A writer's state and a call's answer as plain numbers, for callers outside: whatever bytes they hold are some State.
 ghost use mathlib.Core.Path.{_≡_};
-ghost use Rattle.number.specs.Number.{pick};
+ghost use Rattle.base.specs.Number.{pick};
 ghost use Rattle.refusal.specs.Refusal.{numberOf};
 ghost use Rattle.writer.specs.declared.Stage.the-variants as Stages;
 ghost use Rattle.writer.specs.Parts.{partsOf, withSources, stepWith};
@@ -279,7 +279,7 @@ pub struct UpdateStep {
 fn number_of(r: Refusal) -> u32
     ensures { λ n. ⌜ n ≡ numberOf r ⌝ }
 {
-    number::wide(refusal::number(r))
+    base::number::wide(refusal::number(r))
 }
 
 fn done(answer: u32, count: u32) -> UpdateNumbers

@@ -9,7 +9,7 @@ use native.Mathlib.Nat.{mul-comm, mul-le-mul-right}
 use lib.ListN.{length, take, getD}
 use lib.Seq.{take-suc, length-take-le}
 use borrow.Author.Tests.{eq-eqb, ne-eqb}
-use Rattle.number.specs.Number.{pick}
+use Rattle.base.specs.Number.{pick}
 use Rattle.record.specs.Runs.{many}
 use Rattle.record.proofs.Series.{many-more, length-many}
 use Rattle.refusal.specs.declared.Refusal.the-variants.{Region, Turn}

@@ -2,7 +2,7 @@
 ghost use mathlib.Core.Path.{_≡_};
 ghost use Prim.Native.Nat.{_≤_};
 ghost use lib.ListN.{take};
-ghost use Rattle.number.specs.Number.{pick};
+ghost use Rattle.base.specs.Number.{pick};
 ghost use Rattle.header.specs.Header.{recordsOf};
 ghost use Rattle.writer.specs.declared.Answer.the-variants as Answers;
 ghost use Rattle.unchanged.specs.Unchanged as Unchanged;

@@ -10,7 +10,7 @@ use lib.IntN.{ℤ}
 use lib.ListN.{length, take, drop, replicate}
 use lib.Seq.{take-at}
 use borrow.Author.Tests.{eq-eqb, ne-eqb, le-leb, lt-leb, leb-true}
-use Rattle.number.specs.Number.{pick}
+use Rattle.base.specs.Number.{pick}
 use Rattle.refusal.specs.declared.Refusal.{Refusal}
 use Rattle.refusal.specs.declared.Refusal.the-variants.{Region, Argument, Identity, Small, Full, Turn, Row}
 use Rattle.leaf.specs.Bytes.{le32, written}

@@ -1,6 +1,6 @@
 use Rattle.loaded.specs.declared.SourceTimes.{SourceTimes}
 use Rattle.loaded.specs.Freshness.{older}
-use Rattle.number.specs.Number.{pick}
+use Rattle.base.specs.Number.{pick}
 use lib.Signed.{leZ}
 use lib.IntN.{pos}
 use mathlib.Core.Bool.{true, _&&_}

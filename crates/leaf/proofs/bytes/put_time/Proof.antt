@@ -2,7 +2,7 @@ use mathlib.Core.Path.{_∙_, sym, ap}
 use native.Mathlib.Omega.{arith}
 use mir.Syntax.{w64}
 use mir.ValLaws.{toZ-ofZ}
-use Rattle.number.specs.Number.{unsigned}
+use Rattle.base.specs.Number.{unsigned}
 use Rattle.leaf.specs.Bytes.{le64}
 use Rattle.leaf.proofs.Laws.{written-not, length-le64}
 use Rattle.leaf.proofs.Steps.{put8}

@@ -1,5 +1,5 @@
 use mathlib.Core.Path.{_≡_}
-use Rattle.number.specs.Number.{wrappingSub32}
+use Rattle.base.specs.Number.{wrappingSub32}
 use Rattle.leaf.specs.Generation.{newer}
 use Rattle.leaf.proofs.Numbers.{diff, positive}
 use borrow.Author.Needs.{needs}

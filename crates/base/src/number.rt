@@ -2,7 +2,7 @@
 ghost use mathlib.Core.Path.{_≡_};
 ghost use Prim.Native.Nat.{_<_};
 ghost use lib.Signed.{leZ, ltZ};
-ghost use Rattle.number.specs.Number.{rotateLeft32};
+ghost use Rattle.base.specs.Number.{rotateLeft32};
 
 // A byte as a 32-bit number.
 pub fn wide(x: u8) -> u32

@@ -1,7 +1,7 @@
 use mathlib.Core.Path.{refl}
 use native.Mathlib.Omega.{arith}
-use Rattle.number.proofs.wide64.Statement.{statement}
-use Rattle.number.proofs.wide64.Tie as tie
+use Rattle.base.proofs.number.wide64.Statement.{statement}
+use Rattle.base.proofs.number.wide64.Tie as tie
 
 returns : tie.Need-returns
 returns c = (refl, omega arith)

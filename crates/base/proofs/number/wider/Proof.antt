@@ -1,7 +1,7 @@
 use mathlib.Core.Path.{refl}
 use native.Mathlib.Omega.{arith}
-use Rattle.number.proofs.wider.Statement.{statement}
-use Rattle.number.proofs.wider.Tie as tie
+use Rattle.base.proofs.number.wider.Statement.{statement}
+use Rattle.base.proofs.number.wider.Tie as tie
 
 returns : tie.Need-returns
 returns c = (refl, omega arith)

@@ -2,10 +2,10 @@ use mathlib.Core.Path.{_≡_, ap}
 use Prim.Native.Nat.{ℕ, _+_, _-_}
 use native.Mathlib.Omega.{arith}
 use lib.ListN.{length, take, drop}
-use Rattle.slice.proofs.Parts.{none, rest}
+use Rattle.base.proofs.Parts.{none, rest}
 use borrow.Author.Needs.{needs}
-use Rattle.slice.proofs.part.Statement.{statement}
-use Rattle.slice.proofs.part.Tie as tie
+use Rattle.base.proofs.slice.part.Statement.{statement}
+use Rattle.base.proofs.slice.part.Tie as tie
 
 sub-result : tie.Need-sub-result
 sub-result c = search needs

@@ -1,0 +1,4 @@
+// number: Small operations on numbers that the language lacks, or whose contract spares callers a proof. Below every other crate.
+// slice: Parts of a slice of bytes.
+pub mod number;
+pub mod slice;
