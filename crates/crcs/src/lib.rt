@@ -1,8 +1,8 @@
 // Two CRCs over the same bytes.
 ghost use mathlib.Core.Path.{_≡_};
 ghost use Rattle.leaf.specs.Crc as Crc;
-use registers::Both;
-use registers::feed_both;
+use checksum::pair::Both;
+use checksum::pair::feed_both;
 
 // Both CRCs of bytes that follow others whose CRCs are a and b, as crc32 gives each.
 pub fn crc32_both(a: u32, b: u32, bytes: &[u8]) -> Both

@@ -7,8 +7,8 @@ use native.Mathlib.Nat.{mod-lt, mod-eq-of-lt}
 use native.Mathlib.Omega.{arith}
 use lib.Pow.{pow-pos}
 use lib.ListN.{length, replicate}
-use Rattle.register.specs.Register.{run}
-use Rattle.register.proofs.Steps.{run-append, run-lt}
+use Rattle.checksum.specs.Register.{run}
+use Rattle.checksum.proofs.Steps.{run-append, run-lt}
 use Rattle.leaf.specs.Polynomial.{zeros, plus, add, remainder, quotient, Division}
 use Rattle.leaf.specs.Crc.{bits, frame, shifted, complementFirst, complementedRemainder, fcs, crc32}
 use Rattle.leaf.proofs.Remainder.{division, add-nil, length-add}

@@ -10,9 +10,9 @@ use lib.Pow.{pow-pos}
 use lib.Bits.{bitXor, xor-comm, xor-zero-r, xor-block}
 use lib.Dec.{eqb}
 use lib.ListN.{length, replicate, length-append, length-map}
-use Rattle.register.specs.Register.{step, steps, run, little}
-use Rattle.register.proofs.Xor.{digit-ind}
-use Rattle.register.proofs.Steps.{run-steps}
+use Rattle.checksum.specs.Register.{step, steps, run, little}
+use Rattle.checksum.proofs.Xor.{digit-ind}
+use Rattle.checksum.proofs.Steps.{run-steps}
 use Rattle.leaf.specs.Polynomial.{zeros, plus, add, powers, has, coefficients, turn, remainder}
 use Rattle.leaf.specs.Crc.{bits, frame, number, shifted, complementedRemainder, crc32}
 use Rattle.leaf.proofs.Remainder.{tail, turn-tail, length-add, length-turn, length-remainder}

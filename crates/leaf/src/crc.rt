@@ -6,5 +6,5 @@ ghost use Rattle.leaf.specs.Crc as Crc;
 pub fn crc32(start: u32, bytes: &[u8]) -> u32
     ensures { λ r. ⌜ r ≡ Crc.crc32 start (now (bytes .entry)) ⌝ }
 {
-    !register::feed(!start, bytes)
+    !checksum::register::feed(!start, bytes)
 }

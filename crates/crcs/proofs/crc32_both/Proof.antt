@@ -4,7 +4,7 @@ use mathlib.Core.List.{List}
 use Prim.Native.Nat.{ℕ, _-_, _^_, _<_}
 use native.Mathlib.Nat.{mod-eq-of-lt}
 use borrow.Author.Needs.{needs}
-use Rattle.register.specs.Register.{run}
+use Rattle.checksum.specs.Register.{run}
 use Rattle.leaf.specs.Crc.{crc32}
 use Rattle.leaf.proofs.Shift.{crc32-run}
 use Rattle.crcs.proofs.crc32_both.Statement.{statement}

@@ -1,0 +1,59 @@
+use mathlib.Core.Path.{_≡_, refl, sym, ap, _∙_}
+use Prim.Native.Nat.{ℕ, _+_, _-_, _*_, _^_, _≤_}
+use native.Mathlib.Nat.{zero-add}
+use native.Mathlib.Omega.{arith}
+use borrow.Author.Needs.{needs}
+use lib.Bits.{bitXor}
+use lib.ListN.{length, drop}
+use Rattle.checksum.specs.Register.{steps, run}
+use lib.ListN.{drop-of-length-le}
+use Rattle.checksum.proofs.Fold.{byte-at}
+use Rattle.checksum.proofs.register.bytes.Statement.{statement}
+use Rattle.checksum.proofs.register.bytes.Tie as tie
+
+abbrev Inv-loop : tie.InvT-loop
+Inv-loop t crc s from c₀ i₀ c i = (i ≤ length s) × (run c (drop i s) ≡ run crc (drop from s))
+
+abbrev μ-loop : tie.MeasureT-loop
+μ-loop t crc s from c₀ i₀ c i = length s - i
+
+loop-holds : tie.Need-loop-holds Inv-loop μ-loop
+loop-holds c = (omega arith, refl)
+
+shared-slice-read-byte : tie.Need-shared-slice-read-byte Inv-loop μ-loop
+shared-slice-read-byte c = search needs
+
+byte-requires : tie.Need-byte-requires Inv-loop μ-loop
+byte-requires c κs = search needs
+
+add-i : tie.Need-add-i Inv-loop μ-loop
+add-i c = search needs
+
+loop-less : tie.Need-loop-less Inv-loop μ-loop
+loop-less c = search needs
+
+loop-again : tie.Need-loop-again Inv-loop μ-loop
+loop-again c =
+    let l = c .before .before .before .loop in
+    let s = c .before .before .before .before .before .args .s .now in
+    (omega arith, ap (λ (z : ℕ). run z (drop (l .i + 1) s)) (c .byte .ensures) ∙ byte-at (l .c) (l .i) s (omega arith) ∙ l .inv .1)
+
+returns : tie.Need-returns Inv-loop μ-loop
+unfolding run
+returns c =
+    let l = c .before .loop in
+    rw (drop-of-length-le (c .before .before .before .args .s .now) {i = l .i} (omega arith)) at (l .inv .1)
+
+pub bytes-spec : {M : Type 1} → statement M
+bytes-spec =
+    tie.close
+    (tie.spec
+    Inv-loop
+    μ-loop
+    loop-holds
+    shared-slice-read-byte
+    byte-requires
+    add-i
+    loop-less
+    loop-again
+    returns)

@@ -1,0 +1,31 @@
+use mathlib.Core.Path.{refl}
+use Rattle.checksum.specs.Register.{step, steps}
+use Rattle.checksum.proofs.Table.{nibbles, follows, table}
+use borrow.Author.Needs.{needs}
+use Rattle.checksum.proofs.register.feed.Statement.{statement}
+use Rattle.checksum.proofs.register.feed.Tie as tie
+
+short-requires : tie.Need-short-requires
+short-requires c κs = search needs
+
+returns : tie.Need-returns
+returns c = search needs
+
+feed-near-requires : tie.Need-feed-near-requires
+unfolding nibbles follows steps step
+feed-near-requires c κs = (table _ tt refl, search needs)
+
+returns-2 : tie.Need-returns-2
+returns-2 c = search needs
+
+feed-far-requires : tie.Need-feed-far-requires
+unfolding nibbles follows steps step
+feed-far-requires c κs = (table _ tt refl, search needs)
+
+returns-3 : tie.Need-returns-3
+returns-3 c = search needs
+
+pub feed-spec : {M : Type 1} → statement M
+feed-spec =
+    tie.close
+    (tie.spec short-requires returns feed-near-requires returns-2 feed-far-requires returns-3)

@@ -1,0 +1,39 @@
+use mathlib.Core.Path.{sym, ap, _∙_}
+use Prim.Native.Nat.{_+_}
+use native.Mathlib.Omega.{arith}
+use lib.ListN.{drop-of-length-le}
+use Rattle.checksum.specs.Register.{run}
+use borrow.Author.Needs.{needs}
+use Rattle.checksum.proofs.register.feed_far.Statement.{statement}
+use Rattle.checksum.proofs.register.feed_far.Tie as tie
+
+far-all-requires : tie.Need-far-all-requires
+far-all-requires c κs = search needs
+
+close-far-requires : tie.Need-close-far-requires
+close-far-requires c κs = search needs
+
+add-if1 : tie.Need-add-if1
+add-if1 c = search needs
+
+returns : tie.Need-returns
+unfolding run
+returns c =
+    let s = c .before .before .before .before .args .s .now in
+    let p = c .before .before .far-all in
+    let r = c .before .close-far in
+    ap (run (r .result)) (sym (drop-of-length-le s {i = p .result .at + 40} (omega arith))) ∙ r .ensures ∙ p .ensures .1
+
+add-rest : tie.Need-add-rest
+add-rest c = search needs
+
+rest-requires : tie.Need-rest-requires
+rest-requires c κs = search needs
+
+returns-2 : tie.Need-returns-2
+returns-2 c = search needs
+
+pub feed-far-spec : {M : Type 1} → statement M
+feed-far-spec =
+    tie.close
+    (tie.spec far-all-requires close-far-requires add-if1 returns add-rest rest-requires returns-2)

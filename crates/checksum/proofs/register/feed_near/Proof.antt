@@ -1,0 +1,46 @@
+use mathlib.Core.Path.{sym, ap, _∙_}
+use Prim.Native.Nat.{_+_}
+use native.Mathlib.Omega.{arith}
+use lib.ListN.{drop-of-length-le}
+use Rattle.checksum.specs.Register.{run}
+use borrow.Author.Needs.{needs}
+use Rattle.checksum.proofs.register.feed_near.Statement.{statement}
+use Rattle.checksum.proofs.register.feed_near.Tie as tie
+
+near-all-requires : tie.Need-near-all-requires
+near-all-requires c κs = search needs
+
+close-near-requires : tie.Need-close-near-requires
+close-near-requires c κs = search needs
+
+add-if1 : tie.Need-add-if1
+add-if1 c = search needs
+
+returns : tie.Need-returns
+unfolding run
+returns c =
+    let s = c .before .before .before .before .args .s .now in
+    let p = c .before .before .near-all in
+    let r = c .before .close-near in
+    ap (run (r .result)) (sym (drop-of-length-le s {i = p .result .at + 24} (omega arith))) ∙ r .ensures ∙ p .ensures .1
+
+add-rest : tie.Need-add-rest
+add-rest c = search needs
+
+rest-requires : tie.Need-rest-requires
+rest-requires c κs = search needs
+
+returns-2 : tie.Need-returns-2
+returns-2 c = search needs
+
+pub feed-near-spec : {M : Type 1} → statement M
+feed-near-spec =
+    tie.close
+    (tie.spec
+    near-all-requires
+    close-near-requires
+    add-if1
+    returns
+    add-rest
+    rest-requires
+    returns-2)

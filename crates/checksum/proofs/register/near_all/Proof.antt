@@ -1,0 +1,67 @@
+use mathlib.Core.Path.{_≡_, refl, sym, ap, _∙_}
+use Prim.Native.Nat.{ℕ, _+_, _-_, _*_, _^_, _≤_}
+use native.Mathlib.Nat.{zero-add}
+use native.Mathlib.Omega.{arith}
+use borrow.Author.Needs.{needs}
+use lib.Bits.{bitXor}
+use lib.ListN.{length, drop}
+use Rattle.checksum.specs.Register.{steps, run}
+use Rattle.checksum.specs.Pending.{three}
+use Rattle.checksum.proofs.Fold.{fold-at}
+use Rattle.checksum.proofs.register.near_all.Statement.{statement}
+use Rattle.checksum.proofs.register.near_all.Tie as tie
+
+abbrev Inv-loop : tie.InvT-loop
+Inv-loop crc s p₀ i₀ p i = (i + 24 ≤ length s) × (run (three (p .a) (p .b) (p .c)) (drop i s) ≡ run crc s)
+
+abbrev μ-loop : tie.MeasureT-loop
+μ-loop crc s p₀ i₀ p i = length s - i
+
+wider-requires : tie.Need-wider-requires Inv-loop μ-loop
+wider-requires c κs = search needs
+
+loop-holds : tie.Need-loop-holds Inv-loop μ-loop
+loop-holds c = (omega arith, ap (λ (z : ℕ). run z (c .before .before .args .s .now)) (zero-add (c .wider .result) ∙ c .wider .ensures .0))
+
+sub-loop : tie.Need-sub-loop Inv-loop μ-loop
+sub-loop c = search needs
+
+load-requires : tie.Need-load-requires Inv-loop μ-loop
+load-requires c κs = search needs
+
+fold-near-requires : tie.Need-fold-near-requires Inv-loop μ-loop
+fold-near-requires c κs = search needs
+
+add-i : tie.Need-add-i Inv-loop μ-loop
+add-i c = search needs
+
+loop-less : tie.Need-loop-less Inv-loop μ-loop
+loop-less c = search needs
+
+loop-again : tie.Need-loop-again Inv-loop μ-loop
+loop-again c =
+    let l = c .before .before .before .loop in
+    let s = c .before .before .before .before .before .before .args .s .now in (
+      omega arith,
+      fold-at 192 (three (l .p .a) (l .p .b) (l .p .c)) (three (c .fold-near .result .a) (c .fold-near .result .b) (c .fold-near .result .c)) (c .before .load .result) (l .i) s (omega arith) (c .before .load .ensures) (c .fold-near .ensures)
+          ∙ l .inv .1,
+    )
+
+returns : tie.Need-returns Inv-loop μ-loop
+returns c = c .before .loop .inv
+
+pub near-all-spec : {M : Type 1} → statement M
+near-all-spec =
+    tie.close
+    (tie.spec
+    Inv-loop
+    μ-loop
+    wider-requires
+    loop-holds
+    sub-loop
+    load-requires
+    fold-near-requires
+    add-i
+    loop-less
+    loop-again
+    returns)

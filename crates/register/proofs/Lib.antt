@@ -1,7 +1,0 @@
-pub mod Xor
-pub mod Sum
-pub mod Steps
-pub mod Little
-pub mod Multiple
-pub mod Fold
-pub mod Table
