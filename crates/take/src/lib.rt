@@ -9,7 +9,7 @@ ghost use Rattle.writer.specs.Parts.{withSources, stepWith};
 ghost use Rattle.writer.specs.declared.Answer.the-variants as Answers;
 ghost use Rattle.lower.specs.Lower as Lower;
 ghost use Rattle.take.specs.Took.{partsTook, stepTook};
-use crcs::crc32_both;
+use leaf::both::crc32_both;
 use lower::may_take_parts;
 use lower::room;
 use refusal::Refusal;

@@ -5,10 +5,10 @@ use Prim.Native.Nat.{ℕ, _-_, _^_, _<_}
 use native.Mathlib.Nat.{mod-eq-of-lt}
 use borrow.Author.Needs.{needs}
 use Rattle.checksum.specs.Register.{run}
 use Rattle.leaf.specs.Crc.{crc32}
 use Rattle.leaf.proofs.Shift.{crc32-run}
-use Rattle.crcs.proofs.crc32_both.Statement.{statement}
-use Rattle.crcs.proofs.crc32_both.Tie as tie
+use Rattle.leaf.proofs.both.crc32_both.Statement.{statement}
+use Rattle.leaf.proofs.both.crc32_both.Tie as tie
 
 complemented : (start : ℕ) (s : List ℕ) → start < 2 ^ 32 → (2 ^ 32 - 1) - run ((2 ^ 32 - 1) - start) s ≡ crc32 start s
 complemented start s h = ap (λ (x : ℕ). (2 ^ 32 - 1) - run ((2 ^ 32 - 1) - x) s) (sym (mod-eq-of-lt h)) ∙ sym (crc32-run start s)
