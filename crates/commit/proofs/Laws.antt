@@ -10,7 +10,7 @@ use borrow.Author.Tests.{eq-eqb, ne-eqb}
 use Rattle.refusal.specs.declared.Refusal.the-variants.{Region, Turn, Obsolete, Unfit}
 use Rattle.header.specs.declared.Bank.{Bank}
 use Rattle.header.specs.Region.{regionSize}
-use Rattle.headerwrite.specs.Header.{headerBytes, blankWord, commitBytes, isFit}
+use Rattle.header.specs.WriteHeader.{headerBytes, blankWord, commitBytes, isFit}
 use Rattle.flash.specs.Flash.{write, performed}
 use Rattle.writer.specs.declared.Stage.the-variants.{Headed, Committed}
 use Rattle.writer.specs.declared.Writer.{Writer}

@@ -12,7 +12,7 @@ use Rattle.record.specs.declared.Source.{Source}
 use Rattle.record.specs.Record.{noBlock}
 use Rattle.header.specs.declared.Bank.{Bank}
 use Rattle.header.specs.Region.{regionSize}
-use Rattle.headerwrite.specs.Header.{headerBytes, blankWord, commitBytes, isFit}
+use Rattle.header.specs.WriteHeader.{headerBytes, blankWord, commitBytes, isFit}
 use Rattle.flash.specs.Flash.{Op, write, performed}
 use Rattle.writer.specs.declared.Stage.{Stage}
 use Rattle.writer.specs.declared.Stage.the-variants.{Idle, Due, Headed, Committed}

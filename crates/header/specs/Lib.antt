@@ -1,2 +1,5 @@
 pub mod Region
 pub mod Header
+pub mod WriteHeader
+pub mod Types
+pub mod Claims

@@ -1,4 +1,6 @@
 // A bank's header: its numbers and records, and the tests that need no data.
+pub mod write;
+
 ghost use mathlib.Core.Path.{_≡_};
 ghost use mathlib.Core.Bool.{Bool};
 ghost use Prim.Native.Nat.{_+_, _*_, _≤_};

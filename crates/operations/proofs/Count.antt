@@ -13,7 +13,7 @@ use Rattle.refusal.specs.declared.Refusal.the-variants.{Region, Argument, Full,
 use Rattle.record.specs.declared.Source.{Source}
 use Rattle.header.specs.Region.{regionSize, capacity}
 use Rattle.header.proofs.Laws.{and-left, and-right}
-use Rattle.headerwrite.specs.Header.{headerBytes, blankWord, commitBytes, isFit}
+use Rattle.header.specs.WriteHeader.{headerBytes, blankWord, commitBytes, isFit}
 use Rattle.flash.specs.Flash.{Op, write}
 use Rattle.writer.specs.declared.Operation.the-variants.{Erase, Write, Compare}
 use Rattle.writer.specs.declared.Stage.{Stage}

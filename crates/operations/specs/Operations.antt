@@ -11,7 +11,7 @@ use lib.ListN.{length}
 use mir.Syntax.{w64}
 use mir.Val.{SFits}
 use Rattle.header.specs.Region.{regionSize}
-use Rattle.headerwrite.specs.Types.{Bytes}
+use Rattle.header.specs.Types.{Bytes}
 use Rattle.flash.specs.Flash.{Op}
 use Rattle.writer.specs.declared.Stage.the-variants.{Committed}
 use Rattle.writer.specs.declared.Answer.{Answer}

@@ -5,7 +5,7 @@ use native.Mathlib.Omega.{arith}
 use lib.ListN.{take, drop, set}
 use lib.Seq.{sets}
 use Rattle.record.specs.Runs.{fill}
-use Rattle.headerwrite.specs.Types.{Bytes}
+use Rattle.header.specs.Types.{Bytes}
 
 pub bytes-nil : Bytes []
 bytes-nil zero = omega arith

@@ -32,10 +32,10 @@ use Rattle.header.specs.Region.{regionSize, bankOf, dataOf}
 use Rattle.header.specs.Header as Header
 use Rattle.header.specs.Header.{headerOf, marked, spanOk, sourceOk, lengthOk, keyOk, countOk}
 use Rattle.header.proofs.Laws.{and-left, and-right, span-length, span-key}
-use Rattle.headerwrite.specs.Header.{headerBytes, blankWord, commitBytes, isFit}
-use Rattle.headerwrite.specs.Types.{Proper, Numbers}
-use Rattle.headerwrite.proofs.Writing.{judge-is}
-use Rattle.headerwrite.proofs.Laws.{fit-passes, fit-count, committed, records-are, unmarked, byte-47}
+use Rattle.header.specs.WriteHeader.{headerBytes, blankWord, commitBytes, isFit}
+use Rattle.header.specs.Types.{Proper, Numbers}
+use Rattle.header.proofs.Writing.{judge-is}
+use Rattle.header.proofs.WriteLaws.{fit-passes, fit-count, committed, records-are, unmarked, byte-47}
 use Rattle.bank.specs.declared.Loaded.{Loaded}
 use Rattle.bank.specs.declared.Loaded.the-variants.{Found, Nothing, Refused as NotRead}
 use Rattle.bank.specs.Bank.{validated, dataOk, generation, orElse, loaded}

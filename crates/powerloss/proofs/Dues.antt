@@ -12,7 +12,7 @@ use lib.ListN.{length, take}
 use Rattle.record.specs.declared.Source.{Source}
 use Rattle.header.specs.Region.{regionSize, bankSize, sectorSize, bankOf}
 use Rattle.header.specs.Header.{marked}
-use Rattle.headerwrite.proofs.Laws.{no-magic}
+use Rattle.header.proofs.WriteLaws.{no-magic}
 use Rattle.leaf.specs.Bytes.{byte}
 use Rattle.bank.specs.declared.Loaded.{Loaded}
 use Rattle.flash.specs.Flash.{Op, erase, write, size, done, torn, applied, performed}

@@ -12,7 +12,7 @@ use Rattle.base.specs.Number.{pick}
 use Rattle.refusal.specs.declared.Refusal.the-variants.{Full, Turn}
 use Rattle.record.specs.declared.Source.{Source}
 use Rattle.header.specs.Region.{capacity}
-use Rattle.headerwrite.specs.Types.{Bytes}
+use Rattle.header.specs.Types.{Bytes}
 use Rattle.bank.specs.declared.Loaded.{Loaded}
 use Rattle.flash.specs.Flash.{performed}
 use Rattle.writer.specs.declared.Operation.the-variants.{Erase, Write, Compare}

@@ -18,8 +18,8 @@ use Rattle.refusal.specs.declared.Refusal.the-variants.{Mark}
 use Rattle.header.specs.declared.Validated.{Validated}
 use Rattle.header.specs.Region.{regionSize, sectorSize, bankOf}
 use Rattle.header.specs.Header.{marked}
-use Rattle.headerwrite.specs.Header.{headerBytes, blankWord, isFit}
-use Rattle.headerwrite.specs.Types.{Bytes, Proper, Numbers}
+use Rattle.header.specs.WriteHeader.{headerBytes, blankWord, isFit}
+use Rattle.header.specs.Types.{Bytes, Proper, Numbers}
 use Rattle.bank.specs.declared.Loaded.{Loaded}
 use Rattle.bank.specs.declared.Loaded.the-variants.{Found, Nothing, Refused as NotRead}
 use Rattle.bank.specs.Bank.{validated, orElse, loaded}

@@ -14,9 +14,9 @@ use Rattle.record.proofs.Series.{length-fill, fill-split}
 use Rattle.header.specs.declared.Bank.{Bank}
 use Rattle.header.specs.Region.{bankSize, sectorSize, dataOf}
 use Rattle.header.specs.Header.{marked}
-use Rattle.headerwrite.specs.Header.{headerBytes, blankWord, commitBytes, recordBytes}
-use Rattle.headerwrite.specs.Types.{Bytes, Proper}
-use Rattle.headerwrite.proofs.Laws.{unmarked, no-magic, blank-47, length-header, bytes-header, bytes-blank-word, length-blank-word, length-commit-bytes, bytes-commit-bytes, bytes-append, header-split, topBytes, length-top}
+use Rattle.header.specs.WriteHeader.{headerBytes, blankWord, commitBytes, recordBytes}
+use Rattle.header.specs.Types.{Bytes, Proper}
+use Rattle.header.proofs.WriteLaws.{unmarked, no-magic, blank-47, length-header, bytes-header, bytes-blank-word, length-blank-word, length-commit-bytes, bytes-commit-bytes, bytes-append, header-split, topBytes, length-top}
 use Rattle.flash.specs.Flash.{Op, erase, write, place, done}
 use Rattle.flash.proofs.Laws.{done-before, write-leaves-255, erase-over, write-over}
 use Rattle.writer.specs.declared.Taken.{Taken}

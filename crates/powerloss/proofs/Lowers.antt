@@ -20,9 +20,9 @@ use Rattle.record.specs.Record.{noSource}
 use Rattle.record.specs.Types.{All}
 use Rattle.record.proofs.Series.{length-fill}
 use Rattle.header.specs.Region.{regionSize}
-use Rattle.headerwrite.specs.Header.{commitBytes}
-use Rattle.headerwrite.specs.Types.{Bytes, Proper}
-use Rattle.headerwrite.proofs.Laws.{length-commit-bytes}
+use Rattle.header.specs.WriteHeader.{commitBytes}
+use Rattle.header.specs.Types.{Bytes, Proper}
+use Rattle.header.proofs.WriteLaws.{length-commit-bytes}
 use Rattle.bank.specs.declared.Loaded.{Loaded}
 use Rattle.bank.specs.declared.Loaded.the-variants.{Found, Nothing, Refused as NotRead}
 use Rattle.bank.specs.Bank.{loaded}

@@ -22,7 +22,7 @@ use Rattle.record.specs.Types.{All, Block32}
 use Rattle.record.proofs.Series.{length-fill}
 use Rattle.header.specs.Region.{regionSize}
 use Rattle.header.proofs.Laws.{and-left, and-right}
-use Rattle.headerwrite.specs.Types.{Proper}
+use Rattle.header.specs.Types.{Proper}
 use Rattle.bank.specs.declared.Loaded.{Loaded}
 use Rattle.writer.specs.declared.Operation.the-variants.{Erase, Write, Compare}
 use Rattle.writer.specs.declared.Stage.{Stage}

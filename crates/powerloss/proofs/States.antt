@@ -7,7 +7,7 @@ use Prim.Native.Nat.{ℕ, suc}
 use lib.ListN.{length}
 use Rattle.refusal.specs.declared.Refusal.{Refusal}
 use Rattle.record.specs.declared.Source.{Source}
-use Rattle.headerwrite.specs.Types.{Bytes}
+use Rattle.header.specs.Types.{Bytes}
 use Rattle.bank.specs.declared.Loaded.{Loaded}
 use Rattle.writer.specs.declared.Answer.the-variants.{Done}
 use Rattle.writer.specs.declared.Writer.{Writer}

@@ -15,7 +15,7 @@ use Rattle.leaf.proofs.Checksum.{crc32-append}
 use Rattle.refusal.specs.declared.Refusal.the-variants.{Full, Turn}
 use Rattle.header.specs.Region.{capacity}
 use Rattle.header.proofs.Laws.{and-left, and-right}
-use Rattle.headerwrite.specs.Types.{Bytes}
+use Rattle.header.specs.Types.{Bytes}
 use Rattle.bank.specs.declared.Loaded.{Loaded}
 use Rattle.writer.specs.declared.Stage.{Stage}
 use Rattle.writer.specs.declared.Stage.the-variants.{Idle, Due, Headed, Committed}

@@ -12,8 +12,8 @@ use Rattle.leaf.specs.Bytes.{le32}
 use Rattle.record.specs.Runs.{each}
 use Rattle.record.specs.Types.{All}
 use Rattle.header.proofs.Laws.{and-left, and-right}
-use Rattle.headerwrite.specs.Types.{Bytes}
-use Rattle.headerwrite.proofs.Laws.{bytes-append}
+use Rattle.header.specs.Types.{Bytes}
+use Rattle.header.proofs.WriteLaws.{bytes-append}
 use Rattle.key.specs.Order.{Text, Pick, pickOrder}
 use Rattle.key.specs.Picks as Picks
 use Rattle.key.specs.Picks.{text, unlessCode, pickOf, pickAt, count, firsts, place, insert, distinct}

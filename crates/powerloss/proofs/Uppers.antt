@@ -20,7 +20,7 @@ use Rattle.key.proofs.Longest.{longest}
 use Rattle.record.specs.declared.Source.{Source}
 use Rattle.header.specs.Region.{regionSize, capacity, bankOf}
 use Rattle.header.proofs.Laws.{and-left, and-right}
-use Rattle.headerwrite.specs.Types.{Bytes, Proper}
+use Rattle.header.specs.Types.{Bytes, Proper}
 use Rattle.bank.specs.declared.Loaded.{Loaded}
 use Rattle.bank.specs.declared.Loaded.the-variants.{Found, Nothing, Refused as NotRead}
 use Rattle.bank.specs.Bank.{loaded, generation}

@@ -26,8 +26,8 @@ use Rattle.header.specs.declared.Validated.{Validated}
 use Rattle.header.specs.Header.{marked, spanOk, sourceOk, judge}
 use Rattle.header.specs.Region.{regionSize, bankSize}
 use Rattle.header.specs.Region as Region
-use Rattle.headerwrite.specs.Header.{isFit, headerBytes, blankWord, commitBytes}
-use Rattle.headerwrite.specs.Types.{Bytes, Proper}
+use Rattle.header.specs.WriteHeader.{isFit, headerBytes, blankWord, commitBytes}
+use Rattle.header.specs.Types.{Bytes, Proper}
 use Rattle.bank.specs.declared.Loaded.{Loaded}
 use Rattle.bank.specs.declared.Loaded.the-variants.{Found, Nothing, Refused as NotRead}
 use Rattle.bank.specs.Bank.{loaded, orElse}

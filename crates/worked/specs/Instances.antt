@@ -13,8 +13,8 @@ use Rattle.record.specs.Record.{noBlock}
 use Rattle.record.specs.Runs.{fill}
 use Rattle.header.specs.declared.Bank.{Bank}
 use Rattle.header.specs.Region.{regionSize, bankOf, dataOf}
-use Rattle.headerwrite.specs.Header.{headerBytes, commitBytes}
-use Rattle.headerwrite.specs.Types.{Bytes}
+use Rattle.header.specs.WriteHeader.{headerBytes, commitBytes}
+use Rattle.header.specs.Types.{Bytes}
 use Rattle.bank.specs.declared.Loaded.{Loaded}
 use Rattle.bank.specs.declared.Loaded.the-variants.{Found, Nothing}
 use Rattle.bank.specs.Bank.{loaded}

@@ -4,7 +4,7 @@ use Prim.Native.Nat.{ℕ}
 use native.Mathlib.Omega.{arith}
 use lib.ListN.{length, take}
 use Rattle.flash.specs.Flash.{write, writtenIn}
-use Rattle.headerwrite.specs.Header.{headerBytes, blankWord}
+use Rattle.header.specs.WriteHeader.{headerBytes, blankWord}
 use Rattle.writer.specs.State.{did}
 use Rattle.due.proofs.Laws.{one-op}
 use borrow.Author.Needs.{needs}

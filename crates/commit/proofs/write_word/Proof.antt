@@ -2,7 +2,7 @@ use mathlib.Core.Path.{_≡_, ap, _∙_}
 use native.Mathlib.Omega.{arith}
 use lib.ListN.{length}
 use Rattle.flash.specs.Flash.{write, writtenIn}
-use Rattle.headerwrite.specs.Header.{commitBytes}
+use Rattle.header.specs.WriteHeader.{commitBytes}
 use Rattle.writer.specs.State.{did, target}
 use Rattle.due.proofs.Laws.{target-fits, one-op}
 use borrow.Author.Needs.{needs}

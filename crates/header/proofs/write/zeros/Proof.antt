@@ -1,0 +1,9 @@
+use Rattle.record.proofs.Series.{replicate-fill}
+use Rattle.header.proofs.write.zeros.Statement.{statement}
+use Rattle.header.proofs.write.zeros.Tie as tie
+
+returns : tie.Need-returns
+returns c = replicate-fill 0 1200
+
+pub zeros-spec : {M : Type 1} → statement M
+zeros-spec = tie.close (tie.spec returns)

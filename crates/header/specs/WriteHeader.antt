@@ -1,0 +1,56 @@
+-- The header as commit writes it, and what refusal 13 asks.
+use mathlib.Core.Bool.{Bool, true, false, _&&_}
+use mathlib.Core.List.{List, _++_}
+use Prim.Native.Nat.{ℕ, _*_, _-_}
+use lib.Dec.{leb}
+use lib.ListN.{length}
+use Rattle.leaf.specs.Bytes.{byte, le32, le64}
+use Rattle.leaf.specs.Crc.{crc32}
+use Rattle.record.specs.declared.Source.{Source}
+use Rattle.record.specs.Record.{sourceSize, sourceBytes}
+use Rattle.record.specs.Runs.{puts, fill, each}
+use Rattle.header.specs.declared.Bank.{Bank}
+use Rattle.header.specs.declared.Validated.{Validated}
+use Rattle.header.specs.declared.Validated.the-variants.{Good, Refused}
+use Rattle.header.specs.Header.{sources, magic, commitWord, judge}
+
+-- bytes 0 to 15: "TTFC", version, generation, data length
+unfoldable pub firstBytes : Bank → List ℕ
+firstBytes b = le32 magic ++ (le32 (b .version) ++ (le32 (b .generation) ++ le32 (b .length)))
+
+-- bytes 16 to 39: data CRC, source count, key length, zero at 28 to 31, checked time
+unfoldable pub secondBytes : Bank → List ℕ
+secondBytes b = le32 (b .crc) ++ (le32 (b .count) ++ (le32 (b .key) ++ (le32 0 ++ le64 (b .checked))))
+
+abbrev pub numberBytes : Bank → List ℕ
+numberBytes b = firstBytes b ++ secondBytes b
+
+-- three records of version 3, those past the sources zeros
+unfoldable pub recordBytes : List Source → List ℕ
+recordBytes ss = puts sourceBytes ss ++ fill 0 ((sources - length ss) * sourceSize 3)
+
+-- the header CRC: over 48 bytes and all three records, bytes 40 to 47 as zero
+unfoldable pub crcOf : Bank → List Source → ℕ
+crcOf b ss = crc32 0 (numberBytes b ++ (fill 0 8 ++ recordBytes ss))
+
+-- the header, with four bytes in the commit word's place
+unfoldable pub headerBytes : Bank → List Source → List ℕ → List ℕ
+headerBytes b ss word = numberBytes b ++ (le32 (crcOf b ss) ++ (word ++ recordBytes ss))
+
+-- commit's first write has 255 in the commit word, its second is the word
+unfoldable pub blankWord : List ℕ
+blankWord = fill 255 4
+
+unfoldable pub commitBytes : List ℕ
+commitBytes = le32 commitWord
+
+-- 13: what would meet 5 or 6, an id length over 80, or a validator length over 64
+abbrev pub passes : Validated → Bool
+passes (Good b) = true
+passes (Refused r) = false
+
+abbrev pub textOk : Source → Bool
+textOk s = leb (s .idlen) 80 && leb (byte (s .validator) 0) 64
+
+unfoldable pub isFit : Bank → List Source → Bool
+isFit b ss = passes (judge b ss) && each textOk ss

@@ -1,0 +1,149 @@
+// A bank's header as commit writes it, and whether a bank is fit to be committed.
+ghost use mathlib.Core.Path.{_≡_};
+ghost use Prim.Native.Nat.{_*_, _≤_, min};
+ghost use lib.ListN.{length, take};
+ghost use lib.Seq.{sets};
+ghost use Rattle.record.specs.Types.{Sized};
+ghost use Rattle.record.specs.Record.{sourceBytes};
+ghost use Rattle.record.specs.Runs.{puts, fill};
+ghost use Rattle.header.specs.WriteHeader.{
+  firstBytes,
+  secondBytes,
+  headerBytes,
+  blankWord,
+  commitBytes,
+  textOk,
+  isFit,
+};
+use crate::Bank;
+use crate::source_ok;
+use crate::span_ok;
+use leaf::bytes::put;
+use leaf::bytes::put_time;
+use leaf::crc::crc32;
+use record::Block;
+use record::Source;
+use record::encode;
+
+// How many records are written.
+fn records(count: u32) -> usize
+    ensures { λ r. ⌜ r ≡ min count 3 ⌝ }
+{
+    if count < 3 { count as usize } else { 3 }
+}
+
+fn zeros() -> [u8; 1200]
+    ensures { λ r. ⌜ r ≡ fill 0 1200 ⌝ }
+{
+    [0u8; 1200]
+}
+
+fn put_first(out: &mut [u8], b: Bank)
+    requires { ⌜ length (now out) ≡ 1200 ⌝ }
+    ensures { λ _. ⌜ now (out .exit) ≡ sets (now (out .entry)) 0 (firstBytes b) ⌝ }
+{
+    put(out, 0, 0x43465454);
+    put(out, 4, b.version);
+    put(out, 8, b.generation);
+    put(out, 12, b.length);
+}
+
+fn put_second(out: &mut [u8], b: Bank)
+    requires { ⌜ length (now out) ≡ 1200 ⌝ }
+    ensures { λ _. ⌜ now (out .exit) ≡ sets (now (out .entry)) 16 (secondBytes b) ⌝ }
+{
+    put(out, 16, b.crc);
+    put(out, 20, b.count);
+    put(out, 24, b.key);
+    put(out, 28, 0);
+    put_time(out, 32, b.checked);
+}
+
+// The arrays of a record have their lengths.
+fn have_lengths(
+    original: [u32; 16],
+    tables: [Block; 8],
+    stamp: [u8; 12],
+    id: [u8; 80],
+    validator: [u8; 66],
+)
+    ensures { λ _. ⌜ (length original ≡ 16) × (length tables ≡ 8) × (length stamp ≡ 12) × (length id ≡ 80) × (length validator ≡ 66) ⌝ }
+{}
+
+fn is_sized(s: Source)
+    ensures { λ _. ⌜ Sized s ⌝ }
+{
+    let original = s.original;
+    let tables = s.tables;
+    let stamp = s.stamp;
+    let id = s.id;
+    let validator = s.validator;
+    have_lengths(original, tables, stamp, id, validator);
+}
+
+// The first n records, one after the other.
+fn put_records(out: &mut [u8], ss: [Source; 3], n: usize)
+    requires { ⌜ (n ≤ 3) × (length (now out) ≡ 1200) ⌝ }
+    ensures { λ _. ⌜ (now (out .exit) ≡ sets (now (out .entry)) 48 (puts sourceBytes (take n ss))) × (length (puts sourceBytes (take n ss)) ≡ n * 384) × (length ss ≡ 3) ⌝ }
+{
+    let mut i = 0;
+    while i < n {
+        let s = ss[i];
+        is_sized(s);
+        encode(s, out, 48 + i * 384);
+        i += 1;
+    }
+}
+
+fn put_header(out: &mut [u8], b: Bank, ss: [Source; 3])
+    requires { ⌜ (length (now out) ≡ 1200) × (now out ≡ fill 0 1200) ⌝ }
+    ensures { λ _. ⌜ now (out .exit) ≡ headerBytes b (take (b .count) ss) blankWord ⌝ }
+{
+    put_first(out, b);
+    put_second(out, b);
+    let n = records(b.count);
+    put_records(out, ss, n);
+    let crc = crc32(0, out);
+    put(out, 40, crc);
+    put(out, 44, 4294967295);
+}
+
+// The header of a bank with the records below its count, 255 in the commit word.
+pub fn header_bytes(b: Bank, ss: [Source; 3]) -> [u8; 1200]
+    ensures { λ r. ⌜ r ≡ headerBytes b (take (b .count) ss) blankWord ⌝ }
+{
+    let mut out = zeros();
+    put_header(&mut out, b, ss);
+    out
+}
+
+// The commit word.
+pub fn commit_bytes() -> [u8; 4]
+    ensures { λ r. ⌜ r ≡ commitBytes ⌝ }
+{
+    [84, 77, 79, 67]
+}
+
+fn text_ok(s: Source) -> bool
+    ensures { λ r. ⌜ r ≡ textOk s ⌝ }
+{
+    let validator = s.validator;
+    (s.idlen <= 80) & (validator[0] <= 64)
+}
+
+// Whether a bank with the records below its count is fit to be committed.
+pub fn fit(b: Bank, ss: [Source; 3]) -> bool
+    ensures { λ r. ⌜ r ≡ isFit b (take (b .count) ss) ⌝ }
+{
+    let n = records(b.count);
+    let mut sources = true;
+    let mut texts = true;
+    let mut i = 0;
+    while i < n {
+        let s = ss[i];
+        sources = sources & source_ok(b, s);
+        texts = texts & text_ok(s);
+        i += 1;
+    }
+    (span_ok(b) & sources) & texts
+}

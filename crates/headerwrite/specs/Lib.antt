@@ -1,3 +1,0 @@
-pub mod Header
-pub mod Types
-pub mod Claims
