@@ -23,12 +23,12 @@ use Rattle.bank.specs.declared.Loaded.the-variants.{Found, Nothing, Refused as 
 use Rattle.bank.specs.declared.Progress.{Progress}
 use Rattle.bank.specs.declared.Progress.the-variants.{Hashed, Yes, Refused as NoTurn}
 use Rattle.bank.specs.declared.Turn.{Turn}
-use Rattle.loaded.specs.declared.Asked.{Asked}
-use Rattle.loaded.specs.declared.Outcome.{Outcome}
-use Rattle.loaded.specs.declared.Outcome.the-variants.{Done, Refused as NoSource}
-use Rattle.loaded.specs.declared.FreshAnswer.{FreshAnswer}
-use Rattle.loaded.specs.declared.FreshAnswer.the-variants.{Fresh, Refused as NotFresh}
-use Rattle.loaded.specs.Freshness.{unknown}
+use Rattle.snapshot.specs.declared.Asked.{Asked}
+use Rattle.snapshot.specs.declared.Outcome.{Outcome}
+use Rattle.snapshot.specs.declared.Outcome.the-variants.{Done, Refused as NoSource}
+use Rattle.snapshot.specs.declared.FreshAnswer.{FreshAnswer}
+use Rattle.snapshot.specs.declared.FreshAnswer.the-variants.{Fresh, Refused as NotFresh}
+use Rattle.snapshot.specs.Freshness.{unknown}
 use Rattle.rowread.specs.declared.ReadAnswer.{ReadAnswer}
 use Rattle.rowread.specs.declared.ReadAnswer.the-variants.{Stored, End, Refused as NoRow}
 use Rattle.bankexport.specs.declared.BankNumbers.{BankNumbers}

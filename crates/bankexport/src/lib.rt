@@ -10,11 +10,11 @@ ghost use Rattle.key.specs.Layout as Keys;
 ghost use Rattle.key.specs.Picks as Picks;
 ghost use Rattle.bank.specs.Bank as Banks;
 ghost use Rattle.bank.specs.Turns as Turns;
-ghost use Rattle.loaded.specs.Source as Sources;
-ghost use Rattle.loaded.specs.Freshness as Freshness;
-ghost use Rattle.loaded.specs.KeyMatch as Matches;
+ghost use Rattle.snapshot.specs.Source as Sources;
+ghost use Rattle.snapshot.specs.Freshness as Freshness;
+ghost use Rattle.snapshot.specs.KeyMatch as Matches;
 ghost use Rattle.rowread.specs.Stored as Stored;
-ghost use Rattle.rows.specs.Rows as Rows;
+ghost use Rattle.snapshot.specs.Rows as Rows;
 ghost use Rattle.bankexport.specs.Answers as Answers;
 use bank::Checking;
 use bank::Loaded;
@@ -24,13 +24,13 @@ use header::Bank;
 use header::Validated;
 use key::KeyAnswer;
 use key::SameKey;
-use loaded::Asked;
-use loaded::Day;
-use loaded::Days;
-use loaded::FreshAnswer;
-use loaded::Outcome;
 use refusal::Refusal;
 use rowread::ReadAnswer;
+use snapshot::Asked;
+use snapshot::Day;
+use snapshot::Days;
+use snapshot::FreshAnswer;
+use snapshot::Outcome;
 
 // A bank's numbers, if found; `key` is the key's length.
 #[repr(C)]
@@ -324,7 +324,7 @@ pub extern "C" fn tt_same_key(
 ) -> MatchNumbers
     ensures { λ r. ⌜ r ≡ Answers.ofMatch (Matches.askedKey (now (region .entry)) bank (now (identity .entry)) (now (texts .entry)) (now (lengths .entry))) ⌝ }
 {
-    of_match(loaded::same_key(region, bank, identity, texts, lengths))
+    of_match(snapshot::same_key(region, bank, identity, texts, lengths))
 }
 
 fn day(date: u32, wanted: bool) -> Day
@@ -353,7 +353,7 @@ pub extern "C" fn tt_fresh(
         second: day(day1, wanted1),
         third: day(day2, wanted2),
     };
-    of_fresh(loaded::fresh(region, bank, days, at))
+    of_fresh(snapshot::fresh(region, bank, days, at))
 }
 
 fn fits(room: usize) -> u32
@@ -369,7 +369,7 @@ pub extern "C" fn tt_source(region: &[u8], bank: u32, index: u32, out: &mut [u8]
     ensures { λ _. ⌜ now (out .exit) ≡ Answers.outputOf (now (out .entry)) (Sources.askedSource (now (region .entry)) bank index) (Sources.askedSource (now (region .entry)) bank index .outcome) ⌝ }
 {
     let small = fits(out.len());
-    let a = loaded::source(region, bank, index);
+    let a = snapshot::source(region, bank, index);
     let o = a.outcome;
     match o {
         Outcome::Done => {
@@ -395,5 +395,5 @@ pub extern "C" fn tt_bank_row(
     ensures { λ _. ⌜ now (out .exit) ≡ Stored.after (Rows.askedRow (now (region .entry)) bank source table place (length (now (out .entry))) (length (now (ends .entry)))) (Stored.joined (Rows.valuesIn (now (region .entry)) bank source table place)) (now (out .entry)) ⌝ }
     ensures { λ _. ⌜ now (ends .exit) ≡ Stored.after (Rows.askedRow (now (region .entry)) bank source table place (length (now (out .entry))) (length (now (ends .entry)))) (Stored.endsOf 0 (Rows.valuesIn (now (region .entry)) bank source table place)) (now (ends .entry)) ⌝ }
 {
-    of_row(rows::bank_row(region, bank, source, table, place, out, ends))
+    of_row(snapshot::rows::bank_row(region, bank, source, table, place, out, ends))
 }

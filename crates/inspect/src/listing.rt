@@ -106,7 +106,7 @@ fn row_line(
 ) -> usize {
     let mut space = [0usize; 10];
     let ends: &mut [usize] = &mut space;
-    let r = rows::bank_row(region, number, source, t, place, values, ends);
+    let r = snapshot::rows::bank_row(region, number, source, t, place, values, ends);
     match r {
         ReadAnswer::Stored { next, size: _ } => {
             let n = spell_row(values, ends, column_count(t), line);

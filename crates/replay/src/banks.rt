@@ -18,12 +18,12 @@ use base::number::wide;
 use header::Bank;
 use header::Validated;
 use key::SameKey;
-use loaded::Day;
-use loaded::Days;
-use loaded::FreshAnswer;
-use loaded::Outcome;
 use record::Source;
 use refusal::Refusal;
+use snapshot::Day;
+use snapshot::Days;
+use snapshot::FreshAnswer;
+use snapshot::Outcome;
 
 // Whether word k is a number.
 fn is(a: &[u8], k: u8, n: u32) -> bool {
@@ -83,7 +83,7 @@ fn is_record(a: &[u8], s: Source) -> bool {
 
 // The record at an index among all sources of a bank.
 fn among(region: &[u8], number: u32, i: u32) -> Source {
-    let x = loaded::sources(region, number);
+    let x = snapshot::sources(region, number);
     let all = x.sources;
     match i {
         0 => all[0],
@@ -97,7 +97,7 @@ pub fn source(l: &[u8], region: &[u8]) -> bool {
     let a = rest(l, 3);
     let n = number32(l, word(l, 1));
     let i = number32(l, word(l, 2));
-    let x = loaded::source(region, n, i);
+    let x = snapshot::source(region, n, i);
     let s = x.source;
     let outcome = x.outcome;
     match outcome {
@@ -133,7 +133,7 @@ fn is_times(a: &[u8], checked: i64, updated: i64) -> bool {
 
 pub fn fresh(l: &[u8], region: &[u8]) -> bool {
     let a = rest(l, 7);
-    let x = loaded::fresh(
+    let x = snapshot::fresh(
         region,
         number32(l, word(l, 1)),
         days(l),
@@ -188,7 +188,7 @@ fn matches(l: &[u8], region: &[u8], identity: &[u8], texts: &[u8]) -> bool {
     let mut list = [0u32; 256];
     let n = lengths(l, 4, &mut list);
     let a = rest(l, 5);
-    let x = loaded::same_key(
+    let x = snapshot::same_key(
         region,
         number32(l, word(l, 1)),
         identity,

@@ -1,5 +1,5 @@
 use Rattle.bankexport.specs.declared.FreshNumbers.{FreshNumbers}
-use Rattle.loaded.specs.Freshness.{unknown}
+use Rattle.snapshot.specs.Freshness.{unknown}
 use Prim.Native.Nat.{ℕ}
 use Rattle.bankexport.specs.Answers.{noBank, ofBank, ofValidated, ofLoaded, ofFresh, ofKey, ofMatch, ofTurn, refusalOf, outputOf}
 use mir.ValLaws.{toZ-ofZ}

@@ -1,6 +1,6 @@
 use Rattle.rowread.specs.Stored.{joined, endsOf, after}
 use Rattle.rowread.specs.declared.ReadAnswer.{ReadAnswer}
-use Rattle.rows.specs.Rows.{valuesIn}
+use Rattle.snapshot.specs.Rows.{valuesIn}
 use Rattle.bankexport.specs.Answers.{ofRow}
 use mathlib.Core.Path.{ap, _∙_}
 use borrow.Author.Needs.{needs}

@@ -1,4 +1,4 @@
-use Rattle.loaded.specs.Freshness.{askedFresh}
+use Rattle.snapshot.specs.Freshness.{askedFresh}
 use Rattle.bankexport.specs.Answers.{noBank, ofBank, ofValidated, ofLoaded, ofFresh, ofKey, ofMatch, ofTurn, refusalOf, outputOf}
 use mir.ValLaws.{toZ-ofZ}
 use mir.Syntax.{w64}

@@ -1,4 +1,0 @@
-pub mod Source
-pub mod Freshness
-pub mod Steps
-pub mod KeyMatch

@@ -1,0 +1,87 @@
+-- Calls on a loaded bank, case by case.
+use mathlib.Core.Path.{_≡_, refl, ap, _∙_, sym}
+use mathlib.Core.Bool.{Bool, true, false}
+use mathlib.Core.List.{List, _++_}
+use Prim.Native.Nat.{ℕ, _*_, _-_, _≤_}
+use native.Mathlib.Nat.{mul-comm, mul-le-mul-right}
+use lib.Dec.{eqb, ltb}
+use lib.IntN.{ℤ}
+use lib.ListN.{length}
+use Rattle.refusal.specs.declared.Refusal.{Refusal}
+use Rattle.refusal.specs.declared.Refusal.the-variants.{Region, Argument, Source as NoSuchSource}
+use Rattle.record.specs.Runs.{each, fill}
+use Rattle.record.specs.declared.Source.{Source}
+use Rattle.record.specs.Record.{noSource}
+use Rattle.header.specs.Header.{recordsOf}
+use Rattle.header.specs.declared.Bank.{Bank}
+use Rattle.header.specs.declared.Validated.the-variants.{Good, Refused as Bad}
+use Rattle.header.specs.Region.{regionSize, bankOf}
+use Rattle.header.proofs.Laws.{span-count, passed, no-refusal}
+use Rattle.bank.specs.Bank.{named}
+use Rattle.bank.proofs.Sequence.{named-passes}
+use Rattle.snapshot.specs.declared.Asked.{Asked}
+use Rattle.snapshot.specs.declared.Records.{Records}
+use Rattle.snapshot.specs.declared.Days.{Days}
+use Rattle.snapshot.specs.declared.FreshAnswer.the-variants.{Fresh, Refused}
+use Rattle.snapshot.specs.declared.Outcome.the-variants.{Done}
+use Rattle.snapshot.specs.Source.{sourceIn, refuse, thenSource, askedSource, sourcesIn, refuseAll, thenSources, askedSources}
+use Rattle.snapshot.specs.Freshness.{namedIf, daysOf, isDay, freshness, thenFresh, askedFresh}
+
+pub bound : (i k : ℕ) → k ≤ 384 → i * k ≤ i * 384
+bound i k h = rw (mul-comm i k, mul-comm i 384) (mul-le-mul-right i h)
+
+module _ (region : List ℕ) (n : ℕ) where
+  pub named-fits : named region n ≡ namedIf true region n
+  unfolding namedIf
+  named-fits = refl
+
+  pub unfit-no-region : eqb (length region) regionSize ≡ false → Bad Region ≡ namedIf false region n
+  unfolding namedIf
+  unfit-no-region e = rw e
+
+  pub unfit : eqb (length region) regionSize ≡ true → Bad Argument ≡ namedIf false region n
+  unfolding namedIf
+  unfit e = rw e
+
+  module _ (i : ℕ) where
+    pub source-done : (b : Bank) → named region n ≡ Good b → ltb i (b .count) ≡ true → record { outcome = Done; source = sourceIn region b i } ≡ askedSource region n i
+    unfolding askedSource
+    source-done b h e = sym (ap (thenSource region i) h ∙ rw e)
+
+    pub source-past : (b : Bank) → named region n ≡ Good b → ltb i (b .count) ≡ false → refuse NoSuchSource ≡ askedSource region n i
+    unfolding askedSource
+    source-past b h e = sym (ap (thenSource region i) h ∙ rw e)
+
+    pub source-bad : (r : Refusal) → named region n ≡ Bad r → refuse r ≡ askedSource region n i
+    unfolding askedSource
+    source-bad r h = sym (ap (thenSource region i) h)
+
+  pub sources-done : (b : Bank) (l : List ℕ) (t : List Source) → named region n ≡ Good b → l ≡ bankOf region (b .number)
+      → t ≡ recordsOf (b .version) l (b .count) ++ fill noSource (3 - b .count) → record { outcome = Done; sources = t } ≡ askedSources region n
+  unfolding askedSources sourcesIn
+  sources-done b l t h e f =
+      ap (λ (x : List Source). record { outcome = Done; sources = x }) (f ∙ ap (λ (x : List ℕ). recordsOf (b .version) x (b .count) ++ fill noSource (3 - b .count)) e)
+      ∙ sym (ap (thenSources region) h)
+
+  pub sources-bad : (r : Refusal) → named region n ≡ Bad r → refuseAll r ≡ askedSources region n
+  unfolding askedSources
+  sources-bad r h = sym (ap (thenSources region) h)
+
+-- a bank that passed has at most three sources
+count-by : (fits t : Bool) (region : List ℕ) (n : ℕ) (b : Bank) → eqb (length region) regionSize ≡ t → namedIf fits region n ≡ Good b → b .count ≤ 3
+unfolding namedIf
+count-by true t region n b e h = span-count b (passed n (bankOf region n) b (named-passes region n b h .header) .span)
+count-by false true region n b e h = no-refusal Argument b (unfit region n e ∙ h)
+count-by false false region n b e h = no-refusal Region b (unfit-no-region region n e ∙ h)
+
+pub few : (fits : Bool) (region : List ℕ) (n : ℕ) (b : Bank) → namedIf fits region n ≡ Good b → b .count ≤ 3
+few fits region n b h = count-by fits (eqb (length region) regionSize) region n b refl h
+
+module _ (region : List ℕ) (n : ℕ) (days : Days) (now : ℤ) where
+  pub fresh-good : (b : Bank) → namedIf (each isDay (daysOf days)) region n ≡ Good b → Fresh (freshness region b days now) ≡ askedFresh region n days now
+  unfolding askedFresh
+  fresh-good b h = sym (ap (thenFresh region days now) h)
+
+  pub fresh-bad : (r : Refusal) → namedIf (each isDay (daysOf days)) region n ≡ Bad r → Refused r ≡ askedFresh region n days now
+  unfolding askedFresh
+  fresh-bad r h = sym (ap (thenFresh region days now) h)

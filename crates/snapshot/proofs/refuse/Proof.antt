@@ -1,0 +1,18 @@
+use Rattle.snapshot.specs.declared.Outcome.the-variants.{Done, Refused}
+use Rattle.snapshot.specs.declared.Asked.{Asked}
+use Rattle.record.specs.declared.Source.{Source}
+use mathlib.Core.Path.{_≡_, refl, sym, ap, _∙_}
+use borrow.Author.Needs.{needs}
+use Rattle.snapshot.proofs.refuse.Statement.{statement}
+use Rattle.snapshot.proofs.refuse.Tie as tie
+
+no-source-requires : tie.Need-no-source-requires
+no-source-requires c κs = search needs
+
+returns : tie.Need-returns
+returns c =
+    let a = c .before .args in
+    ap (λ (s : Source). record { outcome = Refused (a .r); source = s }) (c .no-source .ensures)
+
+pub refuse-spec : {M : Type 1} → statement M
+refuse-spec = tie.close (tie.spec no-source-requires returns)

@@ -1,0 +1,40 @@
+-- What is proved of the rows of a bank, beside the call's promise (proofs/Tables.antt, proofs/Data.antt).
+use Prim.Native.Nat.{ℕ, _≤_, _<_}
+use mathlib.Core.Path.{_≡_}
+use mathlib.Core.List.{List, [], _∷_, _++_}
+use lib.ListN.{take, drop, getD}
+use Rattle.record.specs.declared.Block.{Block}
+use Rattle.record.specs.Record.{noBlock}
+use Rattle.header.specs.declared.Bank.{Bank}
+use Rattle.header.specs.declared.Validated.the-variants.{Good}
+use Rattle.bank.specs.Bank.{named, dataIn}
+use Rattle.snapshot.specs.Source.{sourceIn}
+use Rattle.row.specs.Columns.{maxTable, columnsOf, columnCount, namesLine}
+use Rattle.rowread.specs.declared.ReadAnswer.the-variants.{Stored, End}
+use Rattle.rowread.specs.Claims.{AllFit, tableOf}
+use Rattle.snapshot.specs.Rows.{tableIn, askedRow, valuesIn}
+
+abbrev Text : Type 0
+Text = List ℕ
+
+-- from a place on, rows of a table of a bank are read one by one, each where the one before it said, and then the table's end is met
+pub data BankReads (region : Text) (n i t room slots : ℕ) : ℕ → List (List Text) → Type 0 where
+  atEnd : {place : ℕ} → askedRow region n i t place room slots ≡ End → BankReads region n i t room slots place []
+  onward : {place next size : ℕ} {vs : List Text} {rows : List (List Text)} → askedRow region n i t place room slots ≡ Stored next size
+      → valuesIn region n i t place ≡ vs → BankReads region n i t room slots next rows → BankReads region n i t room slots place (vs ∷ rows)
+
+-- where a table of a bank that passes 3 to 6 has the bytes that a writer gives it, a names line and rows, the names are read at place 0,
+-- then row by row to the table's end (reads-bank)
+abbrev pub ReadsBank : Type 0
+ReadsBank = (region : Text) (n i t room slots : ℕ) (b : Bank) (rows : List (List Text)) → named region n ≡ Good b → i < b .count → t ≤ maxTable
+    → tableIn region b i t ≡ namesLine t ++ tableOf rows → AllFit (columnCount t) room slots (columnsOf t ∷ rows)
+    → BankReads region n i t room slots 0 (columnsOf t ∷ rows)
+
+-- the bytes of a block among a bank's data
+abbrev pub partOf : Block → Text → Text
+partOf k bytes = take (k .length) (drop (k .offset) bytes)
+
+-- a table of a source below the count is a part of the bank's data, whose CRC load tests (in-data)
+abbrev pub InData : Type 0
+InData = (region : Text) (n i t : ℕ) (b : Bank) → named region n ≡ Good b → i < b .count
+    → tableIn region b i t ≡ partOf (getD (sourceIn region b i .tables) t noBlock) (dataIn region b)

@@ -1,0 +1,98 @@
+-- Freshness: `Bank::fresh`, with three dates and three wanted-day flags.
+use mathlib.Core.Bool.{Bool, true, false, not, _&&_, _||_}
+use mathlib.Core.List.{List, [], _∷_}
+use Prim.Native.Nat.{ℕ}
+use lib.Dec.{leb, eqb}
+use lib.IntN.{ℤ, pos, negsuc}
+use lib.ListN.{length}
+use lib.Signed.{leZ}
+use Rattle.base.specs.Number.{pick}
+use Rattle.leaf.specs.Date.{validDate}
+use Rattle.refusal.specs.declared.Refusal.the-variants.{Region, Argument}
+use Rattle.record.specs.declared.Source.{Source}
+use Rattle.record.specs.Runs.{each}
+use Rattle.header.specs.declared.Bank.{Bank}
+use Rattle.header.specs.declared.Validated.{Validated}
+use Rattle.header.specs.declared.Validated.the-variants.{Good, Refused as Bad}
+use Rattle.header.specs.Region.{regionSize, bankOf}
+use Rattle.header.specs.Header.{recordsOf}
+use Rattle.bank.specs.Bank.{named}
+use Rattle.snapshot.specs.declared.Day.{Day}
+use Rattle.snapshot.specs.declared.Days.{Days}
+use Rattle.snapshot.specs.declared.Freshness.{Freshness}
+use Rattle.snapshot.specs.declared.FreshAnswer.{FreshAnswer}
+use Rattle.snapshot.specs.declared.FreshAnswer.the-variants.{Fresh, Refused}
+
+-- a call's further arguments are tested with the bank's number: 1, 2, then 3 to 6
+unfoldable pub namedIf : Bool → List ℕ → ℕ → Validated
+namedIf fits region n = pick fits (named region n) (pick (eqb (length region) regionSize) (Bad Argument) (Bad Region))
+
+-- the lowest signed value means unknown
+abbrev pub unknown : ℤ
+unknown = negsuc 9223372036854775807
+
+abbrev pub daysOf : Days → List Day
+daysOf d = d .first ∷ d .second ∷ d .third ∷ []
+
+-- a source has the days from its start to its end, and gives those that are wanted
+abbrev pub has : Source → Day → Bool
+has s d = leb (s .start) (d .date) && leb (d .date) (s .end)
+
+abbrev pub gives : Source → Day → Bool
+gives s d = d .wanted && has s d
+
+unfoldable pub givesAny : Source → List Day → Bool
+givesAny s [] = false
+givesAny s (d ∷ ds) = gives s d || givesAny s ds
+
+-- the days still wanted after a source
+abbrev pub leaves : Source → Day → Day
+leaves s d = record { date = d .date; wanted = d .wanted && not (has s d) }
+
+unfoldable pub left : Source → List Day → List Day
+left s [] = []
+left s (d ∷ ds) = leaves s d ∷ left s ds
+
+-- the sources used: earlier sources win a day
+unfoldable pub used : List Day → List Source → List Source
+used ds [] = []
+used ds (s ∷ ss) = pick (givesAny s ds) (s ∷ used (left s ds) ss) (used ds ss)
+
+-- an updated time counts from 0 up to now
+abbrev pub known : ℤ → Source → Bool
+known now s = leZ (pos 0) (s .updated) && leZ (s .updated) now
+
+abbrev pub older : ℤ → ℤ → ℤ
+older a b = pick (leZ a b) a b
+
+-- the oldest of a time and the sources' updated times
+unfoldable pub oldest : ℤ → List Source → ℤ
+oldest t [] = t
+oldest t (s ∷ ss) = oldest (older t (s .updated)) ss
+
+-- oldest of the used, unknown if there is none or any used one lacks it
+unfoldable pub updatedAt : ℤ → List Source → ℤ
+updatedAt now [] = unknown
+updatedAt now (s ∷ ss) = pick (each (known now) (s ∷ ss)) (oldest (s .updated) ss) unknown
+
+-- checked only if at most now
+abbrev pub checkedAt : ℤ → Bank → ℤ
+checkedAt now b = pick (leZ (b .checked) now) (b .checked) unknown
+
+unfoldable pub freshness : List ℕ → Bank → Days → ℤ → Freshness
+freshness region b days now =
+    record {
+      checked = checkedAt now b;
+      updated = updatedAt now (used (daysOf days) (recordsOf (b .version) (bankOf region (b .number)) (b .count)));
+    }
+
+abbrev pub thenFresh : List ℕ → Days → ℤ → Validated → FreshAnswer
+thenFresh region days now (Good b) = Fresh (freshness region b days now)
+thenFresh region days now (Bad r) = Refused r
+
+-- all three days are dates, those not wanted too
+abbrev pub isDay : Day → Bool
+isDay d = validDate (d .date)
+
+unfoldable pub askedFresh : List ℕ → ℕ → Days → ℤ → FreshAnswer
+askedFresh region n days now = thenFresh region days now (namedIf (each isDay (daysOf days)) region n)

@@ -1,0 +1,6 @@
+pub mod Source
+pub mod Freshness
+pub mod Steps
+pub mod KeyMatch
+pub mod Rows
+pub mod Claims

@@ -1,0 +1,45 @@
+-- A row of a loaded bank: named by bank, source, table, and the place in the table where it starts.
+use mathlib.Core.List.{List, []}
+use Prim.Native.Nat.{ℕ, _+_}
+use lib.Dec.{leb, ltb}
+use lib.ListN.{take, drop, getD}
+use Rattle.base.specs.Number.{pick}
+use Rattle.refusal.specs.declared.Refusal.the-variants.{Source as NoSuchSource}
+use Rattle.record.specs.declared.Block.{Block}
+use Rattle.record.specs.Record.{noBlock}
+use Rattle.header.specs.declared.Bank.{Bank}
+use Rattle.header.specs.declared.Validated.{Validated}
+use Rattle.header.specs.declared.Validated.the-variants.{Good, Refused as Bad}
+use Rattle.header.specs.Region.{sectorSize, bankOf}
+use Rattle.snapshot.specs.Source.{sourceIn}
+use Rattle.snapshot.specs.Freshness.{namedIf}
+use Rattle.row.specs.Columns.{maxTable, columnCount}
+use Rattle.rowread.specs.declared.ReadAnswer.{ReadAnswer}
+use Rattle.rowread.specs.declared.ReadAnswer.the-variants.{Refused}
+use Rattle.rowread.specs.Stored.{valuesAt, readAnswer}
+
+-- the bytes of a block of bank n: its offset counts from the data, which follow the header sector
+unfoldable pub bytesOf : List ℕ → ℕ → Block → List ℕ
+bytesOf region n b = take (b .length) (drop (sectorSize + b .offset) (bankOf region n))
+
+-- the bytes of a table of the source at an index; an absent table's block has the length 0, and so no bytes
+abbrev pub tableIn : List ℕ → Bank → ℕ → ℕ → List ℕ
+tableIn region b i t = bytesOf region (b .number) (getD (sourceIn region b i .tables) t noBlock)
+
+-- 6 for a source at or past the count; then the answer of the reader: 14, 9, no row at the table's end, or the row
+abbrev pub thenRow : List ℕ → ℕ → ℕ → ℕ → ℕ → ℕ → Validated → ReadAnswer
+thenRow region i t place room slots (Good b) =
+    pick (ltb i (b .count)) (readAnswer (tableIn region b i t) (columnCount t) place room slots) (Refused NoSuchSource)
+thenRow region i t place room slots (Bad r) = Refused r
+
+-- 1, 2 (bank and table), 3 to 6, 6 at or past the count, 14, 9
+unfoldable pub askedRow : List ℕ → ℕ → ℕ → ℕ → ℕ → ℕ → ℕ → ReadAnswer
+askedRow region n i t place room slots = thenRow region i t place room slots (namedIf (leb t maxTable) region n)
+
+-- the values of the row, handed out where one is read
+abbrev pub thenValues : List ℕ → ℕ → ℕ → ℕ → Validated → List (List ℕ)
+thenValues region i t place (Good b) = valuesAt (tableIn region b i t) (columnCount t) place
+thenValues region i t place (Bad r) = []
+
+unfoldable pub valuesIn : List ℕ → ℕ → ℕ → ℕ → ℕ → List (List ℕ)
+valuesIn region n i t place = thenValues region i t place (namedIf (leb t maxTable) region n)

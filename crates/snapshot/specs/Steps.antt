@@ -1,0 +1,39 @@
+-- What the private functions that go through the sources promise each other.
+use mathlib.Core.Bool.{Bool, true, false, _&&_}
+use mathlib.Core.List.{List, [], _∷_}
+use lib.IntN.{ℤ, pos}
+use lib.Signed.{leZ}
+use Rattle.base.specs.Number.{pick}
+use Rattle.record.specs.declared.Source.{Source}
+use Rattle.snapshot.specs.declared.Days.{Days}
+use Rattle.snapshot.specs.declared.SourceTimes.{SourceTimes}
+use Rattle.snapshot.specs.declared.Seen.{Seen}
+use Rattle.snapshot.specs.Freshness.{unknown, daysOf, leaves, givesAny, known, older}
+
+-- the days still wanted, as a struct
+abbrev pub leftOf : Source → Days → Days
+leftOf s d = record { first = leaves s (d .first); second = leaves s (d .second); third = leaves s (d .third) }
+
+-- one more used source
+abbrev pub observed : ℤ → SourceTimes → Source → SourceTimes
+observed now t s =
+    record {
+      some = true;
+      complete = t .complete && known now s;
+      oldest = pick (t .some) (older (t .oldest) (s .updated)) (s .updated);
+    }
+
+abbrev pub updatedOf : SourceTimes → ℤ
+updatedOf t = pick (t .some && t .complete) (t .oldest) unknown
+
+abbrev pub see : ℤ → Seen → Source → Seen
+see now x s = pick (givesAny s (daysOf (x .days))) (record { times = observed now (x .times) s; days = leftOf s (x .days) }) x
+
+-- what the rest of the sources comes to
+unfoldable pub seen : ℤ → Seen → List Source → ℤ
+seen now x [] = updatedOf (x .times)
+seen now x (s ∷ ss) = seen now (see now x s) ss
+
+-- before the first
+abbrev pub nothing : Days → Seen
+nothing days = record { times = record { some = false; complete = true; oldest = pos 0 }; days = days }

@@ -1,0 +1,67 @@
+// Rows of a loaded bank. The call names the bank by number and tests it again.
+ghost use mathlib.Core.Path.{_≡_};
+ghost use Prim.Native.Nat.{_≤_};
+ghost use lib.ListN.{length, getD};
+ghost use Rattle.record.specs.Record.{noBlock};
+ghost use Rattle.rowread.specs.Stored.{joined, endsOf, after};
+ghost use Rattle.snapshot.specs.Rows.{bytesOf, valuesIn, askedRow};
+use crate::Outcome;
+use bank::bank_of;
+use base::slice::part;
+use record::Block;
+use record::Source;
+use refusal::Refusal;
+use row::column_count;
+use rowread::ReadAnswer;
+use rowread::read_row;
+
+// The block of a table.
+fn block_of(s: Source, table: u32) -> Block
+    requires { ⌜ table ≤ 7 ⌝ }
+    ensures { λ r. ⌜ r ≡ getD (s .tables) table noBlock ⌝ }
+{
+    let tables = s.tables;
+    let t = table as usize;
+    tables[t]
+}
+
+// The bytes of a block of a bank.
+fn bytes_of(region: &[u8], number: u32, b: Block) -> &[u8]
+    ensures { λ r. ⌜ now r ≡ bytesOf (now (region .entry)) number b ⌝ }
+{
+    let l = bank_of(region, number);
+    let at = 4096 + b.offset as usize;
+    part(l, at, b.length as usize)
+}
+
+// The row at a place of a table of a source of a bank: its values, joined, into out, and where each ends into ends.
+pub fn bank_row(
+    region: &[u8],
+    number: u32,
+    source: u32,
+    table: u32,
+    place: usize,
+    out: &mut [u8],
+    ends: &mut [usize],
+) -> ReadAnswer
+    ensures { λ r. ⌜ (r ≡ askedRow (now (region .entry)) number source table place (length (now (out .entry))) (length (now (ends .entry)))) × (now (out .exit) ≡ after r (joined (valuesIn (now (region .entry)) number source table place)) (now (out .entry))) × (now (ends .exit) ≡ after r (endsOf 0 (valuesIn (now (region .entry)) number source table place)) (now (ends .entry))) ⌝ }
+{
+    if 7 < table {
+        if region.len() != 983040 {
+            return ReadAnswer::Refused(Refusal::Region);
+        }
+        return ReadAnswer::Refused(Refusal::Argument);
+    }
+    let a = crate::source(region, number, source);
+    let o = a.outcome;
+    match o {
+        Outcome::Done => {
+            let s = a.source;
+            let b = block_of(s, table);
+            let stored = bytes_of(region, number, b);
+            let width = column_count(table);
+            read_row(stored, width, place, out, ends)
+        }
+        Outcome::Refused(r) => ReadAnswer::Refused(r),
+    }
+}
