@@ -22,7 +22,7 @@ fn run_end(w: Writer, region: &mut [u8]) -> Writer
     ensures { λ r. ⌜ (r ≡ ranWriter (now (region .entry)) w (Upper.runOf Upper.tableEnd)) × (now (region .exit) ≡ ranRegion (now (region .entry)) w (Upper.runOf Upper.tableEnd)) ⌝ }
 {
     let v = settle(w, region);
-    let e = blocks::end(v);
+    let e = lower::end::end(v);
     settle(e.writer, region)
 }
 
@@ -45,7 +45,7 @@ fn run_close(w: Writer, region: &mut [u8]) -> Writer
     ensures { λ r. ⌜ (r ≡ ranWriter (now (region .entry)) w (Upper.runOf Upper.closing)) × (now (region .exit) ≡ ranRegion (now (region .entry)) w (Upper.runOf Upper.closing)) ⌝ }
 {
     let v = settle(w, region);
-    let k = begin::close(v);
+    let k = lower::begin::close(v);
     settle(k.writer, region)
 }
 
@@ -79,7 +79,7 @@ fn run_source(w: Writer, region: &mut [u8], s: Source) -> Writer
 {
     let d = dates(s);
     let v = settle(w, region);
-    let t = tables::source(v, s);
+    let t = lower::source::source(v, s);
     settle_feed(t.writer, region, &d)
 }
 

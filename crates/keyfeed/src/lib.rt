@@ -11,9 +11,9 @@ ghost use Rattle.feed.specs.Run.{ranWriter, ranRegion};
 ghost use Rattle.feed.specs.Feed as Feed;
 ghost use Rattle.update.specs.Upper as Upper;
 use bank::Loaded;
-use begin::started;
 use feed::feed;
 use key::KeyAnswer;
+use lower::begin::started;
 use refusal::Refusal;
 use writer::Answer;
 use writer::Step;
@@ -75,7 +75,7 @@ fn begin_in(
     if 65535 < identity.len() {
         return refuse(comparing, at, Refusal::Identity);
     }
-    let s = begin::begin(region, comparing, at);
+    let s = lower::begin::begin(region, comparing, at);
     let v = run_begin(s.writer, region, identity, &out, n);
     did(v)
 }

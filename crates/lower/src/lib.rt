@@ -1,4 +1,9 @@
 // What the lower layer's calls test: whether a state takes bytes, whether a table is open or may begin, and the tail's room.
+pub mod append;
+pub mod begin;
+pub mod end;
+pub mod source;
+
 ghost use mathlib.Core.Path.{_≡_};
 ghost use mathlib.Core.List.{List};
 ghost use Prim.Native.Nat.{_≤_};

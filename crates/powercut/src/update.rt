@@ -68,11 +68,11 @@ fn done(a: Answer) -> bool {
 
 // A beginning, and the one source. same is what is to be answered where it compares.
 pub fn begin(region: &[u8], n: usize, comparing: bool, same: bool) -> Update {
-    let s = begin::begin(region, comparing, now());
+    let s = lower::begin::begin(region, comparing, now());
     let begun = s.writer;
     let a = s.answer;
     let source = the_source();
-    let t = tables::source(begun, source);
+    let t = lower::source::source(begun, source);
     let writer = t.writer;
     let b = t.answer;
     Update {
@@ -133,7 +133,7 @@ fn taken(a: Answer) -> usize {
 
 fn take(u: Update, bytes: &[u8]) -> Update {
     let w = u.writer;
-    let s = take::bytes(w, bytes);
+    let s = lower::append::bytes(w, bytes);
     let writer = s.writer;
     let a = s.answer;
     let k = taken(a);
@@ -148,7 +148,7 @@ fn take(u: Update, bytes: &[u8]) -> Update {
 
 fn start_table(u: Update) -> Update {
     let w = u.writer;
-    let s = tables::table(w, 0);
+    let s = lower::source::table(w, 0);
     let writer = s.writer;
     let a = s.answer;
     Update {
@@ -162,10 +162,10 @@ fn start_table(u: Update) -> Update {
 
 fn close(u: Update) -> Update {
     let w = u.writer;
-    let s = blocks::end(w);
+    let s = lower::end::end(w);
     let ended = s.writer;
     let a = s.answer;
-    let t = begin::close(ended);
+    let t = lower::begin::close(ended);
     let writer = t.writer;
     let b = t.answer;
     Update {

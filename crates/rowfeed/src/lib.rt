@@ -58,7 +58,7 @@ fn run_table(w: Writer, region: &mut [u8], table: u32, names: [u8; 128], n: usiz
 {
     let line = &names[0..n];
     let v = settle(w, region);
-    let t = tables::table(v, table);
+    let t = lower::source::table(v, table);
     settle_feed(t.writer, region, line)
 }
 

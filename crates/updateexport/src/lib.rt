@@ -11,6 +11,7 @@ ghost use Rattle.saved.specs.Answers as Answers;
 ghost use Rattle.updateexport.specs.Stamp.{stampOf};
 use commit::Stamp;
 use due::due_parts;
+use lower::append::take_parts;
 use record::decode;
 use saved::State;
 use saved::UpdateStep;
@@ -18,7 +19,6 @@ use saved::after;
 use saved::after_parts;
 use saved::parts_of;
 use saved::writer_of;
-use take::take_parts;
 
 // Begins an update: loads the region; in comparing mode nothing is written. It takes no key.
 #[no_mangle]
@@ -30,7 +30,7 @@ pub extern "C" fn tt_update_begin(
 ) -> UpdateStep
     ensures { λ x. ⌜ x ≡ Answers.after (Lower.begun (now (region .entry)) comparing at) state ⌝ }
 {
-    let s = begin::begin(region, comparing, at);
+    let s = lower::begin::begin(region, comparing, at);
     after(s, state)
 }
 
@@ -40,7 +40,7 @@ pub extern "C" fn tt_update_source(state: State, bytes: &[u8]) -> UpdateStep
     ensures { λ x. ⌜ x ≡ Answers.after (Lower.sourceStep (writerOf state) (decoded 3 (now (bytes .entry)))) state ⌝ }
 {
     let r = decode(bytes, 3);
-    let s = tables::source(writer_of(state), r);
+    let s = lower::source::source(writer_of(state), r);
     after(s, state)
 }
 
@@ -49,7 +49,7 @@ pub extern "C" fn tt_update_source(state: State, bytes: &[u8]) -> UpdateStep
 pub extern "C" fn tt_update_table(state: State, table: u32) -> UpdateStep
     ensures { λ x. ⌜ x ≡ Answers.after (Lower.tableStep (writerOf state) table) state ⌝ }
 {
-    let s = tables::table(writer_of(state), table);
+    let s = lower::source::table(writer_of(state), table);
     after(s, state)
 }
 
@@ -75,7 +75,7 @@ pub extern "C" fn tt_update_bytes(state: State, bytes: &[u8]) -> UpdateStep
 pub extern "C" fn tt_update_end(state: State) -> UpdateStep
     ensures { λ x. ⌜ x ≡ Answers.after (Lower.endStep (writerOf state)) state ⌝ }
 {
-    let s = blocks::end(writer_of(state));
+    let s = lower::end::end(writer_of(state));
     after(s, state)
 }
 
@@ -84,7 +84,7 @@ pub extern "C" fn tt_update_end(state: State) -> UpdateStep
 pub extern "C" fn tt_update_close(state: State) -> UpdateStep
     ensures { λ x. ⌜ x ≡ Answers.after (Lower.closeStep (writerOf state)) state ⌝ }
 {
-    let s = begin::close(writer_of(state));
+    let s = lower::begin::close(writer_of(state));
     after(s, state)
 }
 

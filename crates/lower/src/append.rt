@@ -1,0 +1,153 @@
+// The lower layer's call that takes bytes.
+ghost use mathlib.Core.Path.{_≡_};
+ghost use mathlib.Core.List.{List};
+ghost use Prim.Native.Nat.{_+_, _≤_};
+ghost use lib.ListN.{length, take};
+ghost use lib.Seq.{sets};
+ghost use Rattle.record.specs.declared.Source.{Source};
+ghost use Rattle.writer.specs.Parts.{withSources, stepWith};
+ghost use Rattle.writer.specs.declared.Answer.the-variants as Answers;
+ghost use Rattle.lower.specs.Lower as Lower;
+ghost use Rattle.lower.specs.Took.{partsTook, stepTook};
+use crate::may_take_parts;
+use crate::room;
+use leaf::both::crc32_both;
+use refusal::Refusal;
+use writer::Answer;
+use writer::Parts;
+use writer::PartsStep;
+use writer::Stage;
+use writer::Step;
+use writer::Tables;
+use writer::Taken;
+use writer::Writer;
+use writer::is_due;
+use writer::parts_of;
+use writer::stage_of;
+use writer::step_with;
+
+// The tail with bytes behind those that it holds.
+fn tail_with(tail: [u8; 256], at: usize, bytes: &[u8]) -> [u8; 256]
+    requires { ⌜ at + length (now bytes) ≤ 256 ⌝ }
+    ensures { λ r. ⌜ r ≡ sets tail at (now (bytes .entry)) ⌝ }
+{
+    let mut t = tail;
+    let mut i = 0;
+    while i < bytes.len() {
+        t[at + i] = bytes[i];
+        i += 1;
+    }
+    t
+}
+
+// The answer, how many bytes are taken and to which place of the tail, and what else they change.
+struct Took {
+    answer: Answer,
+    n: usize,
+    at: usize,
+    stage: Stage,
+    taken: Taken,
+    tables: Tables,
+}
+
+// No byte is taken.
+fn none_taken(p: Parts, answer: Answer) -> Took
+    ensures { λ r. ⌜ r ≡ record { answer = answer; n = 0; at = 0; stage = p .stage; taken = p .taken; tables = p .tables } ⌝ }
+{
+    let stage = p.stage;
+    let taken = p.taken;
+    let tables = p.tables;
+    Took {
+        answer,
+        n: 0,
+        at: 0,
+        stage,
+        taken,
+        tables,
+    }
+}
+
+// The first n bytes are taken.
+fn first_taken(p: Parts, bytes: &[u8], n: usize) -> Took
+    requires { ⌜ (n ≤ length (now bytes)) × (p .taken .fill + n ≤ 256) ⌝ }
+    ensures { λ r. ⌜ (r .answer ≡ Answers.Took n) × (r .n ≡ n) × (r .at + r .n ≤ 256) × ((ss : List Source) → withSources (partsTook p r (now (bytes .entry))) ss ≡ Lower.withBytes (withSources p ss) (take n (now (bytes .entry)))) ⌝ }
+{
+    let t = p.taken;
+    let x = p.tables;
+    let b = p.beginning;
+    let some = &bytes[0..n];
+    let crcs = crc32_both(t.crc, x.crc, some);
+    let taken = Taken {
+        fill: t.fill + n as u32,
+        crc: crcs.a,
+        ..t
+    };
+    let tables = Tables { crc: crcs.b, ..x };
+    let stage = stage_of(b.comparing, taken);
+    Took {
+        answer: Answer::Took(n as u32),
+        n,
+        at: t.fill as usize,
+        stage,
+        taken,
+        tables,
+    }
+}
+
+fn take_some(p: Parts, bytes: &[u8]) -> Took
+    requires { ⌜ p .taken .fill ≤ 256 ⌝ }
+    ensures { λ r. ⌜ (r .n ≤ length (now (bytes .entry))) × (r .at + r .n ≤ 256) × ((ss : List Source) → stepWith (stepTook p r (now (bytes .entry))) ss ≡ Lower.took (withSources p ss) (now (bytes .entry))) ⌝ }
+{
+    if is_due(p.taken) {
+        return none_taken(p, Answer::Took(0));
+    }
+    let n = room(p.taken, bytes.len());
+    first_taken(p, bytes, n)
+}
+
+fn take_any(p: Parts, offered: &[u8]) -> Took
+    ensures { λ r. ⌜ (r .n ≤ length (now (offered .entry))) × (r .at + r .n ≤ 256) × ((ss : List Source) → stepWith (stepTook p r (now (offered .entry))) ss ≡ Lower.bytesStep (withSources p ss) (now (offered .entry))) ⌝ }
+{
+    let t = p.taken;
+    if may_take_parts(p) {
+        if offered.len() <= 487424 - (t.written + t.fill) as usize {
+            return take_some(p, offered);
+        }
+        return none_taken(p, Answer::Refused(Refusal::Full));
+    }
+    none_taken(p, Answer::Refused(Refusal::Turn))
+}
+
+// Takes bytes until the tail is full, and says how many; the sources, whichever they are, stay. The tail is made in one place, whatever
+// the answer, which saves copies of it.
+pub fn take_parts(p: Parts, offered: &[u8]) -> PartsStep
+    ensures { λ r. ⌜ ((ss : List Source) → stepWith r ss ≡ Lower.bytesStep (withSources p ss) (now (offered .entry))) ⌝ }
+{
+    let g = take_any(p, offered);
+    let n = g.n;
+    let some = &offered[0..n];
+    let old = p.tail;
+    let tail = tail_with(old, g.at, some);
+    let answer = g.answer;
+    let stage = g.stage;
+    let taken = g.taken;
+    let tables = g.tables;
+    let parts = Parts {
+        stage,
+        taken,
+        tables,
+        tail,
+        ..p
+    };
+    PartsStep { answer, parts }
+}
+
+// Takes bytes until the tail is full, and says how many.
+pub fn bytes(w: Writer, offered: &[u8]) -> Step
+    ensures { λ r. ⌜ r ≡ Lower.bytesStep w (now (offered .entry)) ⌝ }
+{
+    let p = parts_of(w);
+    let s = take_parts(p, offered);
+    let sources = w.sources;
+    step_with(s, sources)
+}

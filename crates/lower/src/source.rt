@@ -1,0 +1,94 @@
+// The lower layer's calls that begin a source and a table.
+ghost use mathlib.Core.Path.{_≡_};
+ghost use Prim.Native.Nat.{_≤_, _<_};
+ghost use Rattle.writer.specs.State as State;
+ghost use Rattle.lower.specs.Lower as Lower;
+use crate::is_open;
+use crate::may_begin;
+use crate::may_take;
+use record::Block;
+use record::Source;
+use refusal::Refusal;
+use writer::Step;
+use writer::Tables;
+use writer::Writer;
+use writer::did;
+use writer::stays;
+
+fn emptied(s: Source) -> Source
+    ensures { λ r. ⌜ r ≡ Lower.emptied s ⌝ }
+{
+    let b = Block {
+        offset: 0,
+        length: 0,
+        crc: 0,
+    };
+    let tables = [b; 8];
+    Source { tables, ..s }
+}
+
+fn with_source(w: Writer, s: Source) -> Writer
+    requires { ⌜ w .tables .count < 3 ⌝ }
+    ensures { λ r. ⌜ r ≡ Lower.withSource w s ⌝ }
+{
+    let x = w.tables;
+    let e = emptied(s);
+    let mut sources = w.sources;
+    sources[x.count as usize] = e;
+    let tables = Tables {
+        count: x.count + 1,
+        table: 8,
+        begun: 0,
+        ..x
+    };
+    Writer {
+        tables,
+        sources,
+        ..w
+    }
+}
+
+// Begins a source.
+pub fn source(w: Writer, s: Source) -> Step
+    ensures { λ r. ⌜ r ≡ Lower.sourceStep w s ⌝ }
+{
+    let x = w.tables;
+    if may_take(w) & !is_open(x) {
+        if x.count < 3 {
+            let v = with_source(w, s);
+            return did(v);
+        }
+        return stays(w, Refusal::Full);
+    }
+    stays(w, Refusal::Turn)
+}
+
+fn with_table(w: Writer, table: u32) -> Writer
+    requires { ⌜ (table ≤ 7) × (State.position (w .taken) ≤ 487424) ⌝ }
+    ensures { λ r. ⌜ r ≡ Lower.withTable w table ⌝ }
+{
+    let x = w.tables;
+    let t = w.taken;
+    let tables = Tables {
+        count: x.count,
+        table,
+        start: t.written + t.fill,
+        crc: 0,
+        begun: x.begun | (1 << table),
+    };
+    Writer { tables, ..w }
+}
+
+// Begins a table of the last source.
+pub fn table(w: Writer, table: u32) -> Step
+    ensures { λ r. ⌜ r ≡ Lower.tableStep w table ⌝ }
+{
+    if table <= 7 {
+        if may_take(w) & may_begin(w.tables, table) {
+            let v = with_table(w, table);
+            return did(v);
+        }
+        return stays(w, Refusal::Turn);
+    }
+    stays(w, Refusal::Argument)
+}
