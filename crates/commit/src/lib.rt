@@ -1,4 +1,6 @@
 // The lower layer's commit, in two calls.
+pub mod unchanged;
+
 ghost use mathlib.Core.Path.{_≡_};
 ghost use mathlib.Core.Bool.{_&&_};
 ghost use mathlib.Core.List.{_∷_, []};

@@ -11,7 +11,7 @@ use Rattle.lower.specs.Lower.{sourceStep, tableStep, bytesStep, endStep, closeS
 use Rattle.due.specs.Due.{dueStep, dueOps}
 use Rattle.commit.specs.declared.Stamp.{Stamp}
 use Rattle.commit.specs.Commit.{commitStep, commitOps, wordStep, wordOps}
-use Rattle.unchanged.specs.Unchanged.{unchangedStep}
+use Rattle.commit.specs.Unchanged.{unchangedStep}
 
 -- a call on a state, with its arguments
 pub data Lower : Type 0 where

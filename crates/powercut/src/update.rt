@@ -218,7 +218,7 @@ fn says(a: Answer, same: bool) -> bool {
 
 fn ask(u: Update, region: &[u8]) -> Update {
     let w = u.writer;
-    let s = unchanged::unchanged(w, region);
+    let s = commit::unchanged::unchanged(w, region);
     let writer = s.writer;
     let a = s.answer;
     Update {

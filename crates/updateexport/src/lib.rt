@@ -5,7 +5,7 @@ ghost use Rattle.record.specs.Record.{decoded};
 ghost use Rattle.lower.specs.Lower as Lower;
 ghost use Rattle.due.specs.Due as Due;
 ghost use Rattle.commit.specs.Commit as Commit;
-ghost use Rattle.unchanged.specs.Unchanged as Unchanged;
+ghost use Rattle.commit.specs.Unchanged as Unchanged;
 ghost use Rattle.saved.specs.State.{writerOf};
 ghost use Rattle.saved.specs.Answers as Answers;
 ghost use Rattle.updateexport.specs.Stamp.{stampOf};
@@ -110,7 +110,7 @@ pub extern "C" fn tt_update_due(region: &mut [u8], state: State) -> UpdateStep
 pub extern "C" fn tt_update_unchanged(region: &[u8], state: State) -> UpdateStep
     ensures { λ x. ⌜ x ≡ Answers.after (Unchanged.unchangedStep (now (region .entry)) (writerOf state)) state ⌝ }
 {
-    let s = unchanged::unchanged(writer_of(state), region);
+    let s = commit::unchanged::unchanged(writer_of(state), region);
     after(s, state)
 }
 

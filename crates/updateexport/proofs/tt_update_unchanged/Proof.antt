@@ -1,6 +1,6 @@
 use mathlib.Core.Path.{ap, _∙_}
 use Rattle.writer.specs.declared.Step.{Step}
-use Rattle.unchanged.specs.Unchanged.{unchangedStep}
+use Rattle.commit.specs.Unchanged.{unchangedStep}
 use Rattle.saved.specs.Answers.{after}
 use borrow.Author.Needs.{needs}
 use Rattle.updateexport.proofs.tt_update_unchanged.Statement.{statement}

@@ -6,10 +6,10 @@ use lib.ListN.{length, take}
 use Rattle.record.specs.Runs.{many}
 use Rattle.header.specs.Header.{recordAt}
 use Rattle.lower.specs.Lower.{pastEnd}
-use Rattle.unchanged.specs.Unchanged.{sameSource, sameEach}
-use Rattle.unchanged.proofs.Laws.{bound, same-many}
-use Rattle.unchanged.proofs.same_sources.Statement.{statement}
-use Rattle.unchanged.proofs.same_sources.Tie as tie
+use Rattle.commit.specs.Unchanged.{sameSource, sameEach}
+use Rattle.commit.proofs.UnchangedLaws.{bound, same-many}
+use Rattle.commit.proofs.unchanged.same_sources.Statement.{statement}
+use Rattle.commit.proofs.unchanged.same_sources.Tie as tie
 
 abbrev Inv-loop : tie.InvT-loop
 Inv-loop n l version ss size same₀ i₀ same i = (i ≤ n) × (same ≡ sameEach sameSource (take i ss) (many (recordAt version) size l 48 i))

@@ -1,7 +1,7 @@
 use mathlib.Core.Bool.{_&&_}
 use borrow.Author.Needs.{needs}
-use Rattle.unchanged.proofs.may_ask.Statement.{statement}
-use Rattle.unchanged.proofs.may_ask.Tie as tie
+use Rattle.commit.proofs.unchanged.may_ask.Statement.{statement}
+use Rattle.commit.proofs.unchanged.may_ask.Tie as tie
 
 in-range-requires : tie.Need-in-range-requires
 in-range-requires c κs = search needs

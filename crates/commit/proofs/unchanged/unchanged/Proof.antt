@@ -4,11 +4,11 @@ use native.Mathlib.Omega.{arith}
 use Rattle.header.proofs.Laws.{and-left}
 use Rattle.writer.specs.State.{position, inRange}
 use Rattle.writer.proofs.Laws.{ranged, count-fits}
 use Rattle.commit.specs.Commit.{isIdle}
-use Rattle.unchanged.proofs.Laws.{asked, asked-turn, asked-region}
+use Rattle.commit.proofs.UnchangedLaws.{asked, asked-turn, asked-region}
 use borrow.Author.Needs.{needs}
-use Rattle.unchanged.proofs.unchanged.Statement.{statement}
-use Rattle.unchanged.proofs.unchanged.Tie as tie
+use Rattle.commit.proofs.unchanged.unchanged.Statement.{statement}
+use Rattle.commit.proofs.unchanged.unchanged.Tie as tie
 
 may-ask-requires : tie.Need-may-ask-requires
 may-ask-requires c κs = search needs

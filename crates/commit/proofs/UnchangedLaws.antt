@@ -18,7 +18,7 @@ use Rattle.writer.specs.declared.Writer.{Writer}
 use Rattle.writer.specs.declared.Answer.{Answer}
 use Rattle.writer.specs.declared.Answer.the-variants.{Same, Different}
 use Rattle.writer.specs.State.{stays}
-use Rattle.unchanged.specs.Unchanged.{sameEach, isUnchanged, mayAsk, unchangedStep}
+use Rattle.commit.specs.Unchanged.{sameEach, isUnchanged, mayAsk, unchangedStep}
 
 -- ---- unchanged
 

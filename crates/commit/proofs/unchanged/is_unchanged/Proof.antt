@@ -1,8 +1,8 @@
 use mathlib.Core.Path.{sym, ap, _∙_}
-use Rattle.unchanged.specs.Unchanged.{isUnchanged}
+use Rattle.commit.specs.Unchanged.{isUnchanged}
 use borrow.Author.Needs.{needs}
-use Rattle.unchanged.proofs.is_unchanged.Statement.{statement}
-use Rattle.unchanged.proofs.is_unchanged.Tie as tie
+use Rattle.commit.proofs.unchanged.is_unchanged.Statement.{statement}
+use Rattle.commit.proofs.unchanged.is_unchanged.Tie as tie
 
 enum-known-l : tie.Need-enum-known-l
 enum-known-l c = search needs

@@ -1,10 +1,10 @@
 use mathlib.Core.Path.{ap}
 use mathlib.Core.Bool.{Bool, _&&_}
 use lib.Dec.{eqb}
-use Rattle.unchanged.specs.Unchanged.{sameSource}
+use Rattle.commit.specs.Unchanged.{sameSource}
 use borrow.Author.Needs.{needs}
-use Rattle.unchanged.proofs.same_source.Statement.{statement}
-use Rattle.unchanged.proofs.same_source.Tie as tie
+use Rattle.commit.proofs.unchanged.same_source.Statement.{statement}
+use Rattle.commit.proofs.unchanged.same_source.Tie as tie
 
 same-blocks-requires : tie.Need-same-blocks-requires
 same-blocks-requires c κs = search needs

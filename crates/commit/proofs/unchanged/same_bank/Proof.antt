@@ -4,10 +4,10 @@ use lib.Dec.{eqb}
 use lib.ListN.{take}
 use Rattle.header.specs.Header.{recordsOf}
 use Rattle.writer.specs.State.{keyLength}
-use Rattle.unchanged.specs.Unchanged.{sameSource, sameEach}
+use Rattle.commit.specs.Unchanged.{sameSource, sameEach}
 use borrow.Author.Needs.{needs}
-use Rattle.unchanged.proofs.same_bank.Statement.{statement}
-use Rattle.unchanged.proofs.same_bank.Tie as tie
+use Rattle.commit.proofs.unchanged.same_bank.Statement.{statement}
+use Rattle.commit.proofs.unchanged.same_bank.Tie as tie
 
 bank-of-requires : tie.Need-bank-of-requires
 bank-of-requires c κs = search needs

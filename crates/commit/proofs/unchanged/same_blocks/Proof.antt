@@ -5,10 +5,10 @@ use native.Mathlib.Omega.{arith}
 use lib.ListN.{length, take}
 use lib.Seq.{take-all}
 use Rattle.record.specs.Record.{noBlock}
-use Rattle.unchanged.specs.Unchanged.{sameBlock, sameEach}
-use Rattle.unchanged.proofs.Laws.{same-take}
-use Rattle.unchanged.proofs.same_blocks.Statement.{statement}
-use Rattle.unchanged.proofs.same_blocks.Tie as tie
+use Rattle.commit.specs.Unchanged.{sameBlock, sameEach}
+use Rattle.commit.proofs.UnchangedLaws.{same-take}
+use Rattle.commit.proofs.unchanged.same_blocks.Statement.{statement}
+use Rattle.commit.proofs.unchanged.same_blocks.Tie as tie
 
 abbrev Inv-loop : tie.InvT-loop
 Inv-loop xs ys same₀ j₀ same j = (j ≤ 8) × (same ≡ sameEach sameBlock (take j xs) (take j ys))
