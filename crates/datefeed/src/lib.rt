@@ -2,15 +2,15 @@
 ghost use mathlib.Core.Path.{_≡_};
 ghost use mathlib.Core.List.{_++_};
 ghost use Rattle.leaf.specs.Bytes.{le32};
-ghost use Rattle.feed.specs.Run.{ranWriter, ranRegion};
+ghost use Rattle.run.specs.Run.{ranWriter, ranRegion};
 ghost use Rattle.update.specs.Upper as Upper;
-use feed::settle;
-use feed::settle_feed;
 use leaf::bytes::put;
 use lower::is_open;
 use lower::may_take;
 use record::Source;
 use refusal::Refusal;
+use run::settle;
+use run::settle_feed;
 use update::fits;
 use writer::Step;
 use writer::Writer;

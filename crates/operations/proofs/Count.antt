@@ -30,7 +30,7 @@ use Rattle.due.specs.Due.{opsOf, operated, withStage, stepOf, dueStep}
 use Rattle.commit.specs.declared.Stamp.{Stamp}
 use Rattle.commit.specs.Commit.{bankFor, recordsFor, isIdle, isHeaded, mayCommit, isCurrent, commitStep, commitOps, wordStep, wordOps}
 use Rattle.commit.specs.Unchanged.{mayAsk, isUnchanged, unchangedStep}
-use Rattle.feed.specs.Run.{Lower, source, table, bytes, end, close, due, unchanged, commit, word, lowerStep, lowerOps}
+use Rattle.run.specs.Run.{Lower, source, table, bytes, end, close, due, unchanged, commit, word, lowerStep, lowerOps}
 use Rattle.powerloss.proofs.Range.{tail-aligned, due-fill, due-ok, erase-zero, erase-data, headed-end}
 use Rattle.powerloss.proofs.Quiet.{only-idle}
 use Rattle.powerloss.proofs.Commits.{is-idle, is-headed, fit-length}

@@ -15,8 +15,8 @@ use Rattle.writer.specs.declared.Answer.the-variants.{Done}
 use Rattle.writer.specs.declared.Writer.{Writer}
 use Rattle.writer.specs.State.{isDue}
 use Rattle.lower.specs.Lower.{started}
-use Rattle.feed.specs.Run.{bytes, lowerStep, lowerRegion, ranWriter}
-use Rattle.feed.specs.Feed.{feed}
+use Rattle.run.specs.Run.{bytes, lowerStep, lowerRegion, ranWriter}
+use Rattle.run.specs.Feed.{feed}
 use Rattle.update.specs.Upper.{beginRefusal, keyBytes, beginRun, beganWith, beginStep}
 use Rattle.powerloss.specs.History.{Update, opened, takes, updateAfter, isDone}
 use Rattle.powerloss.specs.Machine.{Image, found, nextAll}

@@ -51,7 +51,7 @@ use Rattle.due.specs.Due.{withStage}
 use Rattle.commit.specs.declared.Stamp.{Stamp}
 use Rattle.commit.specs.declared.Stamp.the-variants.{Given, Missing}
 use Rattle.commit.specs.Commit.{checkedTime, routesOffset, bankFor, recordsFor, isIdle, isHeaded, mayCommit, isCurrent, commitStep, commitOps}
-use Rattle.feed.specs.Run.{commit}
+use Rattle.run.specs.Run.{commit}
 use Rattle.powerloss.specs.History.{Update, bankOf as bankFrom, recordsOf, recordsAfter, checks, updateAfter}
 use Rattle.powerloss.specs.Machine.{Image}
 use Rattle.powerloss.specs.Claim.{StampTyped}

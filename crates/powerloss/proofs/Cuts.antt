@@ -18,7 +18,7 @@ use Rattle.flash.proofs.Laws.{done-zero, torn-none, torn-whole, length-applied}
 use Rattle.writer.specs.declared.Writer.{Writer}
 use Rattle.writer.specs.State.{target}
 use Rattle.lower.specs.Lower.{started}
-use Rattle.feed.specs.Run.{Lower, lowerOps}
+use Rattle.run.specs.Run.{Lower, lowerOps}
 use Rattle.update.specs.Upper.{Upper, upperOps, beginOps}
 use Rattle.powerloss.specs.History.{Update, History, afterLowerCut}
 use Rattle.powerloss.specs.Machine.{Run, cut, beginKeyCut, upperCut, cutAt, doneAt, onCut, onUpperCut, next}

@@ -29,7 +29,7 @@ use Rattle.writer.specs.declared.Step.{Step}
 use Rattle.writer.specs.State.{position, isDue, writeDue, dataDue, target, operationOk, stageOk}
 use Rattle.writer.proofs.Laws.{Ranged, ranged, fill-fits, position-fits}
 use Rattle.due.specs.Due.{padded, opsOf, dueOps, differs, emptied, withStage, withEmptied, operated, stepOf, dueStep}
-use Rattle.feed.specs.Run.{due}
+use Rattle.run.specs.Run.{due}
 use Rattle.powerloss.specs.History.{Update, updateAfter}
 use Rattle.powerloss.specs.Machine.{Image, cutAt}
 use Rattle.powerloss.proofs.Cuts.{cut-none, cut-inside, cut-after}

@@ -27,8 +27,8 @@ use Rattle.writer.specs.State.{position, isDue, writeDue, dataDue, stageOk, sta
 use Rattle.writer.proofs.Laws.{ranged}
 use Rattle.lower.specs.Lower.{mayTake, room, withBytes, took, bytesStep}
 use Rattle.due.specs.Due.{operated, stepOf}
-use Rattle.feed.specs.Run.{Lower, bytes, due, lowerStep, lowerOps, lowerRegion}
-use Rattle.feed.specs.Feed.{dues, feed}
+use Rattle.run.specs.Run.{Lower, bytes, due, lowerStep, lowerOps, lowerRegion}
+use Rattle.run.specs.Feed.{dues, feed}
 use Rattle.powerloss.specs.History.{Update, takes, updateAfter}
 use Rattle.powerloss.specs.Machine.{Image}
 use Rattle.powerloss.proofs.Bytes.{bytes-nil, bytes-cons}

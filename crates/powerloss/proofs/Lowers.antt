@@ -36,7 +36,7 @@ use Rattle.writer.specs.State.{isDue, target, activeOk, takenOk, stageOk, did, 
 use Rattle.lower.specs.Lower.{started, begun, answerOf}
 use Rattle.due.specs.Due.{withStage}
 use Rattle.commit.specs.Commit.{isHeaded, wordStep, wordOps}
-use Rattle.feed.specs.Run.{Lower, source, table, bytes, end, close, due, unchanged, commit, word, lowerStep, lowerOps}
+use Rattle.run.specs.Run.{Lower, source, table, bytes, end, close, due, unchanged, commit, word, lowerStep, lowerOps}
 use Rattle.powerloss.specs.History.{Update, opened, takes, recordsAfter, updateAfter, isWord, isDone, anyDone, committed, afterLower, afterLowerCut, afterBegin}
 use Rattle.powerloss.specs.Machine.{cutAt, doneAt, Image, Run, begin, cut, imageAfter, onCall, onCut, stateAfter, next}
 use Rattle.powerloss.specs.Claim.{LowerTyped}

@@ -34,7 +34,7 @@ use Rattle.writer.specs.State.{position, isDue, writeDue, dataDue, firstDue, st
 use Rattle.writer.proofs.Laws.{Ranged, ranged, position-fits, count-fits, open-table}
 use Rattle.lower.specs.Lower.{mayTake, mayBegin, emptied, pastEnd, withBlock, blockOf, withSource, sourceStep, withTable, tableStep, withEnd, endStep}
 use Rattle.commit.specs.Unchanged.{unchangedStep, mayAsk, isUnchanged}
-use Rattle.feed.specs.Run.{source, table, end, unchanged}
+use Rattle.run.specs.Run.{source, table, end, unchanged}
 use Rattle.powerloss.specs.History.{Note, sourceNote, tableNote, endNote, Update, blockBetween, lastWith, recordsAfter, takes, notesOf, updateAfter}
 use Rattle.powerloss.proofs.Records.{table-append, from-append, records-source, records-table, records-end, block-is, more-sources, last-source, all-append, all-set, all-at}
 use Rattle.powerloss.proofs.Inv.{Live, Laid, Lies, LiveAt, Mode, Open}

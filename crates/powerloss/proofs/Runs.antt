@@ -9,7 +9,7 @@ use Rattle.writer.specs.declared.Answer.{Answer}
 use Rattle.writer.specs.declared.Answer.the-variants.{Done, Took, NoneDue, Same, Different, Refused}
 use Rattle.writer.specs.declared.Writer.{Writer}
 use Rattle.writer.specs.State.{target}
-use Rattle.feed.specs.Run.{Lower, source, table, bytes, end, close, due, unchanged, commit, word, lowerStep, lowerOps, lowerRegion, ranWriter, ranRegion, ranOps}
+use Rattle.run.specs.Run.{Lower, source, table, bytes, end, close, due, unchanged, commit, word, lowerStep, lowerOps, lowerRegion, ranWriter, ranRegion, ranOps}
 use Rattle.powerloss.specs.History.{Update, updateAfter}
 use Rattle.powerloss.specs.Machine.{Image, cutAt}
 use Rattle.powerloss.proofs.Cuts.{cut-none, cut-inside, cut-after}

@@ -12,8 +12,8 @@ use Rattle.bank.specs.declared.Loaded.{Loaded}
 use Rattle.writer.specs.declared.Answer.the-variants.{Done}
 use Rattle.writer.specs.declared.Writer.{Writer}
 use Rattle.writer.specs.State.{isDue, inRange}
-use Rattle.feed.specs.Run.{Lower, bytes, ranWriter, ranRegion}
-use Rattle.feed.specs.Feed.{dues, feed}
+use Rattle.run.specs.Run.{Lower, bytes, ranWriter, ranRegion}
+use Rattle.run.specs.Feed.{dues, feed}
 use Rattle.update.specs.Upper.{Upper, taken, lowerOf, runOf, refusalOf, runIf, upperRun, answered, upperStep}
 use Rattle.powerloss.specs.History.{Update, isDone}
 use Rattle.powerloss.specs.Machine.{Image, Run, nextAll, found}

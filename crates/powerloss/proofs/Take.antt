@@ -28,7 +28,7 @@ use Rattle.writer.specs.declared.Step.{Step}
 use Rattle.writer.specs.State.{position, isDue, stageOf, isOpen, inRange, tablesOk, stageOk, did, stays}
 use Rattle.writer.proofs.Laws.{Ranged, ranged, fill-fits, open-table}
 use Rattle.lower.specs.Lower.{mayTake, room, takenMore, withBytes, took, bytesStep, closedTaken, withClosed, closeStep}
-use Rattle.feed.specs.Run.{bytes, close}
+use Rattle.run.specs.Run.{bytes, close}
 use Rattle.powerloss.specs.History.{Update, recordsAfter, takes, updateAfter}
 use Rattle.powerloss.proofs.Bytes.{bytes-take, bytes-sets}
 use Rattle.powerloss.proofs.Inv.{Lies, Mode, Open}

@@ -19,7 +19,7 @@ use Rattle.writer.specs.State.{target, nextGeneration, keyLength}
 use Rattle.lower.specs.Lower.{emptied, pastEnd, withBlock}
 use Rattle.commit.specs.declared.Stamp.{Stamp}
 use Rattle.commit.specs.Commit.{checkedTime, routesOffset}
-use Rattle.feed.specs.Run.{Lower, source, table, bytes, end, close, due, unchanged, commit, word}
+use Rattle.run.specs.Run.{Lower, source, table, bytes, end, close, due, unchanged, commit, word}
 use Rattle.update.specs.Upper.{Upper, sourceWithDates, tableWithNames, row, tableEnd, closing, taken, keyBytes}
 
 -- "Source, table and table end calls note their arguments and the count of bytes before any of their own."

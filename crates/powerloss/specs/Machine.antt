@@ -20,7 +20,7 @@ use Rattle.writer.specs.declared.Writer.{Writer}
 use Rattle.writer.specs.declared.Step.{Step}
 use Rattle.writer.specs.State.{target}
 use Rattle.lower.specs.Lower.{begun, started}
-use Rattle.feed.specs.Run.{Lower, word, lowerStep, lowerOps, lowerRegion}
+use Rattle.run.specs.Run.{Lower, word, lowerStep, lowerOps, lowerRegion}
 use Rattle.update.specs.Upper.{Upper, upperStep, upperRegion, upperOps, beginStep, beginRegion, beginOps, keyBytes}
 use Rattle.powerloss.specs.History.{Update, History, afterLower, afterLowerCut, afterUpper, afterBegin, withOpen, isWord, isDone, anyDone}
 

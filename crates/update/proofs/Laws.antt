@@ -38,10 +38,10 @@ use Rattle.writer.specs.declared.Step.{Step}
 use Rattle.writer.specs.State.{did, stays, position, isOpen, inRange}
 use Rattle.writer.proofs.Laws.{ranged, position-fits, open-table}
 use Rattle.lower.specs.Lower.{started, mayTake}
-use Rattle.feed.specs.Run.{Lower, source, table, bytes, end, close, due, lowerStep, lowerOps, lowerRegion, ranWriter, ranRegion}
-use Rattle.feed.specs.Feed.{dues, feed}
+use Rattle.run.specs.Run.{Lower, source, table, bytes, end, close, due, lowerStep, lowerOps, lowerRegion, ranWriter, ranRegion}
+use Rattle.run.specs.Feed.{dues, feed}
 use Rattle.update.specs.Upper.{Upper, runOf, argumentOk, orderOk, rowOk, allFits, refusalOf, runIf, upperRun, answered, upperStep, upperRegion, beginRefusal, keyBytes, beginRun, beganWith, beginStep, beginRegion}
-use Rattle.feed.proofs.Laws.{feed-append, then-writer, then-region}
+use Rattle.run.proofs.Laws.{feed-append, then-writer, then-region}
 
 -- what is due, then a lower call that does no operation, then others
 abbrev pub Still : Lower → Type 0

@@ -26,8 +26,8 @@ use Rattle.writer.specs.declared.Writer.{Writer}
 use Rattle.writer.specs.declared.Step.{Step}
 use Rattle.writer.specs.State.{position, isOpen, stays}
 use Rattle.lower.specs.Lower.{started, mayTake, mayBegin}
-use Rattle.feed.specs.Run.{Lower, source, table, end, close, ranWriter, ranRegion, ranOps}
-use Rattle.feed.specs.Feed.{dues, feed}
+use Rattle.run.specs.Run.{Lower, source, table, end, close, ranWriter, ranRegion, ranOps}
+use Rattle.run.specs.Feed.{dues, feed}
 
 -- the calls on a state
 pub data Upper : Type 0 where

@@ -46,7 +46,7 @@ use Rattle.lower.specs.Lower.{answerOf, started, begun, withSource, sourceStep,
 use Rattle.due.specs.Due.{padded, dueOps, operated, dueStep}
 use Rattle.commit.specs.declared.Stamp.the-variants.{Missing}
 use Rattle.commit.specs.Commit.{bankFor, recordsFor, commitStep, commitOps, wordStep, wordOps}
-use Rattle.feed.specs.Run.{Lower, source, table, bytes, end, close, due, commit, word, lowerStep, lowerOps, ranOps}
+use Rattle.run.specs.Run.{Lower, source, table, bytes, end, close, due, commit, word, lowerStep, lowerOps, ranOps}
 use Rattle.powerloss.specs.History.{Update, Note, sourceNote, tableNote, endNote, opened, bankOf, recordsAfter, blockBetween, updateAfter, isWord, committed, afterLower, afterLowerCut, afterBegin}
 use Rattle.powerloss.specs.Machine.{doneAt, Image, bankIn, Run, Event, begin, call, cut, imageAfter, onCall, onCut, next, nextAll, found}
 use Rattle.powerloss.specs.Claim.{Typed, AllTyped, Holds}

@@ -22,7 +22,7 @@ use Rattle.flash.specs.Flash.{erase, write, torn, withBank}
 use Rattle.writer.specs.State.{target, nextGeneration}
 use Rattle.lower.specs.Lower.{begun, emptied, withBlock}
 use Rattle.commit.specs.declared.Stamp.the-variants.{Missing}
-use Rattle.feed.specs.Run.{Lower, source, table, bytes, end, close, due, commit, word, ranOps}
+use Rattle.run.specs.Run.{Lower, source, table, bytes, end, close, due, commit, word, ranOps}
 use Rattle.powerloss.specs.Machine.{Event, begin, call, cut, found, nextAll}
 
 -- the key: one byte

@@ -2,8 +2,8 @@ use mathlib.Core.Path.{ap, _∙_}
 use mathlib.Core.List.{List, _++_}
 use Prim.Native.Nat.{ℕ}
 use Rattle.leaf.specs.Bytes.{le32}
-use Rattle.feed.specs.Run.{source, lowerStep, ranWriter, ranRegion}
-use Rattle.feed.specs.Feed.{dues, feed}
+use Rattle.run.specs.Run.{source, lowerStep, ranWriter, ranRegion}
+use Rattle.run.specs.Feed.{dues, feed}
 use Rattle.update.specs.Upper.{taken, runOf}
 use Rattle.update.proofs.Laws.{still-source, call-writer, call-region}
 use borrow.Author.Needs.{needs}

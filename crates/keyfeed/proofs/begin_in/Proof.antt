@@ -8,8 +8,8 @@ use Rattle.refusal.specs.declared.Refusal.the-variants.{Argument, Identity}
 use Rattle.bank.specs.declared.Loaded.the-variants.{Refused as NotRead}
 use Rattle.writer.specs.declared.Answer.the-variants.{Refused}
 use Rattle.lower.specs.Lower.{started, begun}
-use Rattle.feed.specs.Run.{ranWriter, ranRegion}
-use Rattle.feed.specs.Feed.{feed}
+use Rattle.run.specs.Run.{ranWriter, ranRegion}
+use Rattle.run.specs.Feed.{feed}
 use Rattle.update.proofs.Laws.{key-not, key-fit, key-room, key-there, begin-argument, begin-identity, begin-done}
 use borrow.Author.Needs.{needs}
 use Rattle.keyfeed.proofs.begin_in.Statement.{statement}

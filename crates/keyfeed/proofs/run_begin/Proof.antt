@@ -4,8 +4,8 @@ use Prim.Native.Nat.{ℕ}
 use native.Mathlib.Nat.{sub-zero}
 use lib.ListN.{take}
 use Rattle.key.specs.Layout.{prefix}
-use Rattle.feed.specs.Run.{ranWriter, ranRegion}
-use Rattle.feed.specs.Feed.{feed}
+use Rattle.run.specs.Run.{ranWriter, ranRegion}
+use Rattle.run.specs.Feed.{feed}
 use Rattle.update.proofs.Laws.{feeds-writer, feeds-region}
 use borrow.Author.Needs.{needs}
 use Rattle.keyfeed.proofs.run_begin.Statement.{statement}

@@ -4,8 +4,8 @@ use Prim.Native.Nat.{ℕ}
 use native.Mathlib.Nat.{sub-zero}
 use lib.ListN.{take}
 use Rattle.writer.specs.Parts.{withSources}
-use Rattle.feed.specs.Run.{ranWriter, ranRegion}
-use Rattle.feed.specs.Feed.{dues, feed}
+use Rattle.run.specs.Run.{ranWriter, ranRegion}
+use Rattle.run.specs.Feed.{dues, feed}
 use borrow.Author.Needs.{needs}
 use Rattle.rowfeed.proofs.run_row.Statement.{statement}
 use Rattle.rowfeed.proofs.run_row.Tie as tie

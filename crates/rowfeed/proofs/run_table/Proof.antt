@@ -3,8 +3,8 @@ use mathlib.Core.List.{List, _++_}
 use Prim.Native.Nat.{ℕ}
 use native.Mathlib.Nat.{sub-zero}
 use lib.ListN.{take}
-use Rattle.feed.specs.Run.{table, lowerStep, ranWriter, ranRegion}
-use Rattle.feed.specs.Feed.{dues, feed}
+use Rattle.run.specs.Run.{table, lowerStep, ranWriter, ranRegion}
+use Rattle.run.specs.Feed.{dues, feed}
 use Rattle.update.proofs.Laws.{still-table, call-writer, call-region}
 use borrow.Author.Needs.{needs}
 use Rattle.rowfeed.proofs.run_table.Statement.{statement}

@@ -6,8 +6,8 @@ use native.Mathlib.Omega.{arith}
 use lib.Dec.{leb}
 use borrow.Author.Tests.{le-leb, lt-leb}
 use Rattle.writer.specs.State.{position}
-use Rattle.feed.specs.Run.{table, ranWriter, ranRegion}
-use Rattle.feed.specs.Feed.{dues, feed}
+use Rattle.run.specs.Run.{table, ranWriter, ranRegion}
+use Rattle.run.specs.Feed.{dues, feed}
 use Rattle.update.specs.Upper.{tableWithNames, taken, runOf}
 use Rattle.update.proofs.Laws.{upper-done, upper-full, upper-turn, upper-argument, upper-region}
 use borrow.Author.Needs.{needs}

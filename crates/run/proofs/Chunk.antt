@@ -1,0 +1,275 @@
+-- Bytes taken together and bytes taken one by one leave the same.
+use mathlib.Core.Path.{_≡_, refl, sym, ap, _∙_}
+use mathlib.Core.Bool.{Bool, true, false, not, _&&_, _||_, false≢true}
+use mathlib.Core.List.{List, [], _∷_, _++_}
+use Prim.Native.Nat.{ℕ, zero, suc, _+_, _-_, _%_, _≤_, _<_, min}
+use native.Mathlib.Omega.{arith}
+use native.Mathlib.Decide.{decLt}
+use lib.Dec.{leb, eqb}
+use lib.ListN.{length, take, drop, set, take-append-drop}
+use lib.Seq.{sets, take-all, length-take-le}
+use borrow.Author.Tests.{ne-eqb, le-leb, leb-true}
+use Rattle.leaf.proofs.Checksum.{crc32-append}
+use Rattle.header.proofs.Laws.{and-left, and-right}
+use Rattle.writer.specs.declared.Stage.{Stage}
+use Rattle.writer.specs.declared.Stage.the-variants.{Idle, Due, Headed, Committed}
+use Rattle.writer.specs.declared.Taken.{Taken}
+use Rattle.writer.specs.declared.Tables.{Tables}
+use Rattle.record.specs.declared.Source.{Source}
+use Rattle.writer.specs.declared.Parts.{Parts}
+use Rattle.writer.specs.declared.PartsStep.{PartsStep}
+use Rattle.writer.specs.Parts.{withSources, stepWith}
+use Rattle.writer.specs.declared.Writer.{Writer}
+use Rattle.writer.specs.declared.Step.{Step}
+use Rattle.writer.specs.State.{position, isDue, stageOf, aligned, takenOk, tablesOk, operationOk, stageOk, inRange}
+use Rattle.writer.proofs.Laws.{ranged}
+use Rattle.lower.specs.Lower.{mayTake, room, takenMore, withBytes, bytesStep}
+use Rattle.lower.proofs.Laws.{bytes-took, took-some, takes-fits}
+use Rattle.run.specs.Run.{lowerStep, lowerOps, ranWriter, ranRegion}
+use Rattle.run.specs.Feed.{dues, feed}
+use Rattle.run.specs.Parts.{Ran, Fed}
+use Rattle.flash.specs.Flash.{performed}
+use Rattle.run.proofs.Laws.{quiet, quiet-settled, quiet-dues-writer, quiet-dues-ran, then-writer, then-region, fed-all-writer, fed-all-region}
+
+pub is-false : (b : Bool) → not b ≡ true → b ≡ false
+is-false true e = absurd (false≢true e)
+is-false false e = refl
+
+module _ (w : Writer) (m : mayTake w ≡ true) where
+  in-range : inRange w ≡ true
+  in-range = and-left (inRange w) (not (w .taken .closed)) m
+
+  open-yet : w .taken .closed ≡ false
+  open-yet = is-false (w .taken .closed) (and-right (inRange w) (not (w .taken .closed)) m)
+
+-- a tail that is not full
+none-due : (t : Taken) → t .closed ≡ false → t .fill < 256 → isDue t ≡ false
+unfolding isDue
+none-due t c h = rw (ne-eqb (t .fill) 256 (λ e. omega arith), c)
+
+due-full : (t : Taken) → t .fill ≡ 256 → isDue t ≡ true
+unfolding isDue
+due-full t h = rw h
+
+-- ---- the state after a byte is within its ranges
+
+or-left : (a b : Bool) → (a || (false && b)) ≡ true → a ≡ true
+or-left true b e = refl
+or-left false b e = e
+
+grow : (p q a b x y : Bool) → (p && (q || (a && (b && x)))) ≡ true → (x ≡ true → y ≡ true) → (p && (q || (a && (b && y)))) ≡ true
+grow true true a b x y e f = refl
+grow true false true true x y e f = f e
+grow true false true false x y e f = e
+grow true false false b x y e f = e
+grow false q a b x y e f = e
+
+or-true : (a b : Bool) → a ≡ true → (a || b) ≡ true
+or-true a b e = rw e
+
+module _ (t : Taken) (y : ℕ) (c : t .closed ≡ false) (h : t .fill + 1 < 256) (k : position t + 1 ≤ 487424) where
+  multiple : takenOk t ≡ true → eqb (t .written % 256) 0 ≡ true
+  unfolding takenOk
+  multiple e =
+      let p = leb (position t) 487424 in
+      let f = leb (t .fill) 256 in
+      or-left (eqb (t .written % 256) 0) (eqb (t .fill) 0) (rw c at (and-right p (aligned t) (and-right f (p && aligned t) e)))
+
+  taken-more : takenOk t ≡ true → takenOk (takenMore t (y ∷ [])) ≡ true
+  unfolding takenOk
+  taken-more e =
+      let f = le-leb (t .fill + length (y ∷ [])) 256 (omega arith) in
+      let p = le-leb (t .written + (t .fill + length (y ∷ []))) 487424 (omega arith) in
+      let a = or-true (eqb (t .written % 256) 0) (t .closed && eqb (t .fill + length (y ∷ [])) 0) (multiple e) in
+      λ i. f i && (p i && a i)
+
+  idle-more : isDue (takenMore t (y ∷ [])) ≡ false
+  idle-more = none-due (takenMore t (y ∷ [])) c (omega arith)
+
+tables-more : (n m : ℕ) (s : Tables) → n ≤ m → tablesOk n s ≡ true → tablesOk m s ≡ true
+unfolding tablesOk
+tables-more n m s h e = grow (leb (s .count) 3) (eqb (s .table) 8) (leb (s .table) 7) (leb 1 (s .count)) (leb (s .start) n) (leb (s .start) m) e (λ x. le-leb (s .start) m (omega (arith, leb-true (s .start) n x)))
+
+module _ (w : Writer) (y : ℕ) (m : mayTake w ≡ true) (h : w .taken .fill + 1 < 256) (k : position (w .taken) + 1 ≤ 487424) where
+  abbrev next : Taken
+  next = takenMore (w .taken) (y ∷ [])
+
+  next-none : isDue next ≡ false
+  next-none = idle-more (w .taken) y (open-yet w m) h k
+
+  next-stage : stageOf (w .beginning .comparing) next ≡ Idle
+  unfolding stageOf
+  next-stage = rw next-none
+
+  next-quiet : quiet (withBytes w (y ∷ []) .stage) ≡ true
+  unfolding withBytes
+  next-quiet = ap quiet next-stage
+
+  next-ok : stageOk (w .beginning .comparing) next (stageOf (w .beginning .comparing) next) ≡ true
+  unfolding stageOk
+  next-ok = ap (stageOk (w .beginning .comparing) next) next-stage ∙ ap not next-none
+
+  next-tables : tablesOk (position next) (withBytes w (y ∷ []) .tables) ≡ true
+  unfolding tablesOk withBytes
+  next-tables = tables-more (position (w .taken)) (position next) (w .tables) (omega arith) (ranged w (in-range w m) .tables)
+
+  next-takes : mayTake (withBytes w (y ∷ [])) ≡ true
+  unfolding inRange withBytes
+  next-takes =
+      let a = ranged w (in-range w m) .active in
+      let t = taken-more (w .taken) y (open-yet w m) h k (ranged w (in-range w m) .taken) in
+      λ i. (a i && (t i && (next-tables i && next-ok i))) && not (open-yet w m i)
+
+-- ---- two steps are one
+
+module _ (w : Writer) (y : ℕ) (xs : List ℕ) where
+  both-taken : takenMore (takenMore (w .taken) (y ∷ [])) xs ≡ takenMore (w .taken) (y ∷ xs)
+  both-taken =
+      let f : w .taken .fill + length (y ∷ []) + length xs ≡ w .taken .fill + length (y ∷ xs) = omega arith in
+      λ i. record { written = w .taken .written; fill = f i; crc = crc32-append (w .taken .crc) (y ∷ []) xs i; different = w .taken .different; closed = w .taken .closed }
+
+  both-bytes : withBytes (withBytes w (y ∷ [])) xs ≡ withBytes w (y ∷ xs)
+  unfolding withBytes
+  both-bytes =
+      let e : w .taken .fill + length (y ∷ []) ≡ suc (w .taken .fill) = omega arith in
+      λ i. record {
+        stage = stageOf (w .beginning .comparing) (both-taken i);
+        beginning = w .beginning;
+        taken = both-taken i;
+        tables = record { count = w .tables .count; table = w .tables .table; start = w .tables .start; crc = crc32-append (w .tables .crc) (y ∷ []) xs i; begun = w .tables .begun };
+        sources = w .sources;
+        tail = sets (set (w .tail) (w .taken .fill) y) (e i) xs;
+      }
+
+-- ---- one call
+
+module _ (w : Writer) (xs : List ℕ) (m : mayTake w ≡ true) (d : isDue (w .taken) ≡ false) (k : position (w .taken) + length xs ≤ 487424) where
+  pub all-taken : (n : ℕ) → n ≡ room (w .taken) (length xs) → bytesStep w xs .writer ≡ withBytes w (take n xs)
+  all-taken n e = sym (ap (λ (s : Step). s .writer) (took-some w xs n (withBytes w (take n xs)) d e refl ∙ bytes-took w xs m k))
+
+byte-taken : (w : Writer) (y : ℕ) → mayTake w ≡ true → isDue (w .taken) ≡ false → w .taken .fill + 1 ≤ 256 → position (w .taken) + 1 ≤ 487424 → bytesStep w (y ∷ []) .writer ≡ withBytes w (y ∷ [])
+byte-taken w y m d h k = let e : 1 ≡ min 1 (256 - w .taken .fill) = omega arith in all-taken w (y ∷ []) m d (omega arith) 1 e
+
+-- ---- the run of a chunk
+
+due-after : (w : Writer) (y : ℕ) (m : mayTake w ≡ true) → w .taken .fill + 1 < 256 → position (w .taken) + 1 ≤ 487424 → isDue (withBytes w (y ∷ []) .taken) ≡ false
+unfolding withBytes
+due-after w y m h k = next-none w y m h k
+
+fill-after : (w : Writer) (y : ℕ) (ys : List ℕ) → w .taken .fill + suc (suc (length ys)) ≤ 256 → withBytes w (y ∷ []) .taken .fill + suc (length ys) ≤ 256
+unfolding withBytes
+fill-after w y ys h = omega arith
+
+place-after : (w : Writer) (y : ℕ) (ys : List ℕ) → position (w .taken) + suc (suc (length ys)) ≤ 487424 → position (withBytes w (y ∷ []) .taken) + suc (length ys) ≤ 487424
+unfolding withBytes
+place-after w y ys h = omega arith
+
+module _ (region : List ℕ) (zs : List ℕ) where
+  chunk-writer : (ys : List ℕ) (y : ℕ) (w : Writer) → mayTake w ≡ true → isDue (w .taken) ≡ false → w .taken .fill + suc (length ys) ≤ 256 → position (w .taken) + suc (length ys) ≤ 487424
+      → ranWriter region w (feed (y ∷ (ys ++ zs))) ≡ ranWriter region (withBytes w (y ∷ ys)) (dues ++ feed zs)
+  unfolding feed ranWriter lowerStep lowerOps performed
+  chunk-writer [] y w m d h k = ap (λ (v : Writer). ranWriter region v (dues ++ feed zs)) (byte-taken w y m d (omega arith) (omega arith))
+  chunk-writer (x ∷ ys) y w m d h k =
+      let f : w .taken .fill + 1 < 256 = omega arith in
+      let p : position (w .taken) + 1 ≤ 487424 = omega arith in
+      ap (λ (v : Writer). ranWriter region v (dues ++ feed (x ∷ (ys ++ zs)))) (byte-taken w y m d (omega arith) p)
+      ∙ quiet-dues-writer region (withBytes w (y ∷ [])) (feed (x ∷ (ys ++ zs))) (next-quiet w y m f p)
+      ∙ chunk-writer ys x (withBytes w (y ∷ [])) (next-takes w y m f p) (due-after w y m f p) (fill-after w y ys h) (place-after w y ys k)
+      ∙ ap (λ (v : Writer). ranWriter region v (dues ++ feed zs)) (both-bytes w y (x ∷ ys))
+
+  chunk-region : (ys : List ℕ) (y : ℕ) (w : Writer) → mayTake w ≡ true → isDue (w .taken) ≡ false → w .taken .fill + suc (length ys) ≤ 256 → position (w .taken) + suc (length ys) ≤ 487424
+      → ranRegion region w (feed (y ∷ (ys ++ zs))) ≡ ranRegion region (withBytes w (y ∷ ys)) (dues ++ feed zs)
+  unfolding feed ranRegion lowerStep lowerOps performed
+  chunk-region [] y w m d h k = ap (λ (v : Writer). ranRegion region v (dues ++ feed zs)) (byte-taken w y m d (omega arith) (omega arith))
+  chunk-region (x ∷ ys) y w m d h k =
+      let f : w .taken .fill + 1 < 256 = omega arith in
+      let p : position (w .taken) + 1 ≤ 487424 = omega arith in
+      ap (λ (v : Writer). ranRegion region v (dues ++ feed (x ∷ (ys ++ zs)))) (byte-taken w y m d (omega arith) p)
+      ∙ quiet-dues-ran region (withBytes w (y ∷ [])) (feed (x ∷ (ys ++ zs))) (next-quiet w y m f p)
+      ∙ chunk-region ys x (withBytes w (y ∷ [])) (next-takes w y m f p) (due-after w y m f p) (fill-after w y ys h) (place-after w y ys k)
+      ∙ ap (λ (v : Writer). ranRegion region v (dues ++ feed zs)) (both-bytes w y (x ∷ ys))
+
+split : (region : List ℕ) (w : Writer) (bs : List ℕ) (n : ℕ) → mayTake w ≡ true → isDue (w .taken) ≡ false → 1 ≤ n → n ≤ length bs → w .taken .fill + n ≤ 256 → position (w .taken) + n ≤ 487424
+    → (ranWriter region w (feed bs) ≡ ranWriter region (withBytes w (take n bs)) (dues ++ feed (drop n bs))) × (ranRegion region w (feed bs) ≡ ranRegion region (withBytes w (take n bs)) (dues ++ feed (drop n bs)))
+split region w bs zero m d h i f k = absurd (omega arith)
+split region w [] (suc n) m d h i f k = absurd (omega arith)
+split region w (y ∷ bs) (suc n) m d h i f k =
+    let j : n ≤ length bs = omega arith in
+    let e : length (take n bs) ≡ n = length-take-le n bs j in
+    let t = ap (λ (l : List ℕ). y ∷ l) (take-append-drop n bs) in (
+      sym (ap (λ (l : List ℕ). ranWriter region w (feed l)) t) ∙ chunk-writer region (drop n bs) (take n bs) y w m d (omega arith) (omega arith),
+      sym (ap (λ (l : List ℕ). ranRegion region w (feed l)) t) ∙ chunk-region region (drop n bs) (take n bs) y w m d (omega arith) (omega arith),
+    )
+
+some-by : (fill n l : ℕ) → n ≡ min l (256 - fill) → 1 ≤ l → fill ≤ 256 → (fill ≡ 256 → ⊥) → (1 ≤ n) × (n ≤ l) × (fill + n ≤ 256)
+some-by fill n l e h k f = some-of (decLt fill 256)
+  where
+    some-of : Dec (fill < 256) → (1 ≤ n) × (n ≤ l) × (fill + n ≤ 256)
+    some-of (yes x) = (omega arith, omega arith, omega arith)
+    some-of (no x) = absurd (f (omega arith))
+
+-- a call that takes n of the bytes, then what is due
+module _ (region : List ℕ) (w : Writer) (bs : List ℕ) (m : mayTake w ≡ true) (d : isDue (w .taken) ≡ false) (k : position (w .taken) + length bs ≤ 487424) (l : 1 ≤ length bs) where
+  full-not : w .taken .fill ≡ 256 → ⊥
+  full-not e = false≢true (sym d ∙ due-full (w .taken) e)
+
+  module _ (n : ℕ) (e : n ≡ min (length bs) (256 - w .taken .fill)) where
+    some : (1 ≤ n) × (n ≤ length bs) × (w .taken .fill + n ≤ 256)
+    some = some-by (w .taken .fill) n (length bs) e l (takes-fits w m .0) full-not
+
+    module _ (s : Step) (f : s ≡ bytesStep w bs) (v : Writer) (r : List ℕ) (a : v ≡ ranWriter region (s .writer) dues) (b : r ≡ ranRegion region (s .writer) dues) where
+      taken-is : s .writer ≡ withBytes w (take n bs)
+      taken-is = ap (λ (x : Step). x .writer) f ∙ all-taken w bs m d k n e
+
+      chunk-fed : (1 ≤ n) × (n ≤ length bs) × (ranWriter r v (feed (drop n bs)) ≡ ranWriter region w (feed bs)) × (ranRegion r v (feed (drop n bs)) ≡ ranRegion region w (feed bs))
+      chunk-fed =
+          let q = split region w bs n m d (some .0) (some .1) (some .2) (omega (arith, some .1)) in (
+            some .0,
+            some .1,
+            then-writer region (s .writer) dues (feed (drop n bs)) v r a b (ranWriter r v (feed (drop n bs))) refl ∙ ap (λ (x : Writer). ranWriter region x (dues ++ feed (drop n bs))) taken-is ∙ sym (q .0),
+            then-region region (s .writer) dues (feed (drop n bs)) v r a b (ranRegion r v (feed (drop n bs))) refl ∙ ap (λ (x : Writer). ranRegion region x (dues ++ feed (drop n bs))) taken-is ∙ sym (q .1),
+          )
+
+-- the same on parts
+pub chunk-parts : (region : List ℕ) (p : Parts) (bs : List ℕ) → ((ss : List Source) → mayTake (withSources p ss) ≡ true) → isDue (p .taken) ≡ false → position (p .taken) + length bs ≤ 487424 → 1 ≤ length bs
+    → (n : ℕ) → n ≡ min (length bs) (256 - p .taken .fill) → (s : PartsStep) → ((ss : List Source) → stepWith s ss ≡ bytesStep (withSources p ss) bs) → (q : Parts) (r : List ℕ) → Ran region (s .parts) dues q r → Fed region p bs n q r
+chunk-parts region p bs m d k l n e s f q r g = (at [] .0, at [] .1, λ ss. (at ss .2, at ss .3))
+  where
+    at : (ss : List Source) → (1 ≤ n) × (n ≤ length bs) × (ranWriter r (withSources q ss) (feed (drop n bs)) ≡ ranWriter region (withSources p ss) (feed bs)) × (ranRegion r (withSources q ss) (feed (drop n bs)) ≡ ranRegion region (withSources p ss) (feed bs))
+    at ss = chunk-fed region (withSources p ss) bs (m ss) d k l n e (stepWith s ss) (f ss) (withSources q ss) r (g ss .0) (g ss .1)
+
+-- ---- bytes that leave room in the tail, and nothing is due
+
+module _ (w : Writer) (d : isDue (w .taken) ≡ false) where
+  quiet-by : (s : Stage) → stageOk (w .beginning .comparing) (w .taken) s ≡ true → quiet s ≡ true
+  unfolding stageOk
+  quiet-by (Due o) e = absurd (false≢true (sym d ∙ and-left (isDue (w .taken)) (operationOk (w .beginning .comparing) (w .taken) o) e))
+  quiet-by Idle e = refl
+  quiet-by Headed e = refl
+  quiet-by Committed e = refl
+
+module _ (region : List ℕ) (w : Writer) (bs : List ℕ) (m : mayTake w ≡ true) (d : isDue (w .taken) ≡ false) (k : position (w .taken) + length bs ≤ 487424) (l : 1 ≤ length bs) (h : w .taken .fill + length bs < 256) where
+  quiet-before : quiet (w .stage) ≡ true
+  quiet-before = quiet-by w d (w .stage) (ranged w (in-range w m) .stage)
+
+  stage-after : withBytes w bs .stage ≡ Idle
+  unfolding withBytes stageOf
+  stage-after = rw (none-due (takenMore (w .taken) bs) (open-yet w m) h)
+
+  module _ (s : Step) (f : s ≡ bytesStep w bs) where
+    all-fit : length bs ≡ min (length bs) (256 - w .taken .fill)
+    all-fit = omega arith
+
+    is-taken : s .writer ≡ withBytes w bs
+    is-taken = ap (λ (x : Step). x .writer) f ∙ all-taken w bs m d k (length bs) all-fit ∙ ap (withBytes w) (take-all (length bs) bs (omega arith))
+
+    quiet-after : quiet (s .writer .stage) ≡ true
+    quiet-after = ap (λ (v : Writer). quiet (v .stage)) is-taken ∙ ap quiet stage-after
+
+    pub short-fed : (s .writer ≡ ranWriter region w (dues ++ (dues ++ feed bs))) × (region ≡ ranRegion region w (dues ++ (dues ++ feed bs)))
+    short-fed =
+        let q = quiet-settled region (s .writer) (s .writer .stage) refl quiet-after in
+        let c = chunk-fed region w bs m d k l (length bs) all-fit s f (s .writer) region (q .0) (q .1) in (
+          fed-all-writer region (s .writer) bs (length bs) (omega arith) (ranWriter region w (feed bs)) (c .2) ∙ sym (quiet-dues-writer region w (dues ++ feed bs) quiet-before ∙ quiet-dues-writer region w (feed bs) quiet-before),
+          fed-all-region region (s .writer) bs (length bs) (omega arith) (ranRegion region w (feed bs)) (c .3) ∙ sym (quiet-dues-ran region w (dues ++ feed bs) quiet-before ∙ quiet-dues-ran region w (feed bs) quiet-before),
+        )

@@ -1,0 +1,29 @@
+use mathlib.Core.List.{_++_}
+use Rattle.run.specs.Feed.{dues, feed}
+use Rattle.run.proofs.Laws.{joined}
+use borrow.Author.Needs.{needs}
+use Rattle.run.proofs.settle_feed.Statement.{statement}
+use Rattle.run.proofs.settle_feed.Tie as tie
+
+parts-of-requires : tie.Need-parts-of-requires
+parts-of-requires c κs = search needs
+
+settle-feed-parts-requires : tie.Need-settle-feed-parts-requires
+settle-feed-parts-requires c κs = search needs
+
+with-sources-requires : tie.Need-with-sources-requires
+with-sources-requires c κs = search needs
+
+same-length : tie.Need-same-length
+same-length c = search needs
+
+returns : tie.Need-returns
+returns c =
+    let d = c .before .before .before .before in
+    let p = d .before .before in
+    let a = p .before .before .before .args in
+    let q = d .settle-feed-parts in
+    joined (a .region .now) (a .w) (dues ++ feed (a .bytes .now)) (p .parts-of .result) (q .result) (c .with-sources .result) (q .last .1 .0) (p .parts-of .ensures) (q .ensures) (c .with-sources .ensures)
+
+pub settle-feed-spec : {M : Type 1} → statement M
+settle-feed-spec = tie.close (tie.spec parts-of-requires settle-feed-parts-requires with-sources-requires same-length returns)
