@@ -26,7 +26,7 @@ use Rattle.writer.proofs.Laws.{ranged}
 use Rattle.lower.specs.Lower.{started, begun}
 use Rattle.run.specs.Run.{Lower, lowerStep, lowerOps, lowerRegion, ranWriter, ranOps}
 use Rattle.run.specs.Feed.{feed}
-use Rattle.update.specs.Upper.{Upper, runOf, refusalOf, runIf, upperRun, answered, upperStep, upperOps, beginRefusal, keyBytes, beginRun, beganWith, beginStep, beginOps}
+use Rattle.upper.specs.Upper.{Upper, runOf, refusalOf, runIf, upperRun, answered, upperStep, upperOps, beginRefusal, keyBytes, beginRun, beganWith, beginStep, beginOps}
 use Rattle.powerloss.specs.History.{Update, opened, takes, updateAfter, isDone}
 use Rattle.powerloss.specs.Machine.{Image, Event, begin, beginCut, call, cut, beginKey, beginKeyCut, upper, upperCut, Run, onCall, onCut, onUpper, onUpperCut, stateAfter, found, next, nextAll}
 use Rattle.powerloss.specs.Claim.{UpperTyped, Typed, AllTyped}

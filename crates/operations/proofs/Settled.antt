@@ -17,7 +17,7 @@ use Rattle.writer.specs.State.{isDue}
 use Rattle.lower.specs.Lower.{started}
 use Rattle.run.specs.Run.{bytes, lowerStep, lowerRegion, ranWriter}
 use Rattle.run.specs.Feed.{feed}
-use Rattle.update.specs.Upper.{beginRefusal, keyBytes, beginRun, beganWith, beginStep}
+use Rattle.upper.specs.Upper.{beginRefusal, keyBytes, beginRun, beganWith, beginStep}
 use Rattle.powerloss.specs.History.{Update, opened, takes, updateAfter, isDone}
 use Rattle.powerloss.specs.Machine.{Image, found, nextAll}
 use Rattle.powerloss.proofs.Bytes.{bytes-nil, bytes-cons}

@@ -22,7 +22,7 @@ use Rattle.writer.specs.State.{tailSize, position, isDue}
 use Rattle.lower.specs.Lower.{begun}
 use Rattle.due.specs.Due.{dueStep, dueOps}
 use Rattle.run.specs.Run.{Lower, lowerOps, ranWriter, ranOps}
-use Rattle.update.specs.Upper.{Upper, upperOps, beginStep, beginOps}
+use Rattle.upper.specs.Upper.{Upper, upperOps, beginStep, beginOps}
 use Rattle.powerloss.specs.History.{Update}
 use Rattle.powerloss.specs.Machine.{Event, begin, beginCut, call, cut, beginKey, beginKeyCut, upper, upperCut, Run, found, next, nextAll}
 use Rattle.powerloss.specs.Claim.{LowerTyped, AllTyped}

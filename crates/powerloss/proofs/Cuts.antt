@@ -19,7 +19,7 @@ use Rattle.writer.specs.declared.Writer.{Writer}
 use Rattle.writer.specs.State.{target}
 use Rattle.lower.specs.Lower.{started}
 use Rattle.run.specs.Run.{Lower, lowerOps}
-use Rattle.update.specs.Upper.{Upper, upperOps, beginOps}
+use Rattle.upper.specs.Upper.{Upper, upperOps, beginOps}
 use Rattle.powerloss.specs.History.{Update, History, afterLowerCut}
 use Rattle.powerloss.specs.Machine.{Run, cut, beginKeyCut, upperCut, cutAt, doneAt, onCut, onUpperCut, next}
 use Rattle.powerloss.specs.Claim.{Torn, CutTyped, NoneOpen, Dropped, Sized, Between}

@@ -14,7 +14,7 @@ use Rattle.writer.specs.declared.Writer.{Writer}
 use Rattle.writer.specs.State.{isDue, inRange}
 use Rattle.run.specs.Run.{Lower, bytes, ranWriter, ranRegion}
 use Rattle.run.specs.Feed.{dues, feed}
-use Rattle.update.specs.Upper.{Upper, taken, lowerOf, runOf, refusalOf, runIf, upperRun, answered, upperStep}
+use Rattle.upper.specs.Upper.{Upper, taken, lowerOf, runOf, refusalOf, runIf, upperRun, answered, upperStep}
 use Rattle.powerloss.specs.History.{Update, isDone}
 use Rattle.powerloss.specs.Machine.{Image, Run, nextAll, found}
 use Rattle.powerloss.specs.Claim.{UpperTyped, Reached, Settled}

@@ -35,7 +35,7 @@ use Rattle.lower.specs.Lower.{mayTake, mayBegin, started, answerOf, withSource,
 use Rattle.lower.proofs.Laws.{source-done, table-done, end-done, close-done}
 use Rattle.run.specs.Run.{Lower, source, table, end, close, lowerStep, lowerOps, ranWriter, ranRegion, ranOps}
 use Rattle.run.specs.Feed.{dues, feed}
-use Rattle.update.specs.Upper.{Upper, sourceWithDates, tableWithNames, row, tableEnd, closing, taken, lowerOf, runOf, argumentOk, orderOk, rowOk, sourceFits, allFits, refusalOf, runIf, upperRun, answered, upperStep, upperRegion, upperOps, beginRefusal, keyBytes, beginRun, beganWith, beginStep, beginRegion, beginOps}
+use Rattle.upper.specs.Upper.{Upper, sourceWithDates, tableWithNames, row, tableEnd, closing, taken, lowerOf, runOf, argumentOk, orderOk, rowOk, sourceFits, allFits, refusalOf, runIf, upperRun, answered, upperStep, upperRegion, upperOps, beginRefusal, keyBytes, beginRun, beganWith, beginStep, beginRegion, beginOps}
 use Rattle.powerloss.specs.History.{Update, sourceNote, tableNote, endNote, opened, takes, notesOf, updateAfter, upperNoted, upperAfter, afterUpper, afterBegin}
 use Rattle.powerloss.specs.Machine.{cutAt, Image, Run, Event, begin, beginCut, call, cut, beginKey, beginKeyCut, upper, upperCut, onUpper, onUpperCut, stateAfter, next, nextAll, found}
 use Rattle.powerloss.specs.Claim.{UpperTyped, Typed, AllTyped, Demand3}

@@ -25,7 +25,7 @@ use Rattle.writer.specs.State.{target, inRange, isDue}
 use Rattle.commit.specs.declared.Stamp.{Stamp}
 use Rattle.commit.specs.declared.Stamp.the-variants.{Given, Missing}
 use Rattle.run.specs.Run.{Lower, source, table, bytes, end, close, due, unchanged, commit, word, lowerOps}
-use Rattle.update.specs.Upper.{Upper, sourceWithDates, tableWithNames, row, tableEnd, closing, upperStep, upperOps, beginOps}
+use Rattle.upper.specs.Upper.{Upper, sourceWithDates, tableWithNames, row, tableEnd, closing, upperStep, upperOps, beginOps}
 use Rattle.powerloss.specs.Machine.{cutAt, doneAt, Event, begin, beginCut, call, cut, beginKey, beginKeyCut, upper, upperCut, Run, bankIn, recordsIn, found, next, nextAll}
 
 -- What the types of the region and the arguments say: bytes are below 256, a record's fields have their widths, times have 64 bits. Nothing else is

@@ -20,7 +20,7 @@ use Rattle.lower.specs.Lower.{emptied, pastEnd, withBlock}
 use Rattle.commit.specs.declared.Stamp.{Stamp}
 use Rattle.commit.specs.Commit.{checkedTime, routesOffset}
 use Rattle.run.specs.Run.{Lower, source, table, bytes, end, close, due, unchanged, commit, word}
-use Rattle.update.specs.Upper.{Upper, sourceWithDates, tableWithNames, row, tableEnd, closing, taken, keyBytes}
+use Rattle.upper.specs.Upper.{Upper, sourceWithDates, tableWithNames, row, tableEnd, closing, taken, keyBytes}
 
 -- "Source, table and table end calls note their arguments and the count of bytes before any of their own."
 pub data Note : Type 0 where

@@ -21,7 +21,7 @@ use Rattle.writer.specs.declared.Step.{Step}
 use Rattle.writer.specs.State.{target}
 use Rattle.lower.specs.Lower.{begun, started}
 use Rattle.run.specs.Run.{Lower, word, lowerStep, lowerOps, lowerRegion}
-use Rattle.update.specs.Upper.{Upper, upperStep, upperRegion, upperOps, beginStep, beginRegion, beginOps, keyBytes}
+use Rattle.upper.specs.Upper.{Upper, upperStep, upperRegion, upperOps, beginStep, beginRegion, beginOps, keyBytes}
 use Rattle.powerloss.specs.History.{Update, History, afterLower, afterLowerCut, afterUpper, afterBegin, withOpen, isWord, isDone, anyDone}
 
 -- A call with all its arguments, answered, or cut: its first k operations are done whole, and of the next the first j bytes. Any k and j: past

@@ -2,17 +2,17 @@
 // their lengths. No call asks anything of its caller.
 ghost use mathlib.Core.Path.{_≡_};
 ghost use Rattle.record.specs.Record.{decoded};
-ghost use Rattle.update.specs.Upper as Upper;
+ghost use Rattle.upper.specs.Upper as Upper;
 ghost use Rattle.saved.specs.State.{writerOf};
 ghost use Rattle.saved.specs.Answers as Answers;
 use record::decode;
-use rowfeed::row_parts;
 use saved::State;
 use saved::UpdateStep;
 use saved::after;
 use saved::after_parts;
 use saved::parts_of;
 use saved::writer_of;
+use upper::rows::row_parts;
 
 // Begins an update and feeds the key of an identity and picks; five lengths to a pick.
 #[no_mangle]
@@ -28,7 +28,7 @@ pub extern "C" fn tt_upper_begin(
     ensures { λ x. ⌜ x ≡ Answers.after (Upper.beginStep (now (region .entry)) comparing at (now (identity .entry)) (now (texts .entry)) (now (lengths .entry))) state ⌝ }
     ensures { λ _. ⌜ now (region .exit) ≡ Upper.beginRegion (now (region .entry)) comparing at (now (identity .entry)) (now (texts .entry)) (now (lengths .entry)) ⌝ }
 {
-    let s = keyfeed::begin(region, comparing, at, identity, texts, lengths);
+    let s = upper::begin::begin(region, comparing, at, identity, texts, lengths);
     after(s, state)
 }
 
@@ -39,7 +39,7 @@ pub extern "C" fn tt_upper_source(region: &mut [u8], state: State, bytes: &[u8])
     ensures { λ _. ⌜ now (region .exit) ≡ Upper.upperRegion (now (region .entry)) (writerOf state) (Upper.sourceWithDates (decoded 3 (now (bytes .entry)))) ⌝ }
 {
     let r = decode(bytes, 3);
-    let s = datefeed::source(writer_of(state), region, r);
+    let s = upper::source::source(writer_of(state), region, r);
     after(s, state)
 }
 
@@ -49,7 +49,7 @@ pub extern "C" fn tt_upper_table(region: &mut [u8], state: State, table: u32) ->
     ensures { λ x. ⌜ x ≡ Answers.after (Upper.upperStep (now (region .entry)) (writerOf state) (Upper.tableWithNames table)) state ⌝ }
     ensures { λ _. ⌜ now (region .exit) ≡ Upper.upperRegion (now (region .entry)) (writerOf state) (Upper.tableWithNames table) ⌝ }
 {
-    let s = rowfeed::table(writer_of(state), region, table);
+    let s = upper::rows::table(writer_of(state), region, table);
     after(s, state)
 }
 
@@ -75,7 +75,7 @@ pub extern "C" fn tt_upper_end(region: &mut [u8], state: State) -> UpdateStep
     ensures { λ x. ⌜ x ≡ Answers.after (Upper.upperStep (now (region .entry)) (writerOf state) Upper.tableEnd) state ⌝ }
     ensures { λ _. ⌜ now (region .exit) ≡ Upper.upperRegion (now (region .entry)) (writerOf state) Upper.tableEnd ⌝ }
 {
-    let s = datefeed::end(writer_of(state), region);
+    let s = upper::source::end(writer_of(state), region);
     after(s, state)
 }
 
@@ -85,6 +85,6 @@ pub extern "C" fn tt_upper_close(region: &mut [u8], state: State) -> UpdateStep
     ensures { λ x. ⌜ x ≡ Answers.after (Upper.upperStep (now (region .entry)) (writerOf state) Upper.closing) state ⌝ }
     ensures { λ _. ⌜ now (region .exit) ≡ Upper.upperRegion (now (region .entry)) (writerOf state) Upper.closing ⌝ }
 {
-    let s = datefeed::close(writer_of(state), region);
+    let s = upper::source::close(writer_of(state), region);
     after(s, state)
 }

@@ -3,7 +3,7 @@ use mir.Syntax.{w64}
 use mir.ValLaws.{toZ-ofZ}
 use lib.IntN.{ℤ}
 use Rattle.writer.specs.declared.Step.{Step}
-use Rattle.update.specs.Upper.{beginStep, beginRegion}
+use Rattle.upper.specs.Upper.{beginStep, beginRegion}
 use Rattle.saved.specs.Answers.{after}
 use borrow.Author.Needs.{needs}
 use Rattle.upperexport.proofs.tt_upper_begin.Statement.{statement}

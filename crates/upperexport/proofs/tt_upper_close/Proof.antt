@@ -1,7 +1,7 @@
 use mathlib.Core.Path.{ap, _∙_}
 use Rattle.writer.specs.declared.Writer.{Writer}
 use Rattle.writer.specs.declared.Step.{Step}
-use Rattle.update.specs.Upper.{upperStep, upperRegion, closing}
+use Rattle.upper.specs.Upper.{upperStep, upperRegion, closing}
 use Rattle.saved.specs.Answers.{after}
 use borrow.Author.Needs.{needs}
 use Rattle.upperexport.proofs.tt_upper_close.Statement.{statement}

@@ -2,7 +2,7 @@ use mathlib.Core.Path.{ap, _∙_}
 use Rattle.writer.specs.declared.Parts.{Parts}
 use Rattle.writer.specs.declared.Step.{Step}
 use Rattle.writer.specs.Parts.{withSources}
-use Rattle.update.specs.Upper.{upperStep, upperRegion, row}
+use Rattle.upper.specs.Upper.{upperStep, upperRegion, row}
 use Rattle.saved.specs.State.{writerOf}
 use Rattle.saved.specs.Answers.{after}
 use borrow.Author.Needs.{needs}

@@ -1,6 +1,6 @@
 use mathlib.Core.Path.{ap, _∙_}
 use Rattle.writer.specs.declared.Step.{Step}
-use Rattle.update.specs.Upper.{upperStep, upperRegion, sourceWithDates}
+use Rattle.upper.specs.Upper.{upperStep, upperRegion, sourceWithDates}
 use Rattle.saved.specs.Answers.{after}
 use borrow.Author.Needs.{needs}
 use Rattle.upperexport.proofs.tt_upper_source.Statement.{statement}

@@ -1,0 +1,119 @@
+use mathlib.Core.Path.{refl, sym, ap, _∙_}
+use mathlib.Core.List.{List, _++_}
+use Prim.Native.Nat.{ℕ, _+_}
+use native.Mathlib.Omega.{arith}
+use lib.Dec.{leb}
+use lib.ListN.{replicate}
+use Rattle.writer.specs.declared.PartsStep.{PartsStep}
+use Rattle.writer.specs.Parts.{withSources, stepWith}
+use Rattle.writer.specs.State.{position}
+use Rattle.run.specs.Run.{ranWriter, ranRegion}
+use Rattle.run.specs.Feed.{dues, feed}
+use Rattle.upper.specs.Upper.{row, taken, runOf}
+use Rattle.upper.proofs.Laws.{row-written, row-length, row-there, upper-done, upper-full}
+use borrow.Author.Needs.{needs}
+use Rattle.upper.proofs.rows.row_in.Statement.{statement}
+use Rattle.upper.proofs.rows.row_in.Tie as tie
+
+slice-aggregate-row : tie.Need-slice-aggregate-row
+slice-aggregate-row c = search needs
+
+row-requires : tie.Need-row-requires
+row-requires c κs = search needs
+
+enum-known-a : tie.Need-enum-known-a
+enum-known-a c = search needs
+
+enum-told : tie.Need-enum-told
+enum-told c = search needs
+
+long-row-requires : tie.Need-long-row-requires
+long-row-requires c κs =
+    let s = c .before .before .before .before .before .before .before .before .before .before in
+    (s .pre .0, s .pre .1, s .pre .2)
+
+same-length : tie.Need-same-length
+same-length c = search needs
+
+returns : tie.Need-returns
+returns c =
+    let l = c .before .before .long-row in
+    l .ensures
+
+fits-requires : tie.Need-fits-requires
+fits-requires c κs = search needs
+
+slice-aggregate-run-row : tie.Need-slice-aggregate-run-row
+slice-aggregate-run-row c = search needs
+
+run-row-requires : tie.Need-run-row-requires
+run-row-requires c κs =
+    let r = c .before .before .before .before .before .before .before .before in
+    let s = r .before .before .before .before .before .before in
+    let y = s .args in
+    let n = c .before .before .before .before .before .a .given in
+    let k = row-length (y .p .tables .table) (y .texts .now) (y .lengths .now) (replicate 512 0) (r .row .last .1 .1 .1 .0) (r .row .result) (s .pre .2) (r .row .ensures .0) (r .row .ensures .1) (n .0 .0) (n .1) in
+    omega (arith, k)
+
+parts-did-requires : tie.Need-parts-did-requires
+parts-did-requires c κs = search needs
+
+same-length-2 : tie.Need-same-length-2
+same-length-2 c = search needs
+
+returns-2 : tie.Need-returns-2
+unfolding taken runOf
+returns-2 c = λ ss.
+    let r = c .before .before .before .before .before .before .before .before .before .before .before .before in
+    let s = r .before .before .before .before .before .before in
+    let y = s .args in
+    let x = c .before .before .before in
+    let t = x .before .before .before in
+    let f = t .before in
+    let n = f .before .before .a .given in
+    let w = row-written (y .p .tables .table) (y .texts .now) (y .lengths .now) (replicate 512 0) (r .row .last .1 .1 .1 .0) (r .row .result) (s .pre .2) (r .row .ensures .0) (r .row .ensures .1) (n .0 .0) (n .1) in
+    let b = row-there (y .p .tables .table) (y .texts .now) (y .lengths .now) (replicate 512 0) (r .row .last .1 .1 .1 .0) (r .row .result) (s .pre .2) (r .row .ensures .0) (r .row .ensures .1) (n .0 .0) (n .1) in
+    let d =
+    upper-done (y .region .now) (withSources (y .p) ss) (row (y .texts .now) (y .lengths .now)) (s .pre .0) refl (s .pre .1 ss) (w .0)
+    (ap (λ (k : ℕ). leb (position (y .p .taken) + k) 487424) (sym (w .1)) ∙ sym (f .fits2 .ensures) ∙ t .if1 .taken)
+    (withSources (x .run-row .result) ss)
+    (x .run-row .last .1 .0)
+    (x .run-row .ensures ss .0 ∙ ap (λ (l : List ℕ). ranWriter (y .region .now) (withSources (y .p) ss) (dues ++ (dues ++ feed l))) b)
+    (x .run-row .ensures ss .1 ∙ ap (λ (l : List ℕ). ranRegion (y .region .now) (withSources (y .p) ss) (dues ++ (dues ++ feed l))) b) in
+    (ap (λ (z : PartsStep). stepWith z ss) (c .parts-did .ensures) ∙ d .0, d .1)
+
+parts-stay-requires : tie.Need-parts-stay-requires
+parts-stay-requires c κs = search needs
+
+returns-3 : tie.Need-returns-3
+unfolding taken
+returns-3 c = λ ss.
+    let r = c .before .before .before .before .before .before .before in
+    let s = r .before .before .before .before .before .before in
+    let y = s .args in
+    let t = c .before in
+    let f = t .before in
+    let n = f .before .before .a .given in
+    let w = row-written (y .p .tables .table) (y .texts .now) (y .lengths .now) (replicate 512 0) (r .row .last .1 .1 .1 .0) (r .row .result) (s .pre .2) (r .row .ensures .0) (r .row .ensures .1) (n .0 .0) (n .1) in
+    let d = upper-full (y .region .now) (withSources (y .p) ss) (row (y .texts .now) (y .lengths .now)) (s .pre .0) refl (s .pre .1 ss) (w .0) (ap (λ (k : ℕ). leb (position (y .p .taken) + k) 487424) (sym (w .1)) ∙ sym (f .fits2 .ensures) ∙ t .if1 .left) in
+    (ap (λ (z : PartsStep). stepWith z ss) (c .parts-stay .ensures) ∙ d .0, d .1)
+
+pub row-in-spec : {M : Type 1} → statement M
+row-in-spec =
+    tie.close
+    (tie.spec
+    slice-aggregate-row
+    row-requires
+    enum-known-a
+    enum-told
+    long-row-requires
+    same-length
+    returns
+    fits-requires
+    slice-aggregate-run-row
+    run-row-requires
+    parts-did-requires
+    same-length-2
+    returns-2
+    parts-stay-requires
+    returns-3)

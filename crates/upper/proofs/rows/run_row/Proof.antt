@@ -1,0 +1,48 @@
+use mathlib.Core.Path.{ap, _∙_}
+use mathlib.Core.List.{List, _++_}
+use Prim.Native.Nat.{ℕ}
+use native.Mathlib.Nat.{sub-zero}
+use lib.ListN.{take}
+use Rattle.writer.specs.Parts.{withSources}
+use Rattle.run.specs.Run.{ranWriter, ranRegion}
+use Rattle.run.specs.Feed.{dues, feed}
+use borrow.Author.Needs.{needs}
+use Rattle.upper.proofs.rows.run_row.Statement.{statement}
+use Rattle.upper.proofs.rows.run_row.Tie as tie
+
+sub-line : tie.Need-sub-line
+sub-line c = search needs
+
+part-line-start : tie.Need-part-line-start
+part-line-start c = search needs
+
+part-line-end : tie.Need-part-line-end
+part-line-end c = search needs
+
+feed-line-parts-requires : tie.Need-feed-line-parts-requires
+feed-line-parts-requires c κs = search needs
+
+same-length : tie.Need-same-length
+same-length c = search needs
+
+returns : tie.Need-returns
+returns c =
+    let z = c .before .before in
+    let f = z .feed-line-parts in
+    let a = z .before .before .before .before .before .args in
+    let k = ap (λ (n : ℕ). take n (a .bytes .now)) (sub-zero (a .n)) in
+    λ ss. (
+      f .ensures ss .0 ∙ ap (λ (l : List ℕ). ranWriter (a .region .now) (withSources (a .p) ss) (dues ++ (dues ++ feed l))) k,
+      f .ensures ss .1 ∙ ap (λ (l : List ℕ). ranRegion (a .region .now) (withSources (a .p) ss) (dues ++ (dues ++ feed l))) k,
+    )
+
+pub run-row-spec : {M : Type 1} → statement M
+run-row-spec =
+    tie.close
+    (tie.spec
+    sub-line
+    part-line-start
+    part-line-end
+    feed-line-parts-requires
+    same-length
+    returns)

@@ -1,0 +1,98 @@
+// The upper layer's beginning, which feeds the key.
+ghost use mathlib.Core.Path.{_≡_};
+ghost use Prim.Native.Nat.{_≤_};
+ghost use mathlib.Core.List.{_++_};
+ghost use lib.ListN.{length, take};
+ghost use Rattle.key.specs.Layout as Key;
+ghost use Rattle.bank.specs.declared.Loaded.the-variants as Loadeds;
+ghost use Rattle.writer.specs.declared.Answer.the-variants as Answers;
+ghost use Rattle.lower.specs.Lower as Lower;
+ghost use Rattle.run.specs.Run.{ranWriter, ranRegion};
+ghost use Rattle.run.specs.Feed as Feed;
+ghost use Rattle.upper.specs.Upper as Upper;
+use bank::Loaded;
+use key::KeyAnswer;
+use lower::begin::started;
+use refusal::Refusal;
+use run::feed;
+use writer::Answer;
+use writer::Step;
+use writer::Writer;
+use writer::did;
+
+// Feeds the identity's part of the key.
+fn feed_prefix(w: Writer, region: &mut [u8], identity: &[u8]) -> Writer
+    ensures { λ r. ⌜ (r ≡ ranWriter (now (region .entry)) w (Feed.feed (Key.prefix (now (identity .entry))))) × (now (region .exit) ≡ ranRegion (now (region .entry)) w (Feed.feed (Key.prefix (now (identity .entry))))) ⌝ }
+{
+    let n = identity.len();
+    if n == 0 {
+        return w;
+    }
+    let mut head = [255u8; 3];
+    head[1] = (n % 256) as u8;
+    head[2] = (n / 256 % 256) as u8;
+    let v = feed(w, region, &head);
+    feed(v, region, identity)
+}
+
+// The run of a beginning, the key behind the identity's part in the first n bytes.
+fn run_begin(w: Writer, region: &mut [u8], identity: &[u8], bytes: &[u8], n: usize) -> Writer
+    requires { ⌜ n ≤ length (now bytes) ⌝ }
+    ensures { λ r. ⌜ (r ≡ ranWriter (now (region .entry)) w (Feed.feed (Key.prefix (now (identity .entry)) ++ take n (now (bytes .entry))))) × (now (region .exit) ≡ ranRegion (now (region .entry)) w (Feed.feed (Key.prefix (now (identity .entry)) ++ take n (now (bytes .entry))))) ⌝ }
+{
+    let body = &bytes[0..n];
+    let v = feed_prefix(w, region, identity);
+    feed(v, region, body)
+}
+
+// A state that every call refuses with 11.
+fn refuse(comparing: bool, at: i64, x: Refusal) -> Step
+    ensures { λ r. ⌜ r ≡ record { answer = Answers.Refused x; writer = Lower.started (Loadeds.Refused x) comparing at } ⌝ }
+{
+    let active = Loaded::Refused(x);
+    let writer = started(active, comparing, at);
+    let answer = Answer::Refused(x);
+    Step { answer, writer }
+}
+
+fn begin_in(
+    region: &mut [u8],
+    comparing: bool,
+    at: i64,
+    identity: &[u8],
+    texts: &[u8],
+    lengths: &[u32],
+) -> Step
+    requires { ⌜ length (now region) ≡ 983040 ⌝ }
+    ensures { λ r. ⌜ (r ≡ Upper.beginStep (now (region .entry)) comparing at (now (identity .entry)) (now (texts .entry)) (now (lengths .entry))) × (now (region .exit) ≡ Upper.beginRegion (now (region .entry)) comparing at (now (identity .entry)) (now (texts .entry)) (now (lengths .entry))) ⌝ }
+{
+    let none = &identity[0..0];
+    let mut out = [0u8; 2257];
+    let a = key::key(none, texts, lengths, &mut out);
+    let KeyAnswer::Written(n) = a else {
+        return refuse(comparing, at, Refusal::Argument);
+    };
+    if 65535 < identity.len() {
+        return refuse(comparing, at, Refusal::Identity);
+    }
+    let s = lower::begin::begin(region, comparing, at);
+    let v = run_begin(s.writer, region, identity, &out, n);
+    did(v)
+}
+
+// Begins an update on a region, and feeds the key of an identity and picks.
+pub fn begin(
+    region: &mut [u8],
+    comparing: bool,
+    at: i64,
+    identity: &[u8],
+    texts: &[u8],
+    lengths: &[u32],
+) -> Step
+    ensures { λ r. ⌜ (r ≡ Upper.beginStep (now (region .entry)) comparing at (now (identity .entry)) (now (texts .entry)) (now (lengths .entry))) × (now (region .exit) ≡ Upper.beginRegion (now (region .entry)) comparing at (now (identity .entry)) (now (texts .entry)) (now (lengths .entry))) ⌝ }
+{
+    if region.len() == 983040 {
+        return begin_in(region, comparing, at, identity, texts, lengths);
+    }
+    refuse(comparing, at, Refusal::Region)
+}

@@ -1,0 +1,102 @@
+// The upper layer's calls that begin a source and feed its dates, end a table, and close.
+ghost use mathlib.Core.Path.{_≡_};
+ghost use mathlib.Core.List.{_++_};
+ghost use Rattle.leaf.specs.Bytes.{le32};
+ghost use Rattle.run.specs.Run.{ranWriter, ranRegion};
+ghost use Rattle.upper.specs.Upper as Upper;
+use crate::fits;
+use leaf::bytes::put;
+use lower::is_open;
+use lower::may_take;
+use record::Source;
+use refusal::Refusal;
+use run::settle;
+use run::settle_feed;
+use writer::Step;
+use writer::Writer;
+use writer::did;
+use writer::stays;
+
+// The run of a table's end.
+fn run_end(w: Writer, region: &mut [u8]) -> Writer
+    ensures { λ r. ⌜ (r ≡ ranWriter (now (region .entry)) w (Upper.runOf Upper.tableEnd)) × (now (region .exit) ≡ ranRegion (now (region .entry)) w (Upper.runOf Upper.tableEnd)) ⌝ }
+{
+    let v = settle(w, region);
+    let e = lower::end::end(v);
+    settle(e.writer, region)
+}
+
+// Ends the open table.
+pub fn end(w: Writer, region: &mut [u8]) -> Step
+    ensures { λ r. ⌜ (r ≡ Upper.upperStep (now (region .entry)) w Upper.tableEnd) × (now (region .exit) ≡ Upper.upperRegion (now (region .entry)) w Upper.tableEnd) ⌝ }
+{
+    if region.len() == 983040 {
+        if may_take(w) & is_open(w.tables) {
+            let v = run_end(w, region);
+            return did(v);
+        }
+        return stays(w, Refusal::Turn);
+    }
+    stays(w, Refusal::Region)
+}
+
+// The run of a closing.
+fn run_close(w: Writer, region: &mut [u8]) -> Writer
+    ensures { λ r. ⌜ (r ≡ ranWriter (now (region .entry)) w (Upper.runOf Upper.closing)) × (now (region .exit) ≡ ranRegion (now (region .entry)) w (Upper.runOf Upper.closing)) ⌝ }
+{
+    let v = settle(w, region);
+    let k = lower::begin::close(v);
+    settle(k.writer, region)
+}
+
+// Closes the update.
+pub fn close(w: Writer, region: &mut [u8]) -> Step
+    ensures { λ r. ⌜ (r ≡ Upper.upperStep (now (region .entry)) w Upper.closing) × (now (region .exit) ≡ Upper.upperRegion (now (region .entry)) w Upper.closing) ⌝ }
+{
+    if region.len() == 983040 {
+        if may_take(w) & !is_open(w.tables) {
+            let v = run_close(w, region);
+            return did(v);
+        }
+        return stays(w, Refusal::Turn);
+    }
+    stays(w, Refusal::Region)
+}
+
+// A source's dates as they are fed.
+fn dates(s: Source) -> [u8; 8]
+    ensures { λ r. ⌜ r ≡ le32 (s .start) ++ le32 (s .end) ⌝ }
+{
+    let mut d = [0u8; 8];
+    put(&mut d, 0, s.start);
+    put(&mut d, 4, s.end);
+    d
+}
+
+// The run of a source's beginning.
+fn run_source(w: Writer, region: &mut [u8], s: Source) -> Writer
+    ensures { λ r. ⌜ (r ≡ ranWriter (now (region .entry)) w (Upper.runOf (Upper.sourceWithDates s))) × (now (region .exit) ≡ ranRegion (now (region .entry)) w (Upper.runOf (Upper.sourceWithDates s))) ⌝ }
+{
+    let d = dates(s);
+    let v = settle(w, region);
+    let t = lower::source::source(v, s);
+    settle_feed(t.writer, region, &d)
+}
+
+// Begins a source, and feeds its dates.
+pub fn source(w: Writer, region: &mut [u8], s: Source) -> Step
+    ensures { λ r. ⌜ (r ≡ Upper.upperStep (now (region .entry)) w (Upper.sourceWithDates s)) × (now (region .exit) ≡ Upper.upperRegion (now (region .entry)) w (Upper.sourceWithDates s)) ⌝ }
+{
+    let x = w.tables;
+    if region.len() == 983040 {
+        if may_take(w) & !is_open(x) {
+            if (x.count < 3) & fits(w.taken, 8) {
+                let v = run_source(w, region, s);
+                return did(v);
+            }
+            return stays(w, Refusal::Full);
+        }
+        return stays(w, Refusal::Turn);
+    }
+    stays(w, Refusal::Region)
+}
