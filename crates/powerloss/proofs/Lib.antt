@@ -15,3 +15,8 @@ pub mod Runs
 pub mod Feeds
 pub mod Uppers
 pub mod States
+pub mod Computed
+pub mod Settled
+pub mod Exactly
+pub mod Count
+pub mod Events

@@ -1,3 +1,5 @@
 pub mod History
 pub mod Machine
 pub mod Claim
+pub mod Instances
+pub mod Operations

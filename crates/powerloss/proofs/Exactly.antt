@@ -20,13 +20,13 @@ use Rattle.writer.specs.declared.Writer.{Writer}
 use Rattle.writer.specs.State.{isDue, operationOk, inRange, stageOk}
 use Rattle.writer.proofs.Laws.{ranged}
 use Rattle.due.specs.Due.{opsOf, dueOps, stepOf, dueStep}
 use Rattle.powerloss.specs.History.{isDone}
 use Rattle.powerloss.specs.Machine.{found, nextAll}
 use Rattle.powerloss.proofs.Range.{or-true, true-false, due-ok, headed-end, committed-end, idle-due}
 use Rattle.powerloss.proofs.Feeds.{empty-due}
 use Rattle.powerloss.proofs.Uppers.{inv-found, inv-all}
 use Rattle.powerloss.proofs.States.{reached}
-use Rattle.operations.specs.Operations.{Unwritten, Exactly, DueExactly}
+use Rattle.powerloss.specs.Operations.{Unwritten, Exactly, DueExactly}
 
 -- ---- the condition as a test
 

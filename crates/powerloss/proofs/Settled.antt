@@ -18,15 +18,15 @@ use Rattle.lower.specs.Lower.{started}
 use Rattle.run.specs.Run.{bytes, lowerStep, lowerRegion, ranWriter}
 use Rattle.run.specs.Feed.{feed}
 use Rattle.upper.specs.Upper.{beginRefusal, keyBytes, beginRun, beganWith, beginStep}
 use Rattle.powerloss.specs.History.{Update, opened, takes, updateAfter, isDone}
 use Rattle.powerloss.specs.Machine.{Image, found, nextAll}
 use Rattle.powerloss.proofs.Bytes.{bytes-nil, bytes-cons}
 use Rattle.powerloss.proofs.Inv.{Kept}
 use Rattle.powerloss.proofs.Lowers.{plain-call, begun-open}
 use Rattle.powerloss.proofs.Texts.{bytes-key}
 use Rattle.powerloss.proofs.Feeds.{Now, regionThree, writerThree, three}
 use Rattle.powerloss.proofs.Uppers.{done-by, inv-found, inv-all}
-use Rattle.operations.specs.Operations.{BeginSettled}
+use Rattle.powerloss.specs.Operations.{BeginSettled}
 
 -- nothing is due after bytes are fed, each with what is due then
 feed-still : (hd : Loaded) (rs : List Source) (im : Image) (xs region : List ℕ) (w : Writer) (u : Update) → Now hd rs im region w u → isDue (w .taken) ≡ false → Bytes xs

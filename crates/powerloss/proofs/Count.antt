@@ -31,11 +31,11 @@ use Rattle.commit.specs.declared.Stamp.{Stamp}
 use Rattle.commit.specs.Commit.{bankFor, recordsFor, isIdle, isHeaded, mayCommit, isCurrent, commitStep, commitOps, wordStep, wordOps}
 use Rattle.commit.specs.Unchanged.{mayAsk, isUnchanged, unchangedStep}
 use Rattle.run.specs.Run.{Lower, source, table, bytes, end, close, due, unchanged, commit, word, lowerStep, lowerOps}
 use Rattle.powerloss.proofs.Range.{tail-aligned, due-fill, due-ok, erase-zero, erase-data, headed-end}
 use Rattle.powerloss.proofs.Quiet.{only-idle}
 use Rattle.powerloss.proofs.Commits.{is-idle, is-headed, fit-length}
-use Rattle.operations.specs.Operations.{sectors, writes}
-use Rattle.operations.proofs.Exactly.{compare-ops, ops-are}
+use Rattle.powerloss.specs.Operations.{sectors, writes}
+use Rattle.powerloss.proofs.Exactly.{compare-ops, ops-are}
 
 -- in writing mode, with n bytes written: before the first erase none
 abbrev pub soFar : Stage → ℕ → ℕ

@@ -27,18 +27,18 @@ use Rattle.lower.specs.Lower.{started, begun}
 use Rattle.run.specs.Run.{Lower, lowerStep, lowerOps, lowerRegion, ranWriter, ranOps}
 use Rattle.run.specs.Feed.{feed}
 use Rattle.upper.specs.Upper.{Upper, runOf, refusalOf, runIf, upperRun, answered, upperStep, upperOps, beginRefusal, keyBytes, beginRun, beganWith, beginStep, beginOps}
 use Rattle.powerloss.specs.History.{Update, opened, takes, updateAfter, isDone}
 use Rattle.powerloss.specs.Machine.{Image, Event, begin, beginCut, call, cut, beginKey, beginKeyCut, upper, upperCut, Run, onCall, onCut, onUpper, onUpperCut, stateAfter, found, next, nextAll}
 use Rattle.powerloss.specs.Claim.{UpperTyped, Typed, AllTyped}
 use Rattle.powerloss.proofs.Inv.{Kept, Open, State}
 use Rattle.powerloss.proofs.Range.{committed-end}
 use Rattle.powerloss.proofs.Lowers.{plain-call, Inv, mk, inv-call, begun-open}
 use Rattle.powerloss.proofs.Texts.{bytes-key}
 use Rattle.powerloss.proofs.Runs.{AllPlain}
 use Rattle.powerloss.proofs.Uppers.{plain-feed, plain-run, done-by, inv-next, inv-all, inv-found}
 use Rattle.powerloss.proofs.States.{reached}
-use Rattle.operations.specs.Operations.{sectors, writes, operationsOf, startedBy, callOps, upperCallOps, since, opsAfter, Counted, CommittedOperations, ComparingOperations, AllLower, LowerOperations}
-use Rattle.operations.proofs.Count.{soFar, Tally, TallyOf, same-tally, call-tally}
+use Rattle.powerloss.specs.Operations.{sectors, writes, operationsOf, startedBy, callOps, upperCallOps, since, opsAfter, Counted, CommittedOperations, ComparingOperations, AllLower, LowerOperations}
+use Rattle.powerloss.proofs.Count.{soFar, Tally, TallyOf, same-tally, call-tally}
 
 -- ---- a run
 

@@ -1,6 +1,6 @@
-use Rattle.worked.proofs.Computed.{wholeUpdate, cutBeforeTheWord, cutAfterTheWord, cutInTheWord, threeBytesWritten, cutAtTheWordsEnd, cutInTheErase, wholeUpdateLoads, cutBeforeTheWordLoads, cutAfterTheWordLoads, cutInTheWordLoads, cutAtTheWordsEndLoads, cutInTheEraseLoads, wholeUpdateData, cutAtTheWordsEndData, lastCommitted, fiveOperations, erasedHasNone, erasedUpdate}
-use Rattle.worked.proofs.instances_hold.Statement.{statement}
-use Rattle.worked.proofs.instances_hold.Tie as tie
+use Rattle.powerloss.proofs.Computed.{wholeUpdate, cutBeforeTheWord, cutAfterTheWord, cutInTheWord, threeBytesWritten, cutAtTheWordsEnd, cutInTheErase, wholeUpdateLoads, cutBeforeTheWordLoads, cutAfterTheWordLoads, cutInTheWordLoads, cutAtTheWordsEndLoads, cutInTheEraseLoads, wholeUpdateData, cutAtTheWordsEndData, lastCommitted, fiveOperations, erasedHasNone, erasedUpdate}
+use Rattle.powerloss.proofs.instances.instances_hold.Statement.{statement}
+use Rattle.powerloss.proofs.instances.instances_hold.Tie as tie
 
 returns : tie.Need-returns
 returns c =

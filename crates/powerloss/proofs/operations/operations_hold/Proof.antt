@@ -1,9 +1,9 @@
 use mathlib.Core.Path.{refl}
-use Rattle.operations.proofs.Settled.{begin-settled}
-use Rattle.operations.proofs.Exactly.{due-exactly}
-use Rattle.operations.proofs.Events.{committed-operations, comparing-operations, lower-operations}
-use Rattle.operations.proofs.operations_hold.Statement.{statement}
-use Rattle.operations.proofs.operations_hold.Tie as tie
+use Rattle.powerloss.proofs.Settled.{begin-settled}
+use Rattle.powerloss.proofs.Exactly.{due-exactly}
+use Rattle.powerloss.proofs.Events.{committed-operations, comparing-operations, lower-operations}
+use Rattle.powerloss.proofs.operations.operations_hold.Statement.{statement}
+use Rattle.powerloss.proofs.operations.operations_hold.Tie as tie
 
 returns : tie.Need-returns
 returns c =

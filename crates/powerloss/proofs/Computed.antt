@@ -47,15 +47,15 @@ use Rattle.due.specs.Due.{padded, dueOps, operated, dueStep}
 use Rattle.commit.specs.declared.Stamp.the-variants.{Missing}
 use Rattle.commit.specs.Commit.{bankFor, recordsFor, commitStep, commitOps, wordStep, wordOps}
 use Rattle.run.specs.Run.{Lower, source, table, bytes, end, close, due, commit, word, lowerStep, lowerOps, ranOps}
 use Rattle.powerloss.specs.History.{Update, Note, sourceNote, tableNote, endNote, opened, bankOf, recordsAfter, blockBetween, updateAfter, isWord, committed, afterLower, afterLowerCut, afterBegin}
 use Rattle.powerloss.specs.Machine.{doneAt, Image, bankIn, Run, Event, begin, call, cut, imageAfter, onCall, onCut, next, nextAll, found}
 use Rattle.powerloss.specs.Claim.{Typed, AllTyped, Holds}
-use Rattle.worked.specs.Instances.{key, dates, routes, data·, theSource, callsToClosing, callsBefore, updateWith, beforeTheWord, eraseCut, updated, theNew, theOld, written, Gives, WholeUpdate, CutBeforeTheWord, CutAfterTheWord, CutInTheWord, ThreeBytesWritten, CutAtTheWordsEnd, CutInTheErase, Loads, WholeUpdateLoads, CutBeforeTheWordLoads, CutAfterTheWordLoads, CutInTheWordLoads, CutAtTheWordsEndLoads, CutInTheEraseLoads, Data, WholeUpdateData, CutAtTheWordsEndData, AfterOne, LastCommitted, FiveOperations, ErasedHasNone, onErased, ErasedUpdate}
+use Rattle.powerloss.specs.Instances.{key, dates, routes, data·, theSource, callsToClosing, callsBefore, updateWith, beforeTheWord, eraseCut, updated, theNew, theOld, written, Gives, WholeUpdate, CutBeforeTheWord, CutAfterTheWord, CutInTheWord, ThreeBytesWritten, CutAtTheWordsEnd, CutInTheErase, Loads, WholeUpdateLoads, CutBeforeTheWordLoads, CutAfterTheWordLoads, CutInTheWordLoads, CutAtTheWordsEndLoads, CutInTheEraseLoads, Data, WholeUpdateData, CutAtTheWordsEndData, AfterOne, LastCommitted, FiveOperations, ErasedHasNone, onErased, ErasedUpdate}
 use Rattle.powerloss.proofs.Bytes.{bytes-nil, bytes-cons, bytes-fill}
 use Rattle.powerloss.proofs.Cuts.{cut-inside}
 use Rattle.powerloss.proofs.Load.{load-other, active-ok, unmarked-refused, target-fits}
 use Rattle.powerloss.proofs.Lowers.{mk}
 use Rattle.powerloss.proofs.Uppers.{inv-all, inv-found, demand3}
 
 -- a state of this update
 abbrev st : Loaded → Stage → Taken → Tables → List Source → List ℕ → Writer

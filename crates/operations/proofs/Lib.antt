@@ -1,4 +1,0 @@
-pub mod Settled
-pub mod Exactly
-pub mod Count
-pub mod Events
