@@ -14,10 +14,10 @@ use Rattle.writer.specs.State.{stays, position, isDue}
 use Rattle.lower.specs.Lower.{mayTake, room, withBytes, took, bytesStep}
 use Rattle.due.specs.Due.{dueStep}
 use Rattle.due.proofs.Laws.{due-rest}
-use Rattle.saved.specs.declared.State.{State}
-use Rattle.saved.specs.declared.UpdateStep.{UpdateStep}
-use Rattle.saved.specs.State.{savedOf, writerOf}
-use Rattle.saved.specs.Answers.{isAnswer, after}
+use Rattle.cstate.specs.declared.State.{State}
+use Rattle.cstate.specs.declared.UpdateStep.{UpdateStep}
+use Rattle.cstate.specs.State.{savedOf, writerOf}
+use Rattle.cstate.specs.Answers.{isAnswer, after}
 
 -- what crosses back, with a tail of its own
 abbrev pub with-tail : List ℕ → UpdateStep → UpdateStep

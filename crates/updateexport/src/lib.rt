@@ -6,19 +6,19 @@ ghost use Rattle.lower.specs.Lower as Lower;
 ghost use Rattle.due.specs.Due as Due;
 ghost use Rattle.commit.specs.Commit as Commit;
 ghost use Rattle.commit.specs.Unchanged as Unchanged;
-ghost use Rattle.saved.specs.State.{writerOf};
-ghost use Rattle.saved.specs.Answers as Answers;
+ghost use Rattle.cstate.specs.State.{writerOf};
+ghost use Rattle.cstate.specs.Answers as Answers;
 ghost use Rattle.updateexport.specs.Stamp.{stampOf};
 use commit::Stamp;
+use cstate::State;
+use cstate::UpdateStep;
+use cstate::after;
+use cstate::after_parts;
+use cstate::parts_of;
+use cstate::writer_of;
 use due::due_parts;
 use lower::append::take_parts;
 use record::decode;
-use saved::State;
-use saved::UpdateStep;
-use saved::after;
-use saved::after_parts;
-use saved::parts_of;
-use saved::writer_of;
 
 // Begins an update: loads the region; in comparing mode nothing is written. It takes no key.
 #[no_mangle]

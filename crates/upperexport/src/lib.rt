@@ -3,15 +3,15 @@
 ghost use mathlib.Core.Path.{_≡_};
 ghost use Rattle.record.specs.Record.{decoded};
 ghost use Rattle.upper.specs.Upper as Upper;
-ghost use Rattle.saved.specs.State.{writerOf};
-ghost use Rattle.saved.specs.Answers as Answers;
+ghost use Rattle.cstate.specs.State.{writerOf};
+ghost use Rattle.cstate.specs.Answers as Answers;
+use cstate::State;
+use cstate::UpdateStep;
+use cstate::after;
+use cstate::after_parts;
+use cstate::parts_of;
+use cstate::writer_of;
 use record::decode;
-use saved::State;
-use saved::UpdateStep;
-use saved::after;
-use saved::after_parts;
-use saved::parts_of;
-use saved::writer_of;
 use upper::rows::row_parts;
 
 // Begins an update and feeds the key of an identity and picks; five lengths to a pick.

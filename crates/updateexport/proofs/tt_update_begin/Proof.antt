@@ -3,7 +3,7 @@ use mir.Syntax.{w64}
 use mir.ValLaws.{toZ-ofZ}
 use Rattle.writer.specs.declared.Step.{Step}
 use Rattle.lower.specs.Lower.{begun}
-use Rattle.saved.specs.Answers.{after}
+use Rattle.cstate.specs.Answers.{after}
 use borrow.Author.Needs.{needs}
 use Rattle.updateexport.proofs.tt_update_begin.Statement.{statement}
 use Rattle.updateexport.proofs.tt_update_begin.Tie as tie

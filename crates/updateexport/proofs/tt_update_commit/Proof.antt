@@ -3,7 +3,7 @@ use mir.Syntax.{w64}
 use mir.ValLaws.{toZ-ofZ}
 use Rattle.writer.specs.declared.Step.{Step}
 use Rattle.commit.specs.Commit.{commitStep, commitRegion}
-use Rattle.saved.specs.Answers.{after}
+use Rattle.cstate.specs.Answers.{after}
 use Rattle.updateexport.specs.Stamp.{stampOf}
 use borrow.Author.Needs.{needs}
 use Rattle.updateexport.proofs.tt_update_commit.Statement.{statement}

@@ -3,8 +3,8 @@ use Rattle.writer.specs.declared.Parts.{Parts}
 use Rattle.writer.specs.declared.Step.{Step}
 use Rattle.writer.specs.Parts.{withSources}
 use Rattle.due.specs.Due.{dueStep, dueRegion}
-use Rattle.saved.specs.State.{writerOf}
-use Rattle.saved.specs.Answers.{after}
+use Rattle.cstate.specs.State.{writerOf}
+use Rattle.cstate.specs.Answers.{after}
 use Rattle.updateexport.proofs.Laws.{with-tail, due-tail}
 use borrow.Author.Needs.{needs}
 use Rattle.updateexport.proofs.tt_update_due.Statement.{statement}

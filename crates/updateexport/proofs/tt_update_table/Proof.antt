@@ -2,7 +2,7 @@ use mathlib.Core.Path.{ap, _∙_}
 use Rattle.writer.specs.declared.Writer.{Writer}
 use Rattle.writer.specs.declared.Step.{Step}
 use Rattle.lower.specs.Lower.{tableStep}
-use Rattle.saved.specs.Answers.{after}
+use Rattle.cstate.specs.Answers.{after}
 use borrow.Author.Needs.{needs}
 use Rattle.updateexport.proofs.tt_update_table.Statement.{statement}
 use Rattle.updateexport.proofs.tt_update_table.Tie as tie

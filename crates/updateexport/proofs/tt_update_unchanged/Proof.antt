@@ -1,7 +1,7 @@
 use mathlib.Core.Path.{ap, _∙_}
 use Rattle.writer.specs.declared.Step.{Step}
 use Rattle.commit.specs.Unchanged.{unchangedStep}
-use Rattle.saved.specs.Answers.{after}
+use Rattle.cstate.specs.Answers.{after}
 use borrow.Author.Needs.{needs}
 use Rattle.updateexport.proofs.tt_update_unchanged.Statement.{statement}
 use Rattle.updateexport.proofs.tt_update_unchanged.Tie as tie

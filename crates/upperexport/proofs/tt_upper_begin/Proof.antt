@@ -4,7 +4,7 @@ use mir.ValLaws.{toZ-ofZ}
 use lib.IntN.{ℤ}
 use Rattle.writer.specs.declared.Step.{Step}
 use Rattle.upper.specs.Upper.{beginStep, beginRegion}
-use Rattle.saved.specs.Answers.{after}
+use Rattle.cstate.specs.Answers.{after}
 use borrow.Author.Needs.{needs}
 use Rattle.upperexport.proofs.tt_upper_begin.Statement.{statement}
 use Rattle.upperexport.proofs.tt_upper_begin.Tie as tie

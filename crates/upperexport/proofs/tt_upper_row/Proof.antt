@@ -3,8 +3,8 @@ use Rattle.writer.specs.declared.Parts.{Parts}
 use Rattle.writer.specs.declared.Step.{Step}
 use Rattle.writer.specs.Parts.{withSources}
 use Rattle.upper.specs.Upper.{upperStep, upperRegion, row}
-use Rattle.saved.specs.State.{writerOf}
-use Rattle.saved.specs.Answers.{after}
+use Rattle.cstate.specs.State.{writerOf}
+use Rattle.cstate.specs.Answers.{after}
 use borrow.Author.Needs.{needs}
 use Rattle.upperexport.proofs.tt_upper_row.Statement.{statement}
 use Rattle.upperexport.proofs.tt_upper_row.Tie as tie

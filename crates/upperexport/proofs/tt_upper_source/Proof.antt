@@ -1,7 +1,7 @@
 use mathlib.Core.Path.{ap, _∙_}
 use Rattle.writer.specs.declared.Step.{Step}
 use Rattle.upper.specs.Upper.{upperStep, upperRegion, sourceWithDates}
-use Rattle.saved.specs.Answers.{after}
+use Rattle.cstate.specs.Answers.{after}
 use borrow.Author.Needs.{needs}
 use Rattle.upperexport.proofs.tt_upper_source.Statement.{statement}
 use Rattle.upperexport.proofs.tt_upper_source.Tie as tie

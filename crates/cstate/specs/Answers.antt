@@ -1,0 +1,42 @@
+-- What crosses back: a call's answer as numbers, and the state after it. 0 is no refusal; beside a refusal the other numbers are 0.
+use mathlib.Core.Bool.{Bool, true, false}
+use Prim.Native.Nat.{ℕ}
+use Rattle.base.specs.Number.{pick}
+use Rattle.refusal.specs.Refusal.{numberOf}
+use Rattle.writer.specs.declared.Answer.{Answer}
+use Rattle.writer.specs.declared.Answer.the-variants.{Done, Took, NoneDue, Same, Different, Refused}
+use Rattle.writer.specs.declared.Step.{Step}
+use Rattle.cstate.specs.declared.State.{State}
+use Rattle.cstate.specs.declared.UpdateNumbers.{UpdateNumbers}
+use Rattle.cstate.specs.declared.UpdateStep.{UpdateStep}
+use Rattle.cstate.specs.State.{savedOf}
+
+abbrev pub done : ℕ → ℕ → UpdateNumbers
+done answer count = record { refusal = 0; answer = answer; count = count }
+
+abbrev pub refused : ℕ → UpdateNumbers
+refused r = record { refusal = r; answer = 0; count = 0 }
+
+-- the count is of bytes taken
+abbrev pub ofAnswer : Answer → UpdateNumbers
+ofAnswer Done = done 0 0
+ofAnswer (Took n) = done 1 n
+ofAnswer NoneDue = done 2 0
+ofAnswer Same = done 3 0
+ofAnswer Different = done 4 0
+ofAnswer (Refused r) = refused (numberOf r)
+
+abbrev pub isAnswer : Answer → Bool
+isAnswer Done = true
+isAnswer (Took n) = true
+isAnswer NoneDue = true
+isAnswer Same = true
+isAnswer Different = true
+isAnswer (Refused r) = false
+
+-- the state: the step's where the call was answered, as it was on a refusal
+abbrev pub stateAfter : Step → State → State
+stateAfter s was = pick (isAnswer (s .answer)) (savedOf (s .writer)) was
+
+abbrev pub after : Step → State → UpdateStep
+after s was = record { numbers = ofAnswer (s .answer); state = stateAfter s was }

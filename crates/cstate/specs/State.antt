@@ -1,0 +1,116 @@
+-- A writer's state as plain numbers. Any numbers mean some writer; those that are no state, by a kind's number, mean one that every call
+-- refuses with 11.
+use mathlib.Core.Bool.{Bool, true, false, not, _&&_}
+use Prim.Native.Nat.{ℕ}
+use lib.Dec.{leb, eqb}
+use lib.IntN.{pos}
+use Rattle.base.specs.Number.{pick}
+use Rattle.refusal.specs.declared.Refusal.the-variants.{Turn}
+use Rattle.header.specs.declared.Bank.{Bank}
+use Rattle.bank.specs.declared.Loaded.{Loaded}
+use Rattle.bank.specs.declared.Loaded.the-variants.{Found, Nothing, Refused as NotRead}
+use Rattle.writer.specs.declared.Operation.the-variants.{Erase, Write, Compare}
+use Rattle.writer.specs.declared.Stage.{Stage}
+use Rattle.writer.specs.declared.Stage.the-variants.{Idle, Due, Headed, Committed}
+use Rattle.writer.specs.declared.Writer.{Writer}
+use Rattle.cstate.specs.declared.State.{State}
+use Rattle.cstate.specs.declared.StageNumbers.{StageNumbers}
+
+-- the stage's number, and its operation's two numbers
+abbrev pub stageKind : Stage → ℕ
+stageKind Idle = 0
+stageKind (Due (Erase k)) = 1
+stageKind (Due (Write a n)) = 2
+stageKind (Due (Compare a n)) = 3
+stageKind Headed = 4
+stageKind Committed = 5
+
+abbrev pub stageFirst : Stage → ℕ
+stageFirst Idle = 0
+stageFirst (Due (Erase k)) = k
+stageFirst (Due (Write a n)) = a
+stageFirst (Due (Compare a n)) = a
+stageFirst Headed = 0
+stageFirst Committed = 0
+
+abbrev pub stageSecond : Stage → ℕ
+stageSecond Idle = 0
+stageSecond (Due (Erase k)) = 0
+stageSecond (Due (Write a n)) = n
+stageSecond (Due (Compare a n)) = n
+stageSecond Headed = 0
+stageSecond Committed = 0
+
+abbrev pub stageNumbers : Stage → StageNumbers
+stageNumbers s = record { kind = stageKind s; first = stageFirst s; second = stageSecond s }
+
+-- the active bank: none, a bank, or a beginning that was refused
+abbrev pub activeKind : Loaded → ℕ
+activeKind Nothing = 0
+activeKind (Found b) = 1
+activeKind (NotRead r) = 2
+
+abbrev pub noBank : Bank
+noBank = record { number = 0; version = 0; generation = 0; length = 0; crc = 0; count = 0; key = 0; checked = pos 0 }
+
+abbrev pub bankIn : Loaded → Bank
+bankIn (Found b) = b
+bankIn Nothing = noBank
+bankIn (NotRead r) = noBank
+
+abbrev pub flag : Bool → ℕ
+flag true = 1
+flag false = 0
+
+unfoldable pub savedOf : Writer → State
+savedOf w =
+    record {
+      stage = stageKind (w .stage);
+      first = stageFirst (w .stage);
+      second = stageSecond (w .stage);
+      active = activeKind (w .beginning .active);
+      bank = bankIn (w .beginning .active);
+      now = w .beginning .now;
+      comparing = flag (w .beginning .comparing);
+      written = w .taken .written;
+      fill = w .taken .fill;
+      crc = w .taken .crc;
+      different = flag (w .taken .different);
+      closed = flag (w .taken .closed);
+      tables = w .tables;
+      sources = w .sources;
+      tail = w .tail;
+    }
+
+-- and back
+
+unfoldable pub stageOf : ℕ → ℕ → ℕ → Stage
+stageOf k a n =
+    pick (eqb k 1) (Due (Erase a))
+    (pick (eqb k 2) (Due (Write a n))
+    (pick (eqb k 3) (Due (Compare a n))
+    (pick (eqb k 4) Headed
+    (pick (eqb k 5) Committed Idle))))
+
+abbrev pub kindsOk : ℕ → ℕ → Bool
+kindsOk stage active = leb stage 5 && leb active 1
+
+abbrev pub isState : State → Bool
+isState s = kindsOk (s .stage) (s .active)
+
+unfoldable pub activeOf : ℕ → ℕ → Bank → Loaded
+activeOf stage active b = pick (kindsOk stage active) (pick (eqb active 1) (Found b) Nothing) (NotRead Turn)
+
+abbrev pub isSet : ℕ → Bool
+isSet n = not (eqb n 0)
+
+unfoldable pub writerOf : State → Writer
+writerOf s =
+    record {
+      stage = stageOf (s .stage) (s .first) (s .second);
+      beginning = record { active = activeOf (s .stage) (s .active) (s .bank); comparing = isSet (s .comparing); now = s .now };
+      taken = record { written = s .written; fill = s .fill; crc = s .crc; different = isSet (s .different); closed = isSet (s .closed) };
+      tables = s .tables;
+      sources = s .sources;
+      tail = s .tail;
+    }

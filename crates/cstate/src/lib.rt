@@ -1,0 +1,369 @@
+// A writer's state and a call's answer as plain numbers, for callers outside: whatever bytes they hold are some State.
+ghost use mathlib.Core.Path.{_≡_};
+ghost use Rattle.base.specs.Number.{pick};
+ghost use Rattle.refusal.specs.Refusal.{numberOf};
+ghost use Rattle.writer.specs.declared.Stage.the-variants as Stages;
+ghost use Rattle.writer.specs.Parts.{partsOf, withSources, stepWith};
+ghost use Rattle.cstate.specs.State as Saved;
+ghost use Rattle.cstate.specs.Answers as Answers;
+use bank::Loaded;
+use header::Bank;
+use record::Source;
+use refusal::Refusal;
+use writer::Answer;
+use writer::Beginning;
+use writer::Operation;
+use writer::Parts;
+use writer::PartsStep;
+use writer::Stage;
+use writer::Step;
+use writer::Tables;
+use writer::Taken;
+use writer::Writer;
+use writer::with_sources;
+
+// The stage is 0 idle, 1 an erase, 2 a write, 3 a comparison due, 4 headed, 5 committed. First is the due erase's sector (0 is the header's), or the
+// offset in the data of the due write or comparison, and second its length, without padding. Active is 0 with no active bank, 1 with one, 2 after a refused beginning. A flag is set where its number isn't 0.
+#[repr(C)]
+pub struct State {
+    pub stage: u32,
+    pub first: u32,
+    pub second: u32,
+    pub active: u32,
+    pub bank: Bank,
+    pub now: i64,
+    pub comparing: u32,
+    pub written: u32,
+    pub fill: u32,
+    pub crc: u32,
+    pub different: u32,
+    pub closed: u32,
+    pub tables: Tables,
+    pub sources: [Source; 3],
+    pub tail: [u8; 256],
+}
+
+fn stage_of(kind: u32, first: u32, second: u32) -> Stage
+    ensures { λ r. ⌜ r ≡ Saved.stageOf kind first second ⌝ }
+{
+    if kind == 1 {
+        return Stage::Due(Operation::Erase { sector: first });
+    }
+    if kind == 2 {
+        return Stage::Due(Operation::Write {
+            offset: first,
+            length: second,
+        });
+    }
+    if kind == 3 {
+        return Stage::Due(Operation::Compare {
+            offset: first,
+            length: second,
+        });
+    }
+    if kind == 4 {
+        return Stage::Headed;
+    }
+    if kind == 5 {
+        return Stage::Committed;
+    }
+    Stage::Idle
+}
+
+fn active_of(stage: u32, active: u32, bank: Bank) -> Loaded
+    ensures { λ r. ⌜ r ≡ Saved.activeOf stage active bank ⌝ }
+{
+    if (stage <= 5) & (active <= 1) {
+        if active == 1 {
+            return Loaded::Found(bank);
+        }
+        return Loaded::Nothing;
+    }
+    Loaded::Refused(Refusal::Turn)
+}
+
+fn is_set(flag: u32) -> bool
+    ensures { λ r. ⌜ r ≡ Saved.isSet flag ⌝ }
+{
+    !(flag == 0)
+}
+
+// The writer that a state means, but for its sources.
+pub fn parts_of(s: State) -> Parts
+    ensures { λ r. ⌜ r ≡ partsOf (Saved.writerOf s) ⌝ }
+{
+    let stage = stage_of(s.stage, s.first, s.second);
+    let bank = s.bank;
+    let active = active_of(s.stage, s.active, bank);
+    let beginning = Beginning {
+        active,
+        comparing: is_set(s.comparing),
+        now: s.now,
+    };
+    let taken = Taken {
+        written: s.written,
+        fill: s.fill,
+        crc: s.crc,
+        different: is_set(s.different),
+        closed: is_set(s.closed),
+    };
+    let tables = s.tables;
+    let tail = s.tail;
+    Parts {
+        stage,
+        beginning,
+        taken,
+        tables,
+        tail,
+    }
+}
+
+// The writer that a state means.
+pub fn writer_of(s: State) -> Writer
+    ensures { λ r. ⌜ r ≡ Saved.writerOf s ⌝ }
+{
+    let p = parts_of(s);
+    let sources = s.sources;
+    with_sources(p, sources)
+}
+
+// A stage's number and its operation's two.
+struct StageNumbers {
+    kind: u32,
+    first: u32,
+    second: u32,
+}
+
+fn operation_numbers(o: Operation) -> StageNumbers
+    ensures { λ r. ⌜ r ≡ Saved.stageNumbers (Stages.Due o) ⌝ }
+{
+    match o {
+        Operation::Erase { sector } => StageNumbers {
+            kind: 1,
+            first: sector,
+            second: 0,
+        },
+        Operation::Write { offset, length } => StageNumbers {
+            kind: 2,
+            first: offset,
+            second: length,
+        },
+        Operation::Compare { offset, length } => StageNumbers {
+            kind: 3,
+            first: offset,
+            second: length,
+        },
+    }
+}
+
+fn stage_numbers(s: Stage) -> StageNumbers
+    ensures { λ r. ⌜ r ≡ Saved.stageNumbers s ⌝ }
+{
+    match s {
+        Stage::Idle => StageNumbers {
+            kind: 0,
+            first: 0,
+            second: 0,
+        },
+        Stage::Due(o) => operation_numbers(o),
+        Stage::Headed => StageNumbers {
+            kind: 4,
+            first: 0,
+            second: 0,
+        },
+        Stage::Committed => StageNumbers {
+            kind: 5,
+            first: 0,
+            second: 0,
+        },
+    }
+}
+
+fn active_kind(l: Loaded) -> u32
+    ensures { λ r. ⌜ r ≡ Saved.activeKind l ⌝ }
+{
+    match l {
+        Loaded::Found(_) => 1,
+        Loaded::Nothing => 0,
+        Loaded::Refused(_) => 2,
+    }
+}
+
+fn no_bank() -> Bank
+    ensures { λ r. ⌜ r ≡ Saved.noBank ⌝ }
+{
+    Bank {
+        number: 0,
+        version: 0,
+        generation: 0,
+        length: 0,
+        crc: 0,
+        count: 0,
+        key: 0,
+        checked: 0,
+    }
+}
+
+fn bank_in(l: Loaded) -> Bank
+    ensures { λ r. ⌜ r ≡ Saved.bankIn l ⌝ }
+{
+    match l {
+        Loaded::Found(b) => b,
+        Loaded::Nothing => no_bank(),
+        Loaded::Refused(_) => no_bank(),
+    }
+}
+
+fn flag(b: bool) -> u32
+    ensures { λ r. ⌜ r ≡ Saved.flag b ⌝ }
+{
+    if b { 1 } else { 0 }
+}
+
+// A writer's parts, and its sources, as a state.
+fn state_with(p: Parts, sources: [Source; 3]) -> State
+    ensures { λ r. ⌜ r ≡ Saved.savedOf (withSources p sources) ⌝ }
+{
+    let b = p.beginning;
+    let t = p.taken;
+    let stage = p.stage;
+    let n = stage_numbers(stage);
+    let loaded = b.active;
+    let active = active_kind(loaded);
+    let bank = bank_in(loaded);
+    let tables = p.tables;
+    let tail = p.tail;
+    State {
+        stage: n.kind,
+        first: n.first,
+        second: n.second,
+        active,
+        bank,
+        now: b.now,
+        comparing: flag(b.comparing),
+        written: t.written,
+        fill: t.fill,
+        crc: t.crc,
+        different: flag(t.different),
+        closed: flag(t.closed),
+        tables,
+        sources,
+        tail,
+    }
+}
+
+// A writer as a state.
+pub fn state_of(w: Writer) -> State
+    ensures { λ r. ⌜ r ≡ Saved.savedOf w ⌝ }
+{
+    let p = writer::parts_of(w);
+    let sources = w.sources;
+    state_with(p, sources)
+}
+
+// An answer: 0 done, 1 bytes were taken, 2 none is due, 3 the same, 4 different.
+#[repr(C)]
+pub struct UpdateNumbers {
+    pub refusal: u32,
+    pub answer: u32,
+    pub count: u32,
+}
+
+// What crosses back: the answer, and the state after the call.
+#[repr(C)]
+pub struct UpdateStep {
+    pub numbers: UpdateNumbers,
+    pub state: State,
+}
+
+fn number_of(r: Refusal) -> u32
+    ensures { λ n. ⌜ n ≡ numberOf r ⌝ }
+{
+    base::number::wide(refusal::number(r))
+}
+
+fn done(answer: u32, count: u32) -> UpdateNumbers
+    ensures { λ x. ⌜ x ≡ Answers.done answer count ⌝ }
+{
+    UpdateNumbers {
+        refusal: 0,
+        answer,
+        count,
+    }
+}
+
+fn refused(r: u32) -> UpdateNumbers
+    ensures { λ x. ⌜ x ≡ Answers.refused r ⌝ }
+{
+    UpdateNumbers {
+        refusal: r,
+        answer: 0,
+        count: 0,
+    }
+}
+
+fn of_answer(a: Answer) -> UpdateNumbers
+    ensures { λ x. ⌜ x ≡ Answers.ofAnswer a ⌝ }
+{
+    match a {
+        Answer::Done => done(0, 0),
+        Answer::Took(n) => done(1, n),
+        Answer::NoneDue => done(2, 0),
+        Answer::Same => done(3, 0),
+        Answer::Different => done(4, 0),
+        Answer::Refused(r) => refused(number_of(r)),
+    }
+}
+
+// Whether a call was answered.
+fn is_answer(a: Answer) -> bool
+    ensures { λ x. ⌜ x ≡ Answers.isAnswer a ⌝ }
+{
+    match a {
+        Answer::Done => true,
+        Answer::Took(_) => true,
+        Answer::NoneDue => true,
+        Answer::Same => true,
+        Answer::Different => true,
+        Answer::Refused(_) => false,
+    }
+}
+
+// A state after a call on its parts.
+fn state_after(answer: Answer, p: Parts, state: State) -> State
+    ensures { λ r. ⌜ r ≡ pick (Answers.isAnswer answer) (Saved.savedOf (withSources p (state .sources))) state ⌝ }
+{
+    if is_answer(answer) {
+        let sources = state.sources;
+        return state_with(p, sources);
+    }
+    state
+}
+
+// What crosses back of a call on a state's parts: the state is as it was where the call was refused.
+pub fn after_parts(s: PartsStep, state: State) -> UpdateStep
+    ensures { λ x. ⌜ x ≡ Answers.after (stepWith s (state .sources)) state ⌝ }
+{
+    let a = s.answer;
+    let p = s.parts;
+    let numbers = of_answer(a);
+    // the sources stay: taken from the state itself on both ways, which saves copies
+    let sources = state.sources;
+    let mut v = state_after(a, p, state);
+    v.sources = sources;
+    UpdateStep { numbers, state: v }
+}
+
+// What crosses back of a call on a state: the state is as it was where the call was refused.
+pub fn after(s: Step, state: State) -> UpdateStep
+    ensures { λ x. ⌜ x ≡ Answers.after s state ⌝ }
+{
+    let a = s.answer;
+    let numbers = of_answer(a);
+    if is_answer(a) {
+        let w = s.writer;
+        let v = state_of(w);
+        return UpdateStep { numbers, state: v };
+    }
+    UpdateStep { numbers, state }
+}
