@@ -1,1 +1,4 @@
 pub mod Export
+pub mod Answers
+pub mod RowCallsAnswers
+pub mod Stamp

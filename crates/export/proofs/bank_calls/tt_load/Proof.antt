@@ -1,0 +1,17 @@
+use Rattle.export.specs.Answers.{noBank, ofBank, ofValidated, ofLoaded, ofFresh, ofKey, ofMatch, ofTurn, refusalOf, outputOf}
+use mathlib.Core.Path.{_≡_, refl, sym, ap, _∙_}
+use borrow.Author.Needs.{needs}
+use Rattle.export.proofs.bank_calls.tt_load.Statement.{statement}
+use Rattle.export.proofs.bank_calls.tt_load.Tie as tie
+
+load-requires : tie.Need-load-requires
+load-requires c κs = search needs
+
+of-loaded-requires : tie.Need-of-loaded-requires
+of-loaded-requires c κs = search needs
+
+returns : tie.Need-returns
+returns c = c .of-loaded .ensures ∙ ap ofLoaded (c .before .load .ensures)
+
+pub tt-load-spec : {M : Type 1} → statement M
+tt-load-spec = tie.close (tie.spec load-requires of-loaded-requires returns)

@@ -1,0 +1,17 @@
+use Rattle.export.specs.Answers.{noBank, ofBank, ofValidated, ofLoaded, ofFresh, ofKey, ofMatch, ofTurn, refusalOf, outputOf}
+use mathlib.Core.Path.{_≡_, refl, sym, ap, _∙_}
+use borrow.Author.Needs.{needs}
+use Rattle.export.proofs.bank_calls.tt_same_key.Statement.{statement}
+use Rattle.export.proofs.bank_calls.tt_same_key.Tie as tie
+
+same-key-requires : tie.Need-same-key-requires
+same-key-requires c κs = search needs
+
+of-match-requires : tie.Need-of-match-requires
+of-match-requires c κs = search needs
+
+returns : tie.Need-returns
+returns c = c .of-match .ensures ∙ ap ofMatch (c .before .same-key .ensures)
+
+pub tt-same-key-spec : {M : Type 1} → statement M
+tt-same-key-spec = tie.close (tie.spec same-key-requires of-match-requires returns)
