@@ -1,6 +1,6 @@
 -- A turn, case by case.
-use mathlib.Core.Path.{_≡_, refl, ap, _∙_, sym}
-use mathlib.Core.Bool.{Bool, true, false, _&&_}
+use mathlib.Core.Path.{_≡_, ap, sym}
+use mathlib.Core.Bool.{true, false, _&&_}
 use mathlib.Core.List.{List}
 use Prim.Native.Nat.{ℕ}
 use lib.Dec.{leb, eqb}
@@ -9,7 +9,7 @@ use Rattle.refusal.specs.declared.Refusal.{Refusal}
 use Rattle.refusal.specs.declared.Refusal.the-variants.{Region, Data, Turn as OutOfTurn}
 use Rattle.header.specs.declared.Bank.{Bank}
 use Rattle.header.specs.declared.Validated.the-variants.{Good, Refused as Bad}
-use Rattle.header.specs.Region.{regionSize, capacity, bankOf}
+use Rattle.region.specs.Region.{regionSize, capacity, bankOf}
 use Rattle.header.specs.Header.{headerOf}
 use Rattle.bank.specs.declared.Checking.{Checking}
 use Rattle.bank.specs.declared.Progress.the-variants.{Hashed, Yes, Refused}

@@ -1,6 +1,6 @@
 -- The calls on a bank, case by case.
-use mathlib.Core.Path.{_≡_, refl, ap, _∙_, sym}
-use mathlib.Core.Bool.{Bool, true, false}
+use mathlib.Core.Path.{_≡_, ap, _∙_, sym}
+use mathlib.Core.Bool.{true, false}
 use mathlib.Core.List.{List}
 use Prim.Native.Nat.{ℕ, _-_}
 use lib.Dec.{leb, eqb}
@@ -9,10 +9,10 @@ use Rattle.refusal.specs.declared.Refusal.{Refusal}
 use Rattle.refusal.specs.declared.Refusal.the-variants.{Region, Argument, Data}
 use Rattle.header.specs.declared.Bank.{Bank}
 use Rattle.header.specs.declared.Validated.the-variants.{Good, Refused}
-use Rattle.header.specs.Region.{regionSize, bankOf}
+use Rattle.region.specs.Region.{regionSize, bankOf}
 use Rattle.header.specs.Header.{headerOf}
 use Rattle.bank.specs.declared.Loaded.the-variants.{Found, Nothing, Refused as NotRead}
-use Rattle.bank.specs.Bank.{named, dataOk, thenData, validated, firstTried, orElse, loaded}
+use Rattle.bank.specs.Bank.{named, dataOk, thenData, validated, firstTried, loaded}
 
 module _ (region : List ℕ) where
   module _ (n : ℕ) where

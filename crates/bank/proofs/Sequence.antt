@@ -1,31 +1,29 @@
 -- However the bytes are divided, turns come to validate's verdict.
 use mathlib.Core.Path.{_≡_, refl, ap, _∙_, sym}
-use mathlib.Core.Bool.{Bool, true, false, _&&_, false≢true}
-use mathlib.Core.List.{List, [], _∷_, _++_}
-use Prim.Native.Nat.{ℕ, zero, _+_, _-_, _≤_, _<_, min, _^_}
+use mathlib.Core.Bool.{Bool, true, false}
+use mathlib.Core.List.{List, [], _∷_}
+use Prim.Native.Nat.{ℕ, zero, _+_, _-_, _≤_, _<_, min}
 use native.Mathlib.Omega.{arith}
 use native.Mathlib.Nat.{add-zero, zero-add, add-assoc}
-use borrow.Author.Tests.{eq-eqb, ne-eqb, eqb-true, eqb-false, le-leb, leb-true}
+use borrow.Author.Tests.{eq-eqb, ne-eqb, eqb-true, eqb-false, le-leb}
 use lib.Dec.{leb, eqb, lit<}
 use lib.ListN.{length, take, drop, length-take}
 use lib.Seq.{take-add, take-all}
 use Rattle.base.specs.Number.{pick}
 use Rattle.leaf.specs.Crc.{crc32}
 use Rattle.leaf.proofs.Checksum.{crc32-append, crc32-nil}
-use Rattle.refusal.specs.declared.Refusal.{Refusal}
 use Rattle.refusal.specs.declared.Refusal.the-variants.{Region, Argument, Data}
 use Rattle.header.specs.declared.Bank.{Bank}
 use Rattle.header.specs.declared.Validated.{Validated}
 use Rattle.header.specs.declared.Validated.the-variants.{Good, Refused as Bad}
-use Rattle.header.specs.Region.{regionSize, capacity, bankOf, dataOf}
+use Rattle.region.specs.Region.{regionSize, capacity, bankOf, dataOf}
 use Rattle.header.specs.Header.{headerOf}
 use Rattle.header.proofs.Laws.{no-refusal, passed, span-length}
 use Rattle.bank.specs.declared.Checking.{Checking}
-use Rattle.bank.specs.declared.Progress.{Progress}
 use Rattle.bank.specs.declared.Progress.the-variants.{Hashed, Yes, Refused}
 use Rattle.bank.specs.declared.Turn.{Turn}
 use Rattle.bank.specs.Bank.{named, validated, thenData, dataOk, dataIn}
-use Rattle.bank.specs.Turns.{stays, fresh, verdict, countOf, hashed, onBank, turned, after, total, reported, asVerdict, Divided, TurnsValidate}
+use Rattle.bank.specs.Turns.{stays, fresh, verdict, hashed, onBank, turned, after, total, reported, asVerdict, Divided, TurnsValidate}
 use Rattle.bank.proofs.Laws.{no-region, no-bank, named-is}
 use Rattle.bank.proofs.Cases.{turn-bank, some-left}
 

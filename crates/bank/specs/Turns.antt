@@ -1,5 +1,5 @@
 -- Data checking in turns.
-use mathlib.Core.Bool.{Bool, true, false, _&&_}
+use mathlib.Core.Bool.{_&&_}
 use mathlib.Core.List.{List, [], _∷_}
 use mathlib.Core.Path.{_≡_}
 use Prim.Native.Nat.{ℕ, _+_, _-_, _≤_, _<_, min}
@@ -7,12 +7,11 @@ use lib.Dec.{leb, eqb}
 use lib.ListN.{length, take, drop}
 use Rattle.base.specs.Number.{pick}
 use Rattle.leaf.specs.Crc.{crc32}
-use Rattle.refusal.specs.declared.Refusal.{Refusal}
 use Rattle.refusal.specs.declared.Refusal.the-variants.{Region, Data, Turn as OutOfTurn}
 use Rattle.header.specs.declared.Bank.{Bank}
 use Rattle.header.specs.declared.Validated.{Validated}
 use Rattle.header.specs.declared.Validated.the-variants.{Good, Refused as Bad}
-use Rattle.header.specs.Region.{regionSize, capacity, bankOf}
+use Rattle.region.specs.Region.{regionSize, capacity, bankOf}
 use Rattle.header.specs.Header.{headerOf}
 use Rattle.bank.specs.declared.Checking.{Checking}
 use Rattle.bank.specs.declared.Progress.{Progress}

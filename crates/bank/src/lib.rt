@@ -1,10 +1,7 @@
 // The banks of a region: validate, load, and data checking in turns.
 ghost use mathlib.Core.Path.{_≡_};
-ghost use mathlib.Core.Bool.{Bool};
 ghost use Prim.Native.Nat.{_+_, _-_, _≤_, min};
-ghost use lib.ListN.{length, take, drop};
-ghost use Rattle.leaf.specs.Crc as Crc;
-ghost use Rattle.header.specs.Region.{bankOf, dataOf};
+ghost use lib.ListN.{length};
 ghost use Rattle.bank.specs.Bank as Banks;
 ghost use Rattle.bank.specs.Turns as Turns;
 use base::slice::part;
@@ -15,6 +12,7 @@ use leaf::bytes::get;
 use leaf::crc::crc32;
 use leaf::generation::newer;
 use refusal::Refusal;
+use region::bank_of;
 
 pub enum Loaded {
     Found(Bank),
@@ -39,13 +37,6 @@ pub enum Progress {
 pub struct Turn {
     pub progress: Progress,
     pub next: Checking,
-}
-
-// A bank's bytes.
-pub fn bank_of(region: &[u8], number: u32) -> &[u8]
-    ensures { λ r. ⌜ now r ≡ bankOf (now (region .entry)) number ⌝ }
-{
-    part(region, number as usize * 491520, 491520)
 }
 
 // What a call that names a bank tests first.

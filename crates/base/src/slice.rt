@@ -1,6 +1,7 @@
-// Parts of a slice of bytes.
+// Parts of a slice of bytes, and two slices compared.
 ghost use mathlib.Core.Path.{_≡_};
 ghost use lib.ListN.{take, drop};
+ghost use Rattle.base.specs.Same.{same};
 
 // The n bytes from a place on, or those of them that are there.
 pub fn part(b: &[u8], from: usize, n: usize) -> &[u8]
@@ -15,4 +16,20 @@ pub fn part(b: &[u8], from: usize, n: usize) -> &[u8]
         return &b[from..end];
     }
     &b[from..len]
+}
+
+// Whether two slices have the same bytes. No way out of the loop, so that many are compared at once.
+pub fn same_bytes(a: &[u8], b: &[u8]) -> bool
+    ensures { λ r. ⌜ r ≡ same (now (a .entry)) (now (b .entry)) ⌝ }
+{
+    if a.len() != b.len() {
+        return false;
+    }
+    let mut differ = false;
+    let mut i: usize = 0;
+    while i < a.len() {
+        differ = differ | (a[i] != b[i]);
+        i += 1;
+    }
+    !differ
 }

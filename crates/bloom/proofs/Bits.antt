@@ -12,7 +12,7 @@ use lib.Dec.{eqb, ltb}
 use lib.ListN.{length, set, length-set}
 use lib.Pow.{pow-pos, pow-lt, shl-exact}
 use lib.Seq.{getD-set-same, getD-set-other, set-out}
-use Rattle.leaf.specs.Bytes.{byte}
+use Rattle.base.specs.Lists.{byte}
 use Rattle.bloom.specs.Bloom.{isSet, setBit}
 
 -- one, shifted in a byte, is a power of two

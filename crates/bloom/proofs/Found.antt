@@ -7,14 +7,14 @@ use native.Mathlib.Omega.{arith}
 use borrow.Author.Tests.{leb-true}
 use lib.Dec.{leb}
 use lib.ListN.{length}
-use Rattle.leaf.proofs.Numbers.{both-left}
+use Rattle.base.proofs.Bools.{and-left}
 use Rattle.bloom.specs.Bloom.{hashOf, position, positions, placesOf, isSet, fits, query, insertAnswer, inserted, setAll}
 use Rattle.bloom.specs.Claims.{Found, ClearsNone, SetsOnlyFour, SameLength, AnswersAsQuery}
 use Rattle.bloom.proofs.Sums.{within, differ}
 use Rattle.bloom.proofs.Runs.{length-all, kept-all, other-all, found-all, seen-all, None, Distinct}
 
 some : (n : ℕ) → fits n ≡ true → 0 < n
-some n h = leb-true 1 n (both-left (leb 1 n) (leb n 65536) h)
+some n h = leb-true 1 n (and-left (leb 1 n) (leb n 65536) h)
 
 pub found : Found
 unfolding query inserted

@@ -6,7 +6,7 @@ use lib.Bits.{bitOr}
 use lib.Dec.{leb, eqb}
 use lib.ListN.{length, set}
 use Rattle.base.specs.Number.{pick, wrap32, rotateLeft32}
-use Rattle.leaf.specs.Bytes.{byte}
+use Rattle.base.specs.Lists.{byte}
 use Rattle.leaf.specs.Crc.{crc32}
 use Rattle.refusal.specs.declared.Refusal.the-variants.{Argument}
 use Rattle.bloom.specs.declared.Filter.{Filter}

@@ -1,11 +1,11 @@
 -- A word of 64 bits folded into the words after it: what the register would do with it in 64 + k steps, what takes its place does
 -- in k. Assumes nothing.
-use mathlib.Core.Path.{_≡_, refl, sym, ap, ap₂, _∙_, subst}
-use mathlib.Core.List.{List, [], _∷_, _++_, map}
-use Prim.Native.Nat.{ℕ, zero, suc, _+_, _-_, _*_, _/_, _%_, _^_, _<_, _≤_}
-use native.Mathlib.Nat.{mod-lt, add-zero, add-comm, add-assoc, zero-add, mul-comm, zero-mul, mul-suc, mul-assoc, mul-div-mul-right, lt-of-le-of-lt, lt-of-lt-of-le, min-le-left}
+use mathlib.Core.Path.{_≡_, refl, sym, ap, ap₂, _∙_}
+use mathlib.Core.List.{List, [], _∷_, map}
+use Prim.Native.Nat.{ℕ, zero, _+_, _-_, _*_, _/_, _%_, _^_, _<_, _≤_}
+use native.Mathlib.Nat.{mod-lt, add-comm, add-assoc, zero-add, mul-div-mul-right, lt-of-le-of-lt}
 use native.Mathlib.Omega.{arith}
-use lib.Pow.{pow-pos, pow-add, pow-mono, split, high, low, shr-le}
+use lib.Pow.{pow-pos, pow-add, split, high, low, shr-le}
 use lib.Bits.{bitXor, xor-comm, xor-zero-r, xor-shifted, xor-block, xor-lt}
 use lib.ListN.{length, take, drop, getD, length-drop, take-append-drop}
 use lib.Seq.{length-take-le, drop-drop, drop-cons}
@@ -15,8 +15,8 @@ use Rattle.checksum.specs.Pending.{three, five}
 use Rattle.checksum.proofs.Xor.{xor-assoc, xor-four}
 use Rattle.checksum.proofs.Little.{little-append, part-lt}
 use Rattle.checksum.proofs.Steps.{steps-xor, steps-add, steps-shift, steps-split, run-steps}
-use Rattle.checksum.proofs.Sum.{Sum, term, plus, eval, odd, same, xors}
-use Rattle.checksum.proofs.Multiple.{Multiple, sum, multiple, steps-zero}
+use Rattle.checksum.proofs.Sum.{term, plus, same, xors}
+use Rattle.checksum.proofs.Multiple.{Multiple, multiple, steps-zero}
 
 -- ---- shifts
 

@@ -3,14 +3,14 @@
 use mathlib.Core.Path.{_≡_, refl, sym, ap, ap₂, _∙_, subst}
 use mathlib.Core.List.{List, [], _∷_, map}
 use Prim.Native.Nat.{ℕ, zero, suc, _+_, _-_, _*_, _/_, _%_, _^_, _<_, _≤_}
-use native.Mathlib.Nat.{mod-lt, lt-of-lt-of-le, add-zero, add-suc, suc-add, add-comm, add-assoc, zero-add, mul-one, mul-comm, one-mul, zero-mul}
+use native.Mathlib.Nat.{mod-lt, lt-of-lt-of-le, add-comm, mul-comm, one-mul, zero-mul}
 use native.Mathlib.Omega.{arith}
 use lib.Arith.{lt-one}
 use lib.Pow.{pow-pos, pow-add, split, shr-lt, pow-mono}
-use lib.Bits.{bitXor, xor-comm, xor-zero-r, xor-shifted, xor-lt}
+use lib.Bits.{bitXor, xor-shifted, xor-lt}
 use Rattle.checksum.specs.Register.{step, steps}
 use Rattle.checksum.proofs.Xor.{digit-ind, xor-four}
-use Rattle.checksum.proofs.Steps.{steps-xor, steps-add, steps-shift, steps-split, steps-lt}
+use Rattle.checksum.proofs.Steps.{steps-xor, steps-add, steps-shift, steps-lt}
 use Rattle.checksum.proofs.Sum.{xors}
 
 -- the sum of x after each number of steps

@@ -1,7 +1,7 @@
 -- The shift register is linear, and shifts out what it is given; so a long run of it is an exclusive or of short ones. Assumes nothing.
 use mathlib.Core.Path.{_≡_, refl, sym, ap, ap₂, _∙_}
 use mathlib.Core.List.{List, [], _∷_, _++_}
-use Prim.Native.Nat.{ℕ, zero, suc, _+_, _*_, _/_, _%_, _^_, _<_, _≤_}
+use Prim.Native.Nat.{ℕ, zero, suc, _+_, _*_, _/_, _%_, _^_, _<_}
 use native.Mathlib.Nat.{mod-lt, mul-one, suc-add, zero-add, mul-suc, add-comm, mod-eq-of-lt, zero-lt-suc}
 use native.Mathlib.Omega.{arith}
 use lib.Pow.{pow-pos, split, shr-shr, shr-lt}
@@ -9,7 +9,7 @@ use lib.Bits.{bitXor, differ, xor-comm, xor-zero-r, xor-shifted, shifted-half, s
 use lib.ListN.{length, take, drop}
 use lib.Seq.{take-add}
 use Rattle.checksum.specs.Register.{step, steps, run, little}
-use Rattle.checksum.proofs.Xor.{digit-ind, xor-odd, xor-half, xor-assoc, xor-four, xor-left-comm}
+use Rattle.checksum.proofs.Xor.{digit-ind, xor-odd, xor-half, xor-assoc, xor-four}
 
 two-pos : 0 < 2
 two-pos = zero-lt-suc 1

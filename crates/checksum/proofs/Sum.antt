@@ -3,7 +3,7 @@ use mathlib.Core.Path.{_≡_, refl, sym, ap, ap₂, _∙_}
 use mathlib.Core.Bool.{Bool, true, false, not}
 use mathlib.Core.List.{List, [], _∷_}
 use Prim.Native.Nat.{ℕ, zero, suc}
-use lib.Bits.{bitXor, xor-comm, xor-zero-r, xor-self}
+use lib.Bits.{bitXor, xor-zero-r, xor-self}
 use lib.ListN.{getD}
 use Rattle.checksum.proofs.Xor.{xor-assoc, xor-left-comm, xor-four}
 

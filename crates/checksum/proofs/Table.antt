@@ -1,19 +1,18 @@
 -- The table of nibbles: its rule, by one test that is computed, and what lookups of it make together. Assumes nothing.
-use mathlib.Core.Path.{_≡_, refl, sym, ap, ap₂, _∙_, subst}
+use mathlib.Core.Path.{_≡_, sym, ap, _∙_}
 use mathlib.Core.Bool.{Bool, true, false}
 use mathlib.Core.List.{List, [], _∷_, _++_}
 use Prim.Native.Nat.{ℕ, zero, suc, _+_, _*_, _/_, _%_, _^_, _<_, _≤_, zero-le}
-use native.Mathlib.Nat.{mod-lt, mod-eq-of-lt, mul-zero, zero-add, mul-suc, add-assoc, add-comm, le-of-suc-le-suc, not-suc-le-zero}
+use native.Mathlib.Nat.{mod-eq-of-lt, zero-add, le-of-suc-le-suc, not-suc-le-zero}
 use native.Mathlib.Omega.{arith}
 use lib.Arith.{lt-of-le-ne}
 use lib.Dec.{T, eqb, eqb→eq}
-use lib.Pow.{pow-pos, shr-shr, shr-lt, shr-mod}
-use lib.Bits.{bitXor, xor-comm, xor-zero-r, xor-shr}
+use lib.Pow.{shr-shr, shr-mod}
+use lib.Bits.{bitXor}
 use lib.ListN.{length, getD, List·getD-append}
 use lib.Seq.{getD-append-add}
-use Rattle.checksum.specs.Register.{step, steps}
+use Rattle.checksum.specs.Register.{steps}
 use Rattle.checksum.specs.Pending.{Nibbles}
-use Rattle.checksum.proofs.Xor.{xor-assoc}
 use Rattle.checksum.proofs.Steps.{steps-add, steps-split}
 
 -- the first sixteen are the nibbles after 4 steps, and each other is the one sixteen before it after 4 more

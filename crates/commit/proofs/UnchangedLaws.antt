@@ -10,10 +10,10 @@ use lib.ListN.{length, take, getD}
 use lib.Seq.{take-suc, length-take-le}
 use borrow.Author.Tests.{eq-eqb, ne-eqb}
 use Rattle.base.specs.Number.{pick}
-use Rattle.record.specs.Runs.{many}
-use Rattle.record.proofs.Series.{many-more, length-many}
+use Rattle.base.specs.Lists.{many}
+use Rattle.base.proofs.Lists.{many-more, length-many}
 use Rattle.refusal.specs.declared.Refusal.the-variants.{Region, Turn}
-use Rattle.header.specs.Region.{regionSize}
+use Rattle.region.specs.Region.{regionSize}
 use Rattle.writer.specs.declared.Writer.{Writer}
 use Rattle.writer.specs.declared.Answer.{Answer}
 use Rattle.writer.specs.declared.Answer.the-variants.{Same, Different}

@@ -11,7 +11,7 @@ use Rattle.refusal.specs.declared.Refusal.the-variants.{Region, Turn, Obsolete,
 use Rattle.record.specs.declared.Source.{Source}
 use Rattle.record.specs.Record.{noBlock}
 use Rattle.header.specs.declared.Bank.{Bank}
-use Rattle.header.specs.Region.{regionSize}
+use Rattle.region.specs.Region.{regionSize}
 use Rattle.header.specs.WriteHeader.{headerBytes, blankWord, commitBytes, isFit}
 use Rattle.flash.specs.Flash.{Op, write, performed}
 use Rattle.writer.specs.declared.Stage.{Stage}

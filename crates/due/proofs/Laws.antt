@@ -10,10 +10,10 @@ use lib.ListN.{length, take, drop, replicate, length-append}
 use lib.Seq.{sets, sets-eq, take-at, length-take-le, take-append-add}
 use borrow.Author.Tests.{eqb-true, eq-eqb, ne-eqb, ltb-true}
 use Rattle.base.specs.Number.{pick}
-use Rattle.record.specs.Runs.{fill}
-use Rattle.record.proofs.Series.{fill-split, length-fill, drop-new}
-use Rattle.header.specs.Region.{regionSize, bankSize}
-use Rattle.header.proofs.Laws.{and-left, and-right}
+use Rattle.base.specs.Lists.{fill}
+use Rattle.base.proofs.Lists.{fill-split, length-fill, drop-new}
+use Rattle.region.specs.Region.{regionSize, bankSize}
+use Rattle.base.proofs.Bools.{and-left, and-right}
 use Rattle.flash.specs.Flash.{Op, place, size, after, performed}
 use Rattle.flash.proofs.Laws.{after-fits}
 use Rattle.bank.specs.declared.Loaded.{Loaded}

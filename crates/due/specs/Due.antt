@@ -6,9 +6,9 @@ use lib.Dec.{leb, eqb}
 use lib.ListN.{length, take, drop}
 use Rattle.base.specs.Number.{pick}
 use Rattle.refusal.specs.declared.Refusal.the-variants.{Region, Turn}
-use Rattle.record.specs.Runs.{fill}
-use Rattle.key.specs.Match.{same}
-use Rattle.header.specs.Region.{regionSize, sectorSize, bankOf}
+use Rattle.base.specs.Lists.{fill}
+use Rattle.base.specs.Same.{same}
+use Rattle.region.specs.Region.{regionSize, sectorSize, bankOf}
 use Rattle.bank.specs.declared.Loaded.{Loaded}
 use Rattle.bank.specs.declared.Loaded.the-variants.{Found, Nothing, Refused as NotRead}
 use Rattle.flash.specs.Flash.{Op, erase, write, performed}

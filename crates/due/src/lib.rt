@@ -1,14 +1,13 @@
 // The lower layer's due call: one erase, write or comparison, or none is due.
 ghost use mathlib.Core.Path.{_≡_};
-ghost use mathlib.Core.Bool.{Bool, true};
+ghost use mathlib.Core.Bool.{true};
 ghost use mathlib.Core.List.{List, [], _++_};
 ghost use Prim.Native.Nat.{_+_, _-_, _%_, _≤_};
 ghost use lib.Dec.{eqb};
 ghost use lib.ListN.{length, take};
 ghost use Rattle.base.specs.Number.{pick};
-ghost use Rattle.record.specs.Runs.{fill};
+ghost use Rattle.base.specs.Lists.{fill};
 ghost use Rattle.record.specs.declared.Source.{Source};
-ghost use Rattle.key.specs.Match.{same};
 ghost use Rattle.bank.specs.declared.Loaded.the-variants as Loadeds;
 ghost use Rattle.flash.specs.Flash.{writtenIn, performed};
 ghost use Rattle.writer.specs.declared.Answer.the-variants as Answers;
@@ -18,12 +17,13 @@ ghost use Rattle.writer.specs.State as State;
 ghost use Rattle.writer.specs.Parts.{withSources, stepWith};
 ghost use Rattle.due.specs.Due as Due;
 use bank::Loaded;
-use bank::bank_of;
 use base::slice::part;
+use base::slice::same_bytes;
 use flash::erase;
 use flash::write;
 use header::Bank;
 use refusal::Refusal;
+use region::bank_of;
 use writer::Answer;
 use writer::Operation;
 use writer::Parts;
@@ -76,22 +76,6 @@ fn write_tail(region: &mut [u8], bank: u32, tail: [u8; 256], a: u32, n: u32)
     let m = padded_length(e);
     let bytes = &t[0..m];
     write(region, bank, 4096 + a as usize, bytes);
-}
-
-// Whether two slices have the same bytes.
-fn same_bytes(a: &[u8], b: &[u8]) -> bool
-    ensures { λ r. ⌜ r ≡ same (now (a .entry)) (now (b .entry)) ⌝ }
-{
-    if a.len() != b.len() {
-        return false;
-    }
-    let mut differ = false;
-    let mut i: usize = 0;
-    while i < a.len() {
-        differ = differ | (a[i] != b[i]);
-        i += 1;
-    }
-    !differ
 }
 
 fn differs_from(region: &[u8], b: Bank, t: Taken, tail: [u8; 256]) -> bool

@@ -7,9 +7,9 @@ use Rattle.leaf.specs.Date.{leap, monthDays, isDate, validDate}
 use Rattle.key.specs.Order.{pickOrder, textOrder}
 use Rattle.key.specs.Picks.{sum, text, pickOf, firsts, insert, distinct}
 use Rattle.key.specs.Layout.{joined, prefix, keyOf}
-use Rattle.key.specs.Match.{same}
+use Rattle.base.specs.Same.{same}
 use Rattle.csv.specs.Write.{special, anySpecial, doubled, fieldOf}
-use Rattle.leaf.proofs.Numbers.{both-left, both-right}
+use Rattle.base.proofs.Bools.{and-left, and-right}
 use Rattle.examples.specs.Examples.{Question, answer, table, Answered}
 
 abbrev agree : Bool → Bool → Bool
@@ -31,7 +31,7 @@ unfolding Answered
 answered [] e = tt
 answered (row ∷ rows) e =
     let t = agree (answer (row .0)) (row .1) in
-    (same-is (answer (row .0)) (row .1) (both-left t (test rows) e), answered rows (both-right t (test rows) e))
+    (same-is (answer (row .0)) (row .1) (and-left t (test rows) e), answered rows (and-right t (test rows) e))
 
 pub theorem : Answered table
 unfolding table newer validDate isDate monthDays leap same keyOf firsts pickOf text sum distinct insert pickOrder textOrder joined prefix special anySpecial doubled fieldOf

@@ -7,7 +7,7 @@ use Rattle.leaf.specs.Generation.{newer}
 use Rattle.leaf.specs.Date.{validDate}
 use Rattle.key.specs.Picks.{handed}
 use Rattle.key.specs.Layout.{keyOf}
-use Rattle.key.specs.Match.{same}
+use Rattle.base.specs.Same.{same}
 use Rattle.csv.specs.Write.{fieldOf}
 
 -- newerThan a b: is generation a newer than b? aDate n: is n a date? keyIs identity texts lengths key: is that the key of the identity

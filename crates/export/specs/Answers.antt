@@ -1,5 +1,4 @@
 -- What crosses to C: each answer as numbers. 0 is no refusal; beside a refusal every other number is 0, a time unknown.
-use mathlib.Core.Bool.{true, false}
 use mathlib.Core.List.{List}
 use Prim.Native.Nat.{ℕ}
 use lib.Dec.{leb}
@@ -7,7 +6,6 @@ use lib.IntN.{pos}
 use lib.ListN.{length}
 use Rattle.base.specs.Number.{pick}
 use Rattle.leaf.specs.Bytes.{written}
-use Rattle.refusal.specs.declared.Refusal.{Refusal}
 use Rattle.refusal.specs.declared.Refusal.the-variants.{Small}
 use Rattle.refusal.specs.Refusal.{numberOf}
 use Rattle.key.specs.declared.KeyAnswer.{KeyAnswer}

@@ -1,7 +1,6 @@
 // Keys and banks under C names, for the firmware in Rust to link. A slice passes as a pointer and a length, an answer as a struct of
 // numbers; rust/binding declares them. No call asks anything of its caller.
 ghost use mathlib.Core.Path.{_≡_};
-ghost use Prim.Native.Nat.{_≤_};
 ghost use lib.Dec.{leb};
 ghost use lib.ListN.{length};
 ghost use Rattle.base.specs.Number.{pick};
@@ -26,7 +25,6 @@ use key::KeyAnswer;
 use key::SameKey;
 use refusal::Refusal;
 use rowread::ReadAnswer;
-use snapshot::Asked;
 use snapshot::Day;
 use snapshot::Days;
 use snapshot::FreshAnswer;

@@ -11,9 +11,8 @@ use lib.Arith.{bin-ind}
 use lib.Bits.{bitAnd, and-step, and-zero-l, and-self, and-mask, and-comm}
 use lib.ListN.{take, drop, length, getD, length-append, length-take, length-drop, take-append-drop, List·getD-append}
 use lib.Seq.{take-at, drop-at, take-all, take-length, length-take-le, take-append-le, take-append-add, drop-append-le, getD-take, getD-drop, getD-append-add, drop-drop}
-use Rattle.leaf.specs.Bytes.{byte}
-use Rattle.record.specs.Runs.{fill}
-use Rattle.header.specs.Region.{regionSize, bankSize, sectorSize, bankOf}
+use Rattle.base.specs.Lists.{fill, byte}
+use Rattle.region.specs.Region.{regionSize, bankSize, sectorSize, bankOf}
 use Rattle.flash.specs.Flash.{Op, erase, write, blank, clear, place, size, done, withBank, torn, applied, performed, fits, after}
 use Rattle.flash.specs.Claims.{FirstPart}
 

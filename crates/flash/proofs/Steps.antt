@@ -11,7 +11,7 @@ use lib.Bits.{bitAnd}
 use lib.Dec.{leb, eqb}
 use lib.ListN.{take, drop, length, getD, set, length-drop, take-append-drop}
 use lib.Seq.{length-take-le, take-length, take-take, take-add, take-append-le, drop-append-le, drop-drop}
-use Rattle.header.specs.Region.{regionSize, bankSize, sectorSize, bankOf}
+use Rattle.region.specs.Region.{regionSize, bankSize, sectorSize, bankOf}
 use Rattle.flash.specs.Flash.{erase, write, blank, clear, done, withBank, torn, applied, within, erasedIn, writtenIn}
 use Rattle.flash.proofs.Laws.{after-fits}
 

@@ -3,7 +3,7 @@ use mathlib.Core.Path.{_≡_}
 use mathlib.Core.List.{List, _++_}
 use Prim.Native.Nat.{ℕ, _+_, _*_, _≤_}
 use lib.ListN.{take, drop, length}
-use Rattle.header.specs.Region.{regionSize, bankSize}
+use Rattle.region.specs.Region.{regionSize, bankSize}
 use Rattle.flash.specs.Flash.{Op, place, size, torn, applied}
 
 -- E5: "Take a write that is cut to leave a first part of its bytes written, and an erase that is cut to leave a first part of its sector

@@ -7,7 +7,7 @@ use lib.Bits.{bitAnd}
 use lib.Dec.{leb, eqb}
 use lib.ListN.{take, drop, length}
 use Rattle.base.specs.Number.{pick}
-use Rattle.header.specs.Region.{regionSize, bankSize, sectorSize, bankOf}
+use Rattle.region.specs.Region.{regionSize, bankSize, sectorSize, bankOf}
 
 -- An operation on a bank: the erase of the sector at a place, or a write of bytes at a place. Places count from the bank's start.
 pub data Op : Type 0 where

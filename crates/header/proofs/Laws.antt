@@ -6,8 +6,8 @@ use Prim.Native.Nat.{ℕ, suc, _+_, _*_, _-_, _<_, _≤_}
 use native.Mathlib.Omega.{arith}
 use native.Mathlib.Numerals.{add-one}
 use lib.IntN.{ℤ, pos, negsuc}
-use lib.ListN.{length, take, drop, getD}
-use lib.Seq.{take-suc, take-all}
+use lib.ListN.{length, take, getD}
+use lib.Seq.{take-suc}
 use lib.Dec.{eqb, leb}
 use lib.Signed.{leZ}
 use borrow.Author.Tests.{eq-eqb, ne-eqb, eqb-true, eqb-false, leb-true}
@@ -16,8 +16,9 @@ use mir.Val.{SFits, ofZ}
 use Rattle.leaf.specs.Bytes.{word}
 use Rattle.refusal.specs.declared.Refusal.{Refusal}
 use Rattle.refusal.specs.declared.Refusal.the-variants.{Mark, Seal, Span, Source as BadSource}
-use Rattle.record.specs.Runs.{many, each}
-use Rattle.record.proofs.Series.{many-more}
+use Rattle.base.specs.Lists.{many, each}
+use Rattle.base.proofs.Lists.{many-more}
+use Rattle.base.proofs.Bools.{and-left, and-right}
 use Rattle.header.specs.declared.Bank.{Bank}
 use Rattle.header.specs.declared.Validated.{Validated}
 use Rattle.header.specs.declared.Validated.the-variants.{Good, Refused}
@@ -47,14 +48,6 @@ pub each-many : {A : Type 0} (p : A → Bool) (f : List ℕ → ℕ → A) (step
 each-many p f step l at n = rw (add-one, many-more f step l at n) (sym (each-last p (many f step l at n) (f l (at + n * step))))
 
 -- what passes 5 has a count of at most three
-
-pub and-left : (a b : Bool) → (a && b) ≡ true → a ≡ true
-and-left true b e = refl
-and-left false b e = absurd (false≢true e)
-
-pub and-right : (a b : Bool) → (a && b) ≡ true → b ≡ true
-and-right true b e = e
-and-right false b e = absurd (false≢true e)
 
 pub span-length : (b : Bank) → spanOk b ≡ true → (1 ≤ b .length) × (b .length ≤ 487424)
 unfolding spanOk

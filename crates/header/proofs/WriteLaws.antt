@@ -10,16 +10,16 @@ use lib.IntN.{ℤ}
 use lib.ListN.{length, take, drop, getD, length-append}
 use lib.Seq.{take-at, drop-at}
 use Rattle.base.specs.Number.{pick, unsigned}
-use Rattle.leaf.specs.Bytes.{byte, word, time, le32, le64}
+use Rattle.leaf.specs.Bytes.{word, time, le32, le64}
 use Rattle.leaf.proofs.Laws.{word-front, time-front, length-le32}
-use Rattle.leaf.proofs.Numbers.{both-left}
+use Rattle.base.proofs.Bools.{and-left}
 use Rattle.leaf.proofs.Checksum.{crc32-lt}
 use Rattle.record.specs.declared.Source.{Source}
 use Rattle.record.specs.declared.Block.{Block}
 use Rattle.record.specs.Types.{All, U32}
 use Rattle.record.specs.Record.{decoded, headBytes, blockBytes, tableBytes, tailBytes, sourceBytes}
-use Rattle.record.specs.Runs.{many, puts, fill, each}
-use Rattle.record.proofs.Series.{length-fill}
+use Rattle.base.specs.Lists.{many, puts, fill, each, byte}
+use Rattle.base.proofs.Lists.{length-fill}
 use Rattle.record.proofs.Laws.{length-source}
 use Rattle.record.proofs.Back.{reads-back}
 use Rattle.refusal.specs.declared.Refusal.the-variants.{Span, Source as BadSource}
@@ -334,11 +334,11 @@ passes-good b ss e = good-by b (spanOk b) (each (sourceOk b) ss) e
 
 pub fit-passes : (b : Bank) (ss : List Source) → isFit b ss ≡ true → passes (judge b ss) ≡ true
 unfolding isFit
-fit-passes b ss f = both-left (passes (judge b ss)) (each textOk ss) f
+fit-passes b ss f = and-left (passes (judge b ss)) (each textOk ss) f
 
 -- a bank that passes 13 has at most three records, and is good once it is committed
 pub fit-count : (b : Bank) (ss : List Source) → isFit b ss ≡ true → b .count ≤ 3
-fit-count b ss f = span-count b (both-left (spanOk b) (each (sourceOk b) ss) (sym (judge-is b ss) ∙ fit-passes b ss f))
+fit-count b ss f = span-count b (and-left (spanOk b) (each (sourceOk b) ss) (sym (judge-is b ss) ∙ fit-passes b ss f))
 
 pub committed : Committed
 committed b ss rest v r ps c f = header-back b ss rest v r ps (omega (arith, fit-count b ss f)) c (b .number) ∙ passes-good b ss (fit-passes b ss f)

@@ -15,8 +15,8 @@ use Rattle.leaf.specs.Crc.{crc32}
 use Rattle.leaf.proofs.Laws.{length-le32, length-le64, written-sets}
 use Rattle.record.specs.declared.Source.{Source}
 use Rattle.record.specs.Record.{sourceBytes}
-use Rattle.record.specs.Runs.{puts, fill, each}
-use Rattle.record.proofs.Series.{next, fill-split, sets-mid, length-fill}
+use Rattle.base.specs.Lists.{puts, fill, each}
+use Rattle.base.proofs.Lists.{next, fill-split, sets-mid, length-fill}
 use Rattle.refusal.specs.declared.Refusal.the-variants.{Span, Source as BadSource}
 use Rattle.header.specs.declared.Bank.{Bank}
 use Rattle.header.specs.declared.Validated.the-variants.{Good, Refused}

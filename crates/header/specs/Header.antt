@@ -1,5 +1,5 @@
 -- A bank's header, and its tests: refusals 3 to 6.
-use mathlib.Core.Bool.{Bool, true, false, _&&_, _||_}
+use mathlib.Core.Bool.{Bool, false, _&&_, _||_}
 use mathlib.Core.List.{List, [], _∷_, _++_}
 use Prim.Native.Nat.{ℕ, _+_, _*_}
 use lib.Dec.{leb, eqb}
@@ -14,11 +14,11 @@ use Rattle.refusal.specs.declared.Refusal.the-variants.{Mark, Seal, Span, Sourc
 use Rattle.record.specs.declared.Block.{Block}
 use Rattle.record.specs.declared.Source.{Source}
 use Rattle.record.specs.Record.{sourceSize, decoded}
-use Rattle.record.specs.Runs.{many, fill, each}
+use Rattle.base.specs.Lists.{many, fill, each}
 use Rattle.header.specs.declared.Bank.{Bank}
 use Rattle.header.specs.declared.Validated.{Validated}
 use Rattle.header.specs.declared.Validated.the-variants.{Good, Refused}
-use Rattle.header.specs.Region.{capacity}
+use Rattle.region.specs.Region.{capacity}
 
 -- the header's numbers, of bank n
 unfoldable pub numbersOf : ℕ → List ℕ → Bank

@@ -1,4 +1,3 @@
-pub mod Region
 pub mod Header
 pub mod WriteHeader
 pub mod Types

@@ -3,7 +3,7 @@ use mathlib.Core.List.{List}
 use Prim.Native.Nat.{ℕ, _<_}
 use mir.Syntax.{w64}
 use mir.Val.{SFits}
-use Rattle.leaf.specs.Bytes.{byte}
+use Rattle.base.specs.Lists.{byte}
 use Rattle.record.specs.declared.Source.{Source}
 use Rattle.record.specs.Types.{U32, Sized, Ranged}
 use Rattle.header.specs.declared.Bank.{Bank}

@@ -4,11 +4,11 @@ use mathlib.Core.List.{List, _++_}
 use Prim.Native.Nat.{ℕ, _*_, _-_}
 use lib.Dec.{leb}
 use lib.ListN.{length}
-use Rattle.leaf.specs.Bytes.{byte, le32, le64}
+use Rattle.leaf.specs.Bytes.{le32, le64}
 use Rattle.leaf.specs.Crc.{crc32}
 use Rattle.record.specs.declared.Source.{Source}
 use Rattle.record.specs.Record.{sourceSize, sourceBytes}
-use Rattle.record.specs.Runs.{puts, fill, each}
+use Rattle.base.specs.Lists.{puts, fill, each, byte}
 use Rattle.header.specs.declared.Bank.{Bank}
 use Rattle.header.specs.declared.Validated.{Validated}
 use Rattle.header.specs.declared.Validated.the-variants.{Good, Refused}

@@ -2,10 +2,9 @@
 pub mod write;
 
 ghost use mathlib.Core.Path.{_≡_};
-ghost use mathlib.Core.Bool.{Bool};
 ghost use Prim.Native.Nat.{_+_, _*_, _≤_};
-ghost use lib.ListN.{length, drop};
-ghost use Rattle.record.specs.Runs.{each};
+ghost use lib.ListN.{length};
+ghost use Rattle.base.specs.Lists.{each};
 ghost use Rattle.header.specs.Header.{
   numbersOf,
   recordAt,

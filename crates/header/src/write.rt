@@ -5,7 +5,7 @@ ghost use lib.ListN.{length, take};
 ghost use lib.Seq.{sets};
 ghost use Rattle.record.specs.Types.{Sized};
 ghost use Rattle.record.specs.Record.{sourceBytes};
-ghost use Rattle.record.specs.Runs.{puts, fill};
+ghost use Rattle.base.specs.Lists.{puts, fill};
 ghost use Rattle.header.specs.WriteHeader.{
   firstBytes,
   secondBytes,

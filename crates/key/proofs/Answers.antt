@@ -12,8 +12,9 @@ use Rattle.leaf.proofs.Laws.{length-written}
 use Rattle.refusal.specs.declared.Refusal.the-variants.{Argument, Identity, Small}
 use Rattle.key.specs.Order.{Text, Pick}
 use Rattle.key.specs.Picks.{text, pickOf, pickAt, count, firsts, handed, distinct}
-use Rattle.key.specs.Layout.{every, sized, fit, keyOf, within, keyAnswer, after, prefix, body, joined, entry}
-use Rattle.key.specs.Match.{same, matchAnswer}
+use Rattle.key.specs.Layout.{every, sized, fit, keyOf, within, keyAnswer, prefix, body, joined, entry}
+use Rattle.key.specs.Match.{matchAnswer}
+use Rattle.base.specs.Same.{same}
 use Rattle.key.specs.Steps.{Places, Rising, between, Below, Ordered, stretch}
 use Rattle.key.specs.declared.KeyAnswer.the-variants.{Written, Refused}
 use Rattle.key.specs.declared.SameKey.the-variants as sameKey

@@ -11,7 +11,8 @@ use Rattle.key.specs.Order.{Text, textOrder, pickOrder}
 use Rattle.key.specs.Picks.{sum, text, pickOf, pickAt, count, firsts, handed, insert, distinct}
 use Rattle.key.specs.Layout.{every, sized, fit, prefix, joined, entry}
 use Rattle.key.specs.Claims.{NoKeyIsLonger, LongestIsReached}
-use Rattle.key.proofs.Sizes.{both-true, entry-small, small, few}
+use Rattle.key.proofs.Sizes.{entry-small, small, few}
+use Rattle.base.proofs.Bools.{both-true}
 use Rattle.key.proofs.Put.{prefix-some}
 use Rattle.key.proofs.Answers.{key-length}
 

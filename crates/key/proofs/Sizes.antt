@@ -1,5 +1,5 @@
 -- What the size test gives: a pick takes at most 141 bytes, all of them at most 141 to a pick.
-use mathlib.Core.Path.{_≡_, refl, ap}
+use mathlib.Core.Path.{_≡_, refl}
 use mathlib.Core.Bool.{Bool, true, false}
 use mathlib.Core.List.{List, [], _∷_}
 use mathlib.Core.Logic.{_⊎_, inl, inr, ⊎-elim}
@@ -10,17 +10,13 @@ use native.Mathlib.Omega.{arith}
 use lib.ListN.{length, getD, length-append}
 use borrow.Author.Tests.{leb-true}
 use Rattle.base.specs.Number.{pick}
+use Rattle.base.proofs.Bools.{both-true}
 use Rattle.key.specs.Order.{Text, Pick, pickOrder}
 use Rattle.key.specs.Picks.{pickOf, unlessCode, firsts, place, insert, distinct, In}
 use Rattle.key.specs.Layout.{every, sized, sizes, joined, field, entry}
 use Rattle.key.specs.Steps.{Rising, between, Small}
 use Rattle.key.proofs.Sort.{sorts}
 use Rattle.key.proofs.Taken.{split, firsts-length, between-length}
-
-pub both-true : (a b : Bool) → pick a b false ≡ true → (a ≡ true) × (b ≡ true)
-both-true true true e = (refl, refl)
-both-true true false e = (refl, e)
-both-true false b e = absurd (let z : _≡_ {A = ℕ} 0 1 = ap (λ (t : Bool). pick t 1 0) e in omega arith)
 
 second-false : (a : Bool) → pick a false false ≡ false
 second-false true = refl

@@ -1,75 +1,22 @@
 -- Comparing part after part.
 use mathlib.Core.Path.{_≡_, refl, ap, _∙_, sym}
-use mathlib.Core.Bool.{Bool, true, false, not, _||_}
+use mathlib.Core.Bool.{Bool, true, false, not}
 use mathlib.Core.List.{List, [], _∷_, _++_, append-nil}
-use Prim.Native.Nat.{ℕ, zero, suc, _+_, _-_, _≤_, _<_}
+use Prim.Native.Nat.{ℕ, zero, suc, _+_, _-_, _<_}
 use native.Mathlib.Nat.{add-zero, add-assoc}
-use native.Mathlib.Numerals.{add-one}
 use native.Mathlib.Omega.{arith}
-use lib.ListN.{length, take, drop, getD, length-append, length-take, length-drop, drop-of-length-le, take-append-drop}
+use lib.ListN.{length, take, drop, getD, length-append, length-take, length-drop, take-append-drop}
 use lib.Seq.{drop-drop, drop-cons}
 use lib.Dec.{eqb}
-use borrow.Author.Tests.{eqb-true, eq-eqb, ne-eqb}
+use borrow.Author.Tests.{eq-eqb, ne-eqb}
 use Rattle.base.specs.Number.{pick}
 use Rattle.key.specs.Layout.{joined}
-use Rattle.key.specs.Match.{same}
-use Rattle.key.specs.Claims.{SameIsEqual}
+use Rattle.base.specs.Same.{same}
+use Rattle.base.proofs.Same.{shorter}
 use Rattle.key.specs.Steps.{stretch}
 use Rattle.key.specs.declared.Matched.{Matched}
 use Rattle.key.specs.declared.Matched.the-variants.{To, Differs}
-use Rattle.key.proofs.Sizes.{both-true}
 use Rattle.key.proofs.Put.{step, joined-append}
-
--- ---- same means equal
-
-pub same-self : (s : List ℕ) → same s s ≡ true
-unfolding same
-same-self [] = refl
-same-self (a ∷ s) = rw (eq-eqb a a refl) (same-self s)
-
-no-bool : {A : Type 0} → false ≡ true → A
-no-bool e = absurd (let z : _≡_ {A = ℕ} 0 1 = ap (λ (t : Bool). pick t 1 0) e in omega arith)
-
-pub same-means : (s t : List ℕ) → same s t ≡ true → s ≡ t
-unfolding same
-same-means [] [] e = refl
-same-means [] (b ∷ t) e = no-bool e
-same-means (a ∷ s) [] e = no-bool e
-same-means (a ∷ s) (b ∷ t) e =
-    let h = both-true (eqb a b) (same s t) e in
-    rw (eqb-true a b (h .0), same-means s t (h .1))
-
-pub same-is-equal : SameIsEqual
-same-is-equal s t = (same-means s t, λ e. rw e (same-self t))
-
--- ---- byte by byte
-
-module _ (a b : List ℕ) (i : ℕ) where
-  same-next : i < length a → i < length b
-      → same (drop i a) (drop i b) ≡ pick (eqb (getD a i 0) (getD b i 0)) (same (drop (i + 1) a) (drop (i + 1) b)) false
-  unfolding same
-  same-next ha hb = rw (add-one, drop-cons a i 0 ha, drop-cons b i 0 hb)
-
-  same-end : length a ≤ i → length b ≤ i → same (drop i a) (drop i b) ≡ true
-  unfolding same
-  same-end ha hb = rw (drop-of-length-le a ha, drop-of-length-le b hb)
-
-  module _ (differ : Bool) (so-far : same a b ≡ pick differ false (same (drop i a) (drop i b))) where
-    pub bytes-next : i < length a → i < length b
-        → same a b ≡ pick (differ || not (eqb (getD a i 0) (getD b i 0))) false (same (drop (i + 1) a) (drop (i + 1) b))
-    bytes-next ha hb = so-far ∙ rw (same-next ha hb) (go differ (eqb (getD a i 0) (getD b i 0)) (same (drop (i + 1) a) (drop (i + 1) b)))
-      where
-        go : (d e r : Bool) → pick d false (pick e r false) ≡ pick (d || not e) false r
-        go true e r = refl
-        go false true r = refl
-        go false false r = refl
-
-    pub bytes-end : length a ≤ i → length b ≤ i → not differ ≡ same a b
-    bytes-end ha hb = sym (so-far ∙ rw (same-end ha hb) (go differ))
-      where
-        go : (d : Bool) → pick d false true ≡ not d
-        go true = refl
-        go false = refl
 
 -- ---- one part
 
@@ -80,18 +27,6 @@ differs x at s e = rw e
 pub matches : (x : List ℕ) (at : ℕ) (s : List ℕ) (end : ℕ) → end ≡ at + length s → same (take (length s) (drop at x)) s ≡ true → To end ≡ stretch x at s
 unfolding stretch
 matches x at s end h e = rw (e, h)
-
--- a list of another length isn't the same
-shorter : (s t : List ℕ) → length s < length t → same s t ≡ false
-unfolding same
-shorter [] [] h = absurd (omega arith)
-shorter [] (b ∷ t) h = refl
-shorter (a ∷ s) [] h = refl
-shorter (a ∷ s) (b ∷ t) h = rw (shorter s t (omega arith)) (go (eqb a b))
-  where
-    go : (c : Bool) → pick c false false ≡ false
-    go true = refl
-    go false = refl
 
 pub too-short : (x : List ℕ) (at : ℕ) (s : List ℕ) → length x - at < length s → Differs ≡ stretch x at s
 too-short x at s h = differs x at s (shorter (take (length s) (drop at x)) s (omega (arith, length-take (length s) (drop at x), length-drop at x)))
@@ -208,11 +143,3 @@ module _ (x k : List ℕ) where
   pub whole-other : stretch x 0 k ≡ Differs → same x k ≡ false
   unfolding stretch
   whole-other e = parts ∙ rw (fails (same (take (length k) x) k) e)
-
--- a stored key of another length is another
-pub other-length : (x k : List ℕ) → (length x ≡ length k → ⊥) → same x k ≡ false
-other-length x k h = go (same x k) refl
-  where
-    go : (t : Bool) → same x k ≡ t → same x k ≡ false
-    go true e = absurd (h (ap length (same-means x k e)))
-    go false e = e

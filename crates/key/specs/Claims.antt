@@ -7,7 +7,6 @@ use lib.ListN.{length}
 use Rattle.key.specs.Order.{Text, Pick}
 use Rattle.key.specs.Picks.{Sorts, distinct, handed}
 use Rattle.key.specs.Layout.{fit, keyOf, maxIdentity, longestKey}
-use Rattle.key.specs.Match.{same}
 
 -- `distinct` sorts every list of picks (Sort: sorts)
 abbrev pub DistinctSorts : Type 0
@@ -16,10 +15,6 @@ DistinctSorts = (ps : List Pick) → Sorts ps (distinct ps)
 -- no other list does, so any way of sorting gives the same key (Sort: only-one)
 abbrev pub OnlyOneSorts : Type 0
 OnlyOneSorts = (ps s : List Pick) → Sorts ps s → s ≡ distinct ps
-
--- `same` means equal (Stretch: same-is-equal)
-abbrev pub SameIsEqual : Type 0
-SameIsEqual = (s t : List ℕ) → (same s t ≡ true → s ≡ t) × (s ≡ t → same s t ≡ true)
 
 -- no key that is not refused is longer than 67,795 bytes (Longest: longest)
 abbrev pub NoKeyIsLonger : Type 0

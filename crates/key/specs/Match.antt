@@ -1,23 +1,16 @@
 -- The call `same_key`: a stored key against the key of an identity and picks.
-use mathlib.Core.Bool.{Bool, true, false}
-use mathlib.Core.List.{List, [], _∷_}
+use mathlib.Core.List.{List}
 use Prim.Native.Nat.{ℕ}
 use lib.ListN.{length}
-use lib.Dec.{leb, eqb}
+use lib.Dec.{leb}
 use Rattle.base.specs.Number.{pick}
+use Rattle.base.specs.Same.{same}
 use Rattle.refusal.specs.declared.Refusal.the-variants.{Argument, Identity}
 use Rattle.key.specs.Order.{Text}
 use Rattle.key.specs.Picks.{handed}
 use Rattle.key.specs.Layout.{fit, keyOf, maxIdentity}
 use Rattle.key.specs.declared.SameKey.{SameKey}
 use Rattle.key.specs.declared.SameKey.the-variants.{Same, Other, Refused}
-
--- "its length and its bytes" are the same
-unfoldable pub same : List ℕ → List ℕ → Bool
-same [] [] = true
-same [] (b ∷ t) = false
-same (a ∷ s) [] = false
-same (a ∷ s) (b ∷ t) = pick (eqb a b) (same s t) false
 
 -- the answer: 2, then 8, else whether the stored key is the key
 unfoldable pub matchAnswer : List ℕ → Text → Text → List ℕ → SameKey

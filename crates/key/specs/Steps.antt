@@ -7,7 +7,7 @@ use Rattle.base.specs.Number.{pick}
 use Rattle.key.specs.Order.{Text, Pick}
 use Rattle.key.specs.Picks.{sum, pickOf, insert}
 use Rattle.key.specs.Layout.{entry}
-use Rattle.key.specs.Match.{same}
+use Rattle.base.specs.Same.{same}
 use Rattle.key.specs.declared.Place.{Place}
 use Rattle.key.specs.declared.Place.the-variants.{At, There}
 use Rattle.key.specs.declared.Matched.{Matched}

@@ -8,8 +8,10 @@ ghost use Rattle.leaf.specs.Bytes.{written};
 ghost use Rattle.key.specs.Order.{textOrder, pickOrder};
 ghost use Rattle.key.specs.Picks.{handed, firsts, insert, distinct};
 ghost use Rattle.key.specs.Layout.{field as fieldOf, entry, joined, keyOf, prefix, maxIdentity, fit, sized, every, within, keyAnswer, after};
-ghost use Rattle.key.specs.Match.{same, matchAnswer};
+ghost use Rattle.key.specs.Match.{matchAnswer};
+ghost use Rattle.base.specs.Same.{same};
 ghost use Rattle.key.specs.Steps.{number, Places, Rising, between, pickIn, Goes, Ordered, Below, Small, stretch};
+use base::slice::same_bytes;
 use refusal::Refusal;
 
 pub enum KeyAnswer {
@@ -354,20 +356,6 @@ fn write_key(identity: &[u8], texts: &[u8], starts: &[usize], n: usize, out: &mu
     out[at] = (m % 256) as u8;
     put_picks(out, at + 1, texts, starts, n, sorted);
     KeyAnswer::Written(total)
-}
-
-// Whether two slices of one length have the same bytes. No way out of the loop, so that many are compared at once.
-fn same_bytes(a: &[u8], b: &[u8]) -> bool
-    requires { ⌜ length (now a) ≡ length (now b) ⌝ }
-    ensures { λ r. ⌜ r ≡ same (now (a .entry)) (now (b .entry)) ⌝ }
-{
-    let mut differ = false;
-    let mut i: usize = 0;
-    while i < a.len() {
-        differ = differ | (a[i] != b[i]);
-        i += 1;
-    }
-    !differ
 }
 
 fn match_byte(stored: &[u8], at: usize, b: u8) -> Matched

@@ -1,15 +1,14 @@
 -- The laws of CRC-32 that callers cite. Assumes nothing.
 use mathlib.Core.Path.{_≡_, refl, sym, ap, ap₂, _∙_}
 use mathlib.Core.Bool.{Bool, true, false, not}
-use mathlib.Core.List.{List, [], _∷_, _++_, map}
-use Prim.Native.Nat.{ℕ, zero, suc, _+_, _-_, _%_, _^_, _<_, _≤_}
-use native.Mathlib.Nat.{mod-lt, mod-eq-of-lt}
+use mathlib.Core.List.{List, [], _∷_, _++_}
+use Prim.Native.Nat.{ℕ, zero, suc, _+_, _-_, _%_, _^_, _<_}
+use native.Mathlib.Nat.{mod-eq-of-lt}
 use native.Mathlib.Omega.{arith}
-use lib.Pow.{pow-pos}
 use lib.ListN.{length, replicate}
 use Rattle.checksum.specs.Register.{run}
 use Rattle.checksum.proofs.Steps.{run-append, run-lt}
-use Rattle.leaf.specs.Polynomial.{zeros, plus, add, remainder, quotient, Division}
+use Rattle.leaf.specs.Polynomial.{plus, add, remainder, quotient, Division}
 use Rattle.leaf.specs.Crc.{bits, frame, shifted, complementFirst, complementedRemainder, fcs, crc32}
 use Rattle.leaf.proofs.Remainder.{division, add-nil, length-add}
 use Rattle.leaf.proofs.Shift.{crc32-run, shifted-length}

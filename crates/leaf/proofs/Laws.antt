@@ -16,10 +16,12 @@ use mir.Syntax.{w64}
 use mir.Val.{SFits, toZ}
 use mir.ValLaws.{toZ-ofZ, toZ-fits, ofZ-fits}
 use Rattle.base.specs.Number.{unsigned, wrappingSub32}
-use Rattle.leaf.specs.Bytes.{byte, word, time, le32, le64, written}
+use Rattle.leaf.specs.Bytes.{word, time, le32, le64, written}
+use Rattle.base.specs.Lists.{byte}
 use Rattle.leaf.specs.Generation.{newer, next}
 use Rattle.leaf.specs.Date.{leap, monthDays, isDate, dateNumber, validDate, SomeDate}
-use Rattle.leaf.proofs.Numbers.{both-left, both-right, signed-is, bits-is, positive}
+use Rattle.leaf.proofs.Numbers.{signed-is, bits-is, positive}
+use Rattle.base.proofs.Bools.{and-left, and-right}
 
 -- bytes at a place
 
@@ -206,8 +208,8 @@ newer-irrefl g =
 pub newer-asym : (a b : ℕ) → a < 2 ^ 32 → b < 2 ^ 32 → newer a b ≡ true → newer b a ≡ false
 newer-asym a b ha hb e =
     let t : (ltb 0 (wrappingSub32 a b) && ltb (wrappingSub32 a b) 2147483648) ≡ true = sym (newer-is a b) ∙ e in
-    let u : 0 < wrappingSub32 a b = ltb-true 0 (wrappingSub32 a b) (both-left (ltb 0 (wrappingSub32 a b)) (ltb (wrappingSub32 a b) 2147483648) t) in
-    let v : wrappingSub32 a b < 2147483648 = ltb-true (wrappingSub32 a b) 2147483648 (both-right (ltb 0 (wrappingSub32 a b)) (ltb (wrappingSub32 a b) 2147483648) t) in
+    let u : 0 < wrappingSub32 a b = ltb-true 0 (wrappingSub32 a b) (and-left (ltb 0 (wrappingSub32 a b)) (ltb (wrappingSub32 a b) 2147483648) t) in
+    let v : wrappingSub32 a b < 2147483648 = ltb-true (wrappingSub32 a b) 2147483648 (and-right (ltb 0 (wrappingSub32 a b)) (ltb (wrappingSub32 a b) 2147483648) t) in
     let far : 2147483648 ≤ wrappingSub32 b a = omega arith in
     newer-is b a ∙ rw (le-ltb (wrappingSub32 b a) 2147483648 far) (and-false (ltb 0 (wrappingSub32 b a)))
 
@@ -222,8 +224,8 @@ at-most : (b : ℕ) (l : List ℕ) (k : ℕ) → atMost b l ≡ true → getD l 
 unfolding atMost
 at-most b [] zero e = zero-le
 at-most b [] (suc k) e = zero-le
-at-most b (x ∷ l) zero e = leb-true x b (both-left (leb x b) (atMost b l) e)
-at-most b (x ∷ l) (suc k) e = at-most b l k (both-right (leb x b) (atMost b l) e)
+at-most b (x ∷ l) zero e = leb-true x b (and-left (leb x b) (atMost b l) e)
+at-most b (x ∷ l) (suc k) e = at-most b l k (and-right (leb x b) (atMost b l) e)
 
 days-by : (y : ℕ) (t : Bool) → leap y ≡ t → atMost 31 (monthDays y) ≡ true
 unfolding monthDays atMost
@@ -240,16 +242,16 @@ pub ranges : (y m d : ℕ) → isDate y m d ≡ true → Ranges y m d
 unfolding isDate
 ranges y m d e =
     let n = getD (monthDays y) (m - 1) 0 in
-    let ys = both-left (leb 1 y && leb y 9999) ((leb 1 m && leb m 12) && (leb 1 d && leb d n)) e in
-    let r = both-right (leb 1 y && leb y 9999) ((leb 1 m && leb m 12) && (leb 1 d && leb d n)) e in
-    let ms = both-left (leb 1 m && leb m 12) (leb 1 d && leb d n) r in
-    let ds = both-right (leb 1 m && leb m 12) (leb 1 d && leb d n) r in
-    let le : d ≤ n = leb-true d n (both-right (leb 1 d) (leb d n) ds) in
+    let ys = and-left (leb 1 y && leb y 9999) ((leb 1 m && leb m 12) && (leb 1 d && leb d n)) e in
+    let r = and-right (leb 1 y && leb y 9999) ((leb 1 m && leb m 12) && (leb 1 d && leb d n)) e in
+    let ms = and-left (leb 1 m && leb m 12) (leb 1 d && leb d n) r in
+    let ds = and-right (leb 1 m && leb m 12) (leb 1 d && leb d n) r in
+    let le : d ≤ n = leb-true d n (and-right (leb 1 d) (leb d n) ds) in
     let top : n ≤ 31 = at-most 31 (monthDays y) (m - 1) (days-by y (leap y) refl) in
     record {
-      year = (leb-true 1 y (both-left (leb 1 y) (leb y 9999) ys), leb-true y 9999 (both-right (leb 1 y) (leb y 9999) ys));
-      month = (leb-true 1 m (both-left (leb 1 m) (leb m 12) ms), leb-true m 12 (both-right (leb 1 m) (leb m 12) ms));
-      day = (leb-true 1 d (both-left (leb 1 d) (leb d n) ds), omega arith);
+      year = (leb-true 1 y (and-left (leb 1 y) (leb y 9999) ys), leb-true y 9999 (and-right (leb 1 y) (leb y 9999) ys));
+      month = (leb-true 1 m (and-left (leb 1 m) (leb m 12) ms), leb-true m 12 (and-right (leb 1 m) (leb m 12) ms));
+      day = (leb-true 1 d (and-left (leb 1 d) (leb d n) ds), omega arith);
     }
 
 -- a number is valid exactly when it is some date's

@@ -1,5 +1,5 @@
 -- Two's complement as the code computes it, and the code's tests as those of the definitions.
-use mathlib.Core.Path.{_≡_, refl, ap, _∙_, sym}
+use mathlib.Core.Path.{_≡_, refl, ap, _∙_}
 use mathlib.Core.Bool.{Bool, true, false, true≢false, _&&_, and-true, and-false}
 use Prim.Native.Nat.{ℕ, suc, zero, _+_, _-_, _%_, _<_, _≤_, _^_}
 use native.Mathlib.Omega.{arith}
@@ -12,14 +12,6 @@ use mir.Syntax.{w64}
 use mir.Val.{SFits, Fits, ofZ, toZ, sel}
 use mir.ValLaws.{toZ-ofZ, toZ-pos, ofZ-toZ}
 use Rattle.base.specs.Number.{pick, signed, unsigned, wrappingSub32}
-
-pub both-left : (a b : Bool) → (a && b) ≡ true → a ≡ true
-both-left true b e = refl
-both-left false b e = e
-
-pub both-right : (a b : Bool) → (a && b) ≡ true → b ≡ true
-both-right true b e = e
-both-right false b e = absurd (true≢false (sym e))
 
 pick-sel : (t : Bool) (a b : ℤ) → sel t a b ≡ pick t a b
 pick-sel true a b = refl

@@ -9,7 +9,7 @@ use lib.Arith.{digits-div, digits-mod, mod-mul}
 use lib.Pow.{pow-pos}
 use lib.Bits.{bitXor, xor-comm, xor-zero-r, xor-block}
 use lib.Dec.{eqb}
-use lib.ListN.{length, replicate, length-append, length-map}
+use lib.ListN.{length, length-append, length-map}
 use Rattle.checksum.specs.Register.{step, steps, run, little}
 use Rattle.checksum.proofs.Xor.{digit-ind}
 use Rattle.checksum.proofs.Steps.{run-steps}

@@ -11,12 +11,13 @@ use lib.IntN.{ℤ}
 use lib.ListN.{length, drop, getD, set, List·getD-eq-default}
 use lib.Seq.{getD-set-other}
 use Rattle.base.specs.Number.{unsigned, signed}
-use Rattle.leaf.specs.Bytes.{byte, word, time, le32, le64, written}
+use Rattle.leaf.specs.Bytes.{word, time, le32, le64, written}
+use Rattle.base.specs.Lists.{byte}
 use Rattle.leaf.specs.Date.{leap, monthDays, isDate, newDate, dateNumber}
 use Rattle.leaf.specs.declared.date.Date.{Date}
 use Rattle.leaf.specs.declared.date.NewDate.the-variants.{Made, InvalidDate}
 use Rattle.leaf.proofs.Laws.{written-sets, written-next, word-drop, length-le32}
-use Rattle.leaf.proofs.Numbers.{both-left, both-right}
+use Rattle.base.proofs.Bools.{and-left, and-right}
 
 -- get
 pub word-of : (l : List ℕ) (at a b c d : ℕ) → a ≡ byte (drop at l) 0 → b ≡ byte (drop at l) 1 → c ≡ byte (drop at l) 2 → d ≡ byte (drop at l) 3
@@ -63,7 +64,7 @@ no-month y m h = sym (List·getD-eq-default (0 ∷ monthDays y) 0 h)
 
 pub leap-day : (y m : ℕ) (r : Bool) → r ≡ leap y → (eqb m 2 && r) ≡ true → 29 ≡ getD (0 ∷ monthDays y) m 0
 unfolding monthDays
-leap-day y m r e t = rw (eqb-true m 2 (both-left (eqb m 2) r t), ← e, both-right (eqb m 2) r t)
+leap-day y m r e t = rw (eqb-true m 2 (and-left (eqb m 2) r t), ← e, and-right (eqb m 2) r t)
 
 abbrev pub common : List ℕ
 common = 0 ∷ 31 ∷ 28 ∷ 31 ∷ 30 ∷ 31 ∷ 30 ∷ 31 ∷ 31 ∷ 30 ∷ 31 ∷ 30 ∷ 31 ∷ []
@@ -97,7 +98,7 @@ outside y (suc k) e =
 test-by : (a : Bool) (y m d : ℕ) (t : Bool) → (leb 1 m && leb m 12) ≡ t
     → ((a && leb 1 d) && leb d (getD (0 ∷ monthDays y) m 0)) ≡ (a && ((leb 1 m && leb m 12) && (leb 1 d && leb d (getD (monthDays y) (m - 1) 0))))
 test-by a y m d true e =
-    let h : 1 ≤ m = leb-true 1 m (both-left (leb 1 m) (leb m 12) e) in
+    let h : 1 ≤ m = leb-true 1 m (and-left (leb 1 m) (leb m 12) e) in
     rw (e, counted (monthDays y) m h) (and-assoc a (leb 1 d) (leb d (getD (monthDays y) (m - 1) 0)))
 test-by a y m d false e = rw e (no-day a d (getD (0 ∷ monthDays y) m 0) (outside y m e) ∙ sym (and-false a))
 

@@ -3,11 +3,9 @@ use mathlib.Core.List.{List, [], _∷_, _++_}
 use Prim.Native.Nat.{ℕ, _+_, _*_, _/_, _%_, _^_}
 use lib.Dec.{leb}
 use lib.IntN.{ℤ}
-use lib.ListN.{length, take, drop, getD}
+use lib.ListN.{length, take, drop}
 use Rattle.base.specs.Number.{pick, signed, unsigned}
-
-abbrev pub byte : List ℕ → ℕ → ℕ
-byte l at = getD l at 0
+use Rattle.base.specs.Lists.{byte}
 
 -- the 32-bit number at a place
 unfoldable pub word : List ℕ → ℕ → ℕ

@@ -1,9 +1,10 @@
 // Numbers in a slice of bytes, little-endian.
 ghost use mathlib.Core.Path.{_≡_};
 ghost use mathlib.Core.Bool.{true};
-ghost use Prim.Native.Nat.{_+_, _<_, _≤_, _^_};
+ghost use Prim.Native.Nat.{_+_, _<_, _≤_};
 ghost use lib.Dec.{leb};
 ghost use lib.ListN.{drop};
+ghost use Rattle.base.specs.Lists.{byte};
 ghost use Rattle.leaf.specs.Bytes as Bytes;
 ghost use Rattle.base.specs.Number as Number;
 use base::number::wide;
@@ -11,7 +12,7 @@ use base::number::wider;
 
 // The byte at a place, 0 past the end.
 pub fn get8(b: &[u8], i: usize) -> u8
-    ensures { λ r. ⌜ r ≡ Bytes.byte (now (b .entry)) i ⌝ }
+    ensures { λ r. ⌜ r ≡ byte (now (b .entry)) i ⌝ }
 {
     if i < b.len() { b[i] } else { 0 }
 }

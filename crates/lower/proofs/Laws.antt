@@ -11,7 +11,7 @@ use borrow.Author.Tests.{lt-ltb, le-ltb, le-leb, lt-leb}
 use Rattle.refusal.specs.declared.Refusal.the-variants.{Argument, Full, Turn}
 use Rattle.record.specs.declared.Source.{Source}
 use Rattle.writer.specs.declared.Writer.{Writer}
-use Rattle.header.proofs.Laws.{and-left}
+use Rattle.base.proofs.Bools.{and-left}
 use Rattle.writer.specs.State.{did, stays, position, isOpen, begunIn, isDue, inRange}
 use Rattle.writer.proofs.Laws.{ranged, fill-fits, position-fits}
 use Rattle.lower.specs.Lower.{mayTake, mayBegin, withSource, sourceStep, withTable, tableStep, withEnd, endStep, withClosed, closeStep, room, withBytes, took, bytesStep}

@@ -13,8 +13,8 @@ use Rattle.refusal.specs.declared.Refusal.the-variants.{Argument, Full, Turn}
 use Rattle.record.specs.declared.Block.{Block}
 use Rattle.record.specs.declared.Source.{Source}
 use Rattle.record.specs.Record.{noBlock, noSource}
-use Rattle.record.specs.Runs.{fill}
-use Rattle.header.specs.Region.{capacity}
+use Rattle.base.specs.Lists.{fill}
+use Rattle.region.specs.Region.{capacity}
 use Rattle.bank.specs.declared.Loaded.{Loaded}
 use Rattle.bank.specs.declared.Loaded.the-variants.{Found, Nothing, Refused as NotRead}
 use Rattle.bank.specs.Bank.{loaded}

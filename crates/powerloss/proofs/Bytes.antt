@@ -4,7 +4,7 @@ use Prim.Native.Nat.{ℕ, zero, suc, _<_}
 use native.Mathlib.Omega.{arith}
 use lib.ListN.{take, drop, set}
 use lib.Seq.{sets}
-use Rattle.record.specs.Runs.{fill}
+use Rattle.base.specs.Lists.{fill}
 use Rattle.header.specs.Types.{Bytes}
 
 pub bytes-nil : Bytes []

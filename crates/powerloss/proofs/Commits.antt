@@ -16,22 +16,22 @@ use lib.Signed.{leZ}
 use mir.Syntax.{w64}
 use mir.Val.{SFits}
 use Rattle.base.specs.Number.{pick}
-use Rattle.leaf.specs.Bytes.{byte}
 use Rattle.leaf.specs.Crc.{crc32}
 use Rattle.leaf.specs.Generation.{next}
 use Rattle.leaf.proofs.Checksum.{crc32-lt}
 use Rattle.refusal.specs.declared.Refusal.the-variants.{Turn, Obsolete, Unfit}
 use Rattle.record.specs.declared.Source.{Source}
 use Rattle.record.specs.Record.{noBlock}
-use Rattle.record.specs.Runs.{fill, each}
+use Rattle.base.specs.Lists.{fill, each, byte}
 use Rattle.record.specs.Types.{All}
 use Rattle.header.specs.declared.Bank.{Bank}
 use Rattle.header.specs.declared.Validated.{Validated}
 use Rattle.header.specs.declared.Validated.the-variants.{Good, Refused as Bad}
-use Rattle.header.specs.Region.{regionSize, bankOf, dataOf}
+use Rattle.region.specs.Region.{regionSize, bankOf, dataOf}
 use Rattle.header.specs.Header as Header
-use Rattle.header.specs.Header.{headerOf, marked, spanOk, sourceOk, lengthOk, keyOk, countOk}
-use Rattle.header.proofs.Laws.{and-left, and-right, span-length, span-key}
+use Rattle.header.specs.Header.{headerOf, spanOk, sourceOk, lengthOk, keyOk, countOk}
+use Rattle.header.proofs.Laws.{span-length, span-key}
+use Rattle.base.proofs.Bools.{and-left, and-right}
 use Rattle.header.specs.WriteHeader.{headerBytes, blankWord, commitBytes, isFit}
 use Rattle.header.specs.Types.{Proper, Numbers}
 use Rattle.header.proofs.Writing.{judge-is}

@@ -19,13 +19,13 @@ use Rattle.leaf.proofs.Checksum.{crc32-append}
 use Rattle.refusal.specs.declared.Refusal.the-variants.{Mark}
 use Rattle.record.specs.declared.Source.{Source}
 use Rattle.record.specs.Record.{noBlock, noSource}
-use Rattle.record.specs.Runs.{fill, each}
+use Rattle.base.specs.Lists.{fill, each}
 use Rattle.record.specs.Types.{All, U32, Block32}
-use Rattle.record.proofs.Series.{drop-fill, length-fill}
+use Rattle.base.proofs.Lists.{drop-fill, length-fill}
 use Rattle.header.specs.declared.Validated.{Validated}
 use Rattle.header.specs.Header.{marked, spanOk, sourceOk, judge}
-use Rattle.header.specs.Region.{regionSize, bankSize}
-use Rattle.header.specs.Region as Region
+use Rattle.region.specs.Region.{regionSize, bankSize}
+use Rattle.region.specs.Region as Region
 use Rattle.header.specs.WriteHeader.{isFit, headerBytes, blankWord, commitBytes}
 use Rattle.header.specs.Types.{Bytes, Proper}
 use Rattle.bank.specs.declared.Loaded.{Loaded}

@@ -11,8 +11,8 @@ use lib.ListN.{length, take}
 use Rattle.base.specs.Number.{pick}
 use Rattle.refusal.specs.declared.Refusal.the-variants.{Region, Argument, Full, Turn, Obsolete, Unfit}
 use Rattle.record.specs.declared.Source.{Source}
-use Rattle.header.specs.Region.{regionSize, capacity}
-use Rattle.header.proofs.Laws.{and-left, and-right}
+use Rattle.region.specs.Region.{regionSize, capacity}
+use Rattle.base.proofs.Bools.{and-left, and-right}
 use Rattle.header.specs.WriteHeader.{headerBytes, blankWord, commitBytes, isFit}
 use Rattle.flash.specs.Flash.{Op, write}
 use Rattle.writer.specs.declared.Operation.the-variants.{Erase, Write, Compare}

@@ -11,7 +11,7 @@ use lib.Dec.{leb}
 use lib.IntN.{ℤ}
 use lib.ListN.{length, take}
 use Rattle.base.specs.Number.{pick}
-use Rattle.header.specs.Region.{regionSize, bankOf}
+use Rattle.region.specs.Region.{regionSize, bankOf}
 use Rattle.bank.specs.Bank.{loaded}
 use Rattle.flash.specs.Flash.{Op, size, torn, applied, performed}
 use Rattle.flash.proofs.Laws.{done-zero, torn-none, torn-whole, length-applied}

@@ -10,10 +10,10 @@ use borrow.Author.Tests.{eq-eqb, ne-eqb}
 use lib.Dec.{eqb}
 use lib.ListN.{length, take}
 use Rattle.record.specs.declared.Source.{Source}
-use Rattle.header.specs.Region.{regionSize, bankSize, sectorSize, bankOf}
+use Rattle.region.specs.Region.{regionSize, bankSize, sectorSize, bankOf}
 use Rattle.header.specs.Header.{marked}
 use Rattle.header.proofs.WriteLaws.{no-magic}
-use Rattle.leaf.specs.Bytes.{byte}
+use Rattle.base.specs.Lists.{byte}
 use Rattle.bank.specs.declared.Loaded.{Loaded}
 use Rattle.flash.specs.Flash.{Op, erase, write, size, done, torn, applied, performed}
 use Rattle.flash.proofs.Laws.{length-bank, bank-applied, torn-none, cut-first}

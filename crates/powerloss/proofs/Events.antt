@@ -11,7 +11,7 @@ use mir.Syntax.{w64}
 use mir.Val.{SFits}
 use Rattle.refusal.specs.declared.Refusal.{Refusal}
 use Rattle.record.specs.declared.Source.{Source}
-use Rattle.header.specs.Region.{regionSize}
+use Rattle.region.specs.Region.{regionSize}
 use Rattle.header.specs.Types.{Bytes}
 use Rattle.bank.specs.declared.Loaded.{Loaded}
 use Rattle.bank.specs.Bank.{loaded}

@@ -9,8 +9,8 @@ use borrow.Author.Tests.{eq-eqb, eqb-true, lt-ltb, ltb-true}
 use lib.Dec.{ltb, eqb}
 use lib.ListN.{length}
 use Rattle.base.specs.Number.{pick}
-use Rattle.header.specs.Region.{regionSize}
-use Rattle.header.proofs.Laws.{and-left, and-right}
+use Rattle.region.specs.Region.{regionSize}
+use Rattle.base.proofs.Bools.{and-left, and-right}
 use Rattle.writer.specs.declared.Operation.the-variants.{Erase, Write, Compare}
 use Rattle.writer.specs.declared.Stage.{Stage}
 use Rattle.writer.specs.declared.Stage.the-variants.{Idle, Due, Headed, Committed}

@@ -11,7 +11,7 @@ use lib.ListN.{length, take}
 use Rattle.base.specs.Number.{pick}
 use Rattle.refusal.specs.declared.Refusal.the-variants.{Full, Turn}
 use Rattle.record.specs.declared.Source.{Source}
-use Rattle.header.specs.Region.{capacity}
+use Rattle.region.specs.Region.{capacity}
 use Rattle.header.specs.Types.{Bytes}
 use Rattle.bank.specs.declared.Loaded.{Loaded}
 use Rattle.flash.specs.Flash.{performed}

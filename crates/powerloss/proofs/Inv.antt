@@ -12,11 +12,11 @@ use mir.Syntax.{w64}
 use mir.Val.{SFits}
 use Rattle.leaf.specs.Crc.{crc32}
 use Rattle.record.specs.declared.Source.{Source}
-use Rattle.record.specs.Runs.{fill}
+use Rattle.base.specs.Lists.{fill}
 use Rattle.record.specs.Types.{All}
 use Rattle.refusal.specs.declared.Refusal.the-variants.{Mark}
 use Rattle.header.specs.declared.Validated.{Validated}
-use Rattle.header.specs.Region.{regionSize, sectorSize, bankOf}
+use Rattle.region.specs.Region.{regionSize, sectorSize, bankOf}
 use Rattle.header.specs.Header.{marked}
 use Rattle.header.specs.WriteHeader.{headerBytes, blankWord, isFit}
 use Rattle.header.specs.Types.{Bytes, Proper, Numbers}

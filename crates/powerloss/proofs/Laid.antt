@@ -6,13 +6,12 @@ use Prim.Native.Nat.{ℕ, zero, suc, _+_, _-_, _%_, _≤_, _<_, zero-le}
 use native.Mathlib.Omega.{arith}
 use lib.ListN.{length, take, drop, length-append, take-append-drop}
 use lib.Seq.{length-take-le, drop-at, take-at}
-use Rattle.leaf.specs.Bytes.{byte}
 use Rattle.record.specs.declared.Source.{Source}
-use Rattle.record.specs.Runs.{fill}
+use Rattle.base.specs.Lists.{fill, byte}
 use Rattle.record.specs.Types.{All}
-use Rattle.record.proofs.Series.{length-fill, fill-split}
+use Rattle.base.proofs.Lists.{length-fill, fill-split}
 use Rattle.header.specs.declared.Bank.{Bank}
-use Rattle.header.specs.Region.{bankSize, sectorSize, dataOf}
+use Rattle.region.specs.Region.{bankSize, sectorSize, dataOf}
 use Rattle.header.specs.Header.{marked}
 use Rattle.header.specs.WriteHeader.{headerBytes, blankWord, commitBytes, recordBytes}
 use Rattle.header.specs.Types.{Bytes, Proper}

@@ -18,7 +18,7 @@ use Rattle.refusal.specs.declared.Refusal.the-variants.{Mark, Data}
 use Rattle.header.specs.declared.Bank.{Bank}
 use Rattle.header.specs.declared.Validated.{Validated}
 use Rattle.header.specs.declared.Validated.the-variants.{Good, Refused}
-use Rattle.header.specs.Region.{regionSize, bankOf, dataOf}
+use Rattle.region.specs.Region.{regionSize, bankOf, dataOf}
 use Rattle.header.specs.Header.{headerOf, marked, numbersOf}
 use Rattle.header.proofs.Laws.{passed, no-refusal, not-marked}
 use Rattle.bank.specs.declared.Loaded.{Loaded}

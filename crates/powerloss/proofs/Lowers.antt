@@ -1,5 +1,5 @@
 -- Every lower call, answered or cut, and a beginning, carry the invariant on.
-use mathlib.Core.Path.{_≡_, refl, sym, ap}
+use mathlib.Core.Path.{_≡_, refl, sym}
 use mathlib.Core.Bool.{Bool, true, false, false≢true}
 use mathlib.Core.Logic.{inl}
 use mathlib.Core.Option.{Option, none, some}
@@ -18,13 +18,12 @@ use Rattle.refusal.specs.declared.Refusal.the-variants.{Turn}
 use Rattle.record.specs.declared.Source.{Source}
 use Rattle.record.specs.Record.{noSource}
 use Rattle.record.specs.Types.{All}
-use Rattle.record.proofs.Series.{length-fill}
-use Rattle.header.specs.Region.{regionSize}
+use Rattle.base.proofs.Lists.{length-fill}
+use Rattle.region.specs.Region.{regionSize}
 use Rattle.header.specs.WriteHeader.{commitBytes}
 use Rattle.header.specs.Types.{Bytes, Proper}
 use Rattle.header.proofs.WriteLaws.{length-commit-bytes}
 use Rattle.bank.specs.declared.Loaded.{Loaded}
-use Rattle.bank.specs.declared.Loaded.the-variants.{Found, Nothing, Refused as NotRead}
 use Rattle.bank.specs.Bank.{loaded}
 use Rattle.flash.specs.Flash.{Op, write, torn, applied, performed}
 use Rattle.flash.proofs.Laws.{torn-whole}

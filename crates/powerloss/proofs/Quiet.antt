@@ -17,11 +17,11 @@ use Rattle.refusal.specs.declared.Refusal.the-variants.{Region, Argument, Full,
 use Rattle.record.specs.declared.Block.{Block}
 use Rattle.record.specs.declared.Source.{Source}
 use Rattle.record.specs.Record.{noBlock}
-use Rattle.record.specs.Runs.{fill}
+use Rattle.base.specs.Lists.{fill}
 use Rattle.record.specs.Types.{All, Block32}
-use Rattle.record.proofs.Series.{length-fill}
-use Rattle.header.specs.Region.{regionSize}
-use Rattle.header.proofs.Laws.{and-left, and-right}
+use Rattle.base.proofs.Lists.{length-fill}
+use Rattle.region.specs.Region.{regionSize}
+use Rattle.base.proofs.Bools.{and-left, and-right}
 use Rattle.header.specs.Types.{Proper}
 use Rattle.bank.specs.declared.Loaded.{Loaded}
 use Rattle.writer.specs.declared.Operation.the-variants.{Erase, Write, Compare}

@@ -7,7 +7,7 @@ use native.Mathlib.Omega.{arith}
 use borrow.Author.Tests.{eq-eqb, ne-eqb, eqb-true, eqb-false, le-leb, leb-true, ltb-true, ltb-false, lt-ltb, not-true}
 use lib.Dec.{leb, ltb, eqb}
 use Rattle.base.specs.Number.{pick}
-use Rattle.header.proofs.Laws.{and-left, and-right}
+use Rattle.base.proofs.Bools.{and-left, and-right}
 use Rattle.writer.specs.declared.Operation.{Operation}
 use Rattle.writer.specs.declared.Operation.the-variants.{Erase, Write, Compare}
 use Rattle.writer.specs.declared.Stage.{Stage}

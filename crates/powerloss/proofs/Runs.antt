@@ -1,5 +1,5 @@
 -- Runs of lower calls, none the commit word, carry the invariant on, whole or cut after any byte of any operation.
-use mathlib.Core.Path.{_≡_, refl, sym, ap, _∙_, subst}
+use mathlib.Core.Path.{_≡_, refl, sym, _∙_, subst}
 use mathlib.Core.List.{List, [], _∷_, _++_}
 use Prim.Native.Nat.{ℕ, zero, suc}
 use Rattle.record.specs.declared.Source.{Source}

@@ -4,7 +4,6 @@ use mathlib.Core.Bool.{Bool, true, false, false≢true}
 use mathlib.Core.Option.{Option, none, some}
 use mathlib.Core.List.{List, [], _∷_, _++_, append-assoc}
 use Prim.Native.Nat.{ℕ, suc}
-use lib.ListN.{length}
 use Rattle.refusal.specs.declared.Refusal.{Refusal}
 use Rattle.record.specs.declared.Source.{Source}
 use Rattle.header.specs.Types.{Bytes}
@@ -16,13 +15,12 @@ use Rattle.run.specs.Run.{Lower, bytes, ranWriter, ranRegion}
 use Rattle.run.specs.Feed.{dues, feed}
 use Rattle.upper.specs.Upper.{Upper, taken, lowerOf, runOf, refusalOf, runIf, upperRun, answered, upperStep}
 use Rattle.powerloss.specs.History.{Update, isDone}
-use Rattle.powerloss.specs.Machine.{Image, Run, nextAll, found}
+use Rattle.powerloss.specs.Machine.{Image, nextAll, found}
 use Rattle.powerloss.specs.Claim.{UpperTyped, Reached, Settled}
 use Rattle.powerloss.proofs.Bytes.{bytes-nil, bytes-cons}
 use Rattle.powerloss.proofs.Inv.{Kept, Open, State}
-use Rattle.powerloss.proofs.Lowers.{Inv}
 use Rattle.powerloss.proofs.Runs.{AllPlain, ran}
-use Rattle.powerloss.proofs.Feeds.{Now, three}
+use Rattle.powerloss.proofs.Feeds.{three}
 use Rattle.powerloss.proofs.Uppers.{plain-append, plain-dues, plain-lower, bytes-taken, inv-found, inv-all}
 
 abbrev isState : Option Writer → Bool

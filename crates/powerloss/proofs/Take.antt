@@ -13,8 +13,8 @@ use Rattle.base.specs.Number.{pick}
 use Rattle.leaf.specs.Crc.{crc32}
 use Rattle.leaf.proofs.Checksum.{crc32-append}
 use Rattle.refusal.specs.declared.Refusal.the-variants.{Full, Turn}
-use Rattle.header.specs.Region.{capacity}
-use Rattle.header.proofs.Laws.{and-left, and-right}
+use Rattle.region.specs.Region.{capacity}
+use Rattle.base.proofs.Bools.{and-left, and-right}
 use Rattle.header.specs.Types.{Bytes}
 use Rattle.bank.specs.declared.Loaded.{Loaded}
 use Rattle.writer.specs.declared.Stage.{Stage}

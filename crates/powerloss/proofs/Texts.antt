@@ -9,9 +9,9 @@ use lib.Dec.{ltb, eqb}
 use lib.ListN.{length, take, drop, getD}
 use Rattle.base.specs.Number.{pick}
 use Rattle.leaf.specs.Bytes.{le32}
-use Rattle.record.specs.Runs.{each}
+use Rattle.base.specs.Lists.{each}
 use Rattle.record.specs.Types.{All}
-use Rattle.header.proofs.Laws.{and-left, and-right}
+use Rattle.base.proofs.Bools.{and-left, and-right}
 use Rattle.header.specs.Types.{Bytes}
 use Rattle.header.proofs.WriteLaws.{bytes-append}
 use Rattle.key.specs.Order.{Text, Pick, pickOrder}

@@ -18,8 +18,8 @@ use Rattle.refusal.specs.declared.Refusal.the-variants.{Region, Argument, Ident
 use Rattle.key.specs.Layout as Key
 use Rattle.key.proofs.Longest.{longest}
 use Rattle.record.specs.declared.Source.{Source}
-use Rattle.header.specs.Region.{regionSize, capacity, bankOf}
-use Rattle.header.proofs.Laws.{and-left, and-right}
+use Rattle.region.specs.Region.{regionSize, capacity, bankOf}
+use Rattle.base.proofs.Bools.{and-left, and-right}
 use Rattle.header.specs.Types.{Bytes, Proper}
 use Rattle.bank.specs.declared.Loaded.{Loaded}
 use Rattle.bank.specs.declared.Loaded.the-variants.{Found, Nothing, Refused as NotRead}

@@ -16,7 +16,7 @@ use mir.Syntax.{w64}
 use mir.Val.{SFits}
 use Rattle.base.specs.Number.{pick}
 use Rattle.bank.specs.Bank.{loaded}
-use Rattle.header.specs.Region.{regionSize, dataOf}
+use Rattle.region.specs.Region.{regionSize, dataOf}
 use Rattle.header.specs.Types.{Bytes, Proper}
 use Rattle.flash.specs.Flash.{Op, size, torn, applied, performed}
 use Rattle.writer.specs.declared.Writer.{Writer}

@@ -7,20 +7,18 @@ use Prim.Native.Nat.{ℕ, zero, suc, _-_}
 use lib.IntN.{ℤ}
 use lib.ListN.{length, take, drop, set, getD}
 use Rattle.leaf.specs.Crc.{crc32}
-use Rattle.refusal.specs.declared.Refusal.{Refusal}
 use Rattle.record.specs.declared.Block.{Block}
 use Rattle.record.specs.declared.Source.{Source}
 use Rattle.header.specs.declared.Bank.{Bank}
 use Rattle.bank.specs.declared.Loaded.{Loaded}
-use Rattle.bank.specs.declared.Loaded.the-variants.{Found, Nothing, Refused as NotRead}
+use Rattle.bank.specs.declared.Loaded.the-variants.{Found}
 use Rattle.writer.specs.declared.Answer.{Answer}
 use Rattle.writer.specs.declared.Answer.the-variants.{Done, Took, NoneDue, Same, Different, Refused}
 use Rattle.writer.specs.State.{target, nextGeneration, keyLength}
 use Rattle.lower.specs.Lower.{emptied, pastEnd, withBlock}
-use Rattle.commit.specs.declared.Stamp.{Stamp}
 use Rattle.commit.specs.Commit.{checkedTime, routesOffset}
 use Rattle.run.specs.Run.{Lower, source, table, bytes, end, close, due, unchanged, commit, word}
-use Rattle.upper.specs.Upper.{Upper, sourceWithDates, tableWithNames, row, tableEnd, closing, taken, keyBytes}
+use Rattle.upper.specs.Upper.{Upper, sourceWithDates, tableWithNames, row, tableEnd, closing, taken}
 
 -- "Source, table and table end calls note their arguments and the count of bytes before any of their own."
 pub data Note : Type 0 where

@@ -10,9 +10,9 @@ use lib.ListN.{length, drop}
 use Rattle.leaf.specs.Crc.{crc32}
 use Rattle.record.specs.declared.Source.{Source}
 use Rattle.record.specs.Record.{noBlock}
-use Rattle.record.specs.Runs.{fill}
+use Rattle.base.specs.Lists.{fill}
 use Rattle.header.specs.declared.Bank.{Bank}
-use Rattle.header.specs.Region.{regionSize, bankOf, dataOf}
+use Rattle.region.specs.Region.{regionSize, bankOf, dataOf}
 use Rattle.header.specs.WriteHeader.{headerBytes, commitBytes}
 use Rattle.header.specs.Types.{Bytes}
 use Rattle.bank.specs.declared.Loaded.{Loaded}

@@ -8,8 +8,7 @@ use lib.IntN.{ℤ}
 use Rattle.bank.specs.declared.Loaded.{Loaded}
 use Rattle.bank.specs.declared.Loaded.the-variants.{Found, Nothing, Refused as NotRead}
 use Rattle.bank.specs.Bank.{loaded}
-use Rattle.header.specs.declared.Bank.{Bank}
-use Rattle.header.specs.Region as Region
+use Rattle.region.specs.Region as Region
 use Rattle.header.specs.Header as Header
 use Rattle.record.specs.declared.Source.{Source}
 use Rattle.base.specs.Number.{pick}
@@ -17,10 +16,9 @@ use Rattle.flash.specs.Flash.{Op, size, torn, applied}
 use Rattle.writer.specs.declared.Answer.{Answer}
 use Rattle.writer.specs.declared.Answer.the-variants.{Done, Took, NoneDue, Same, Different, Refused}
 use Rattle.writer.specs.declared.Writer.{Writer}
-use Rattle.writer.specs.declared.Step.{Step}
 use Rattle.writer.specs.State.{target}
 use Rattle.lower.specs.Lower.{begun, started}
-use Rattle.run.specs.Run.{Lower, word, lowerStep, lowerOps, lowerRegion}
+use Rattle.run.specs.Run.{Lower, lowerStep, lowerOps, lowerRegion}
 use Rattle.upper.specs.Upper.{Upper, upperStep, upperRegion, upperOps, beginStep, beginRegion, beginOps, keyBytes}
 use Rattle.powerloss.specs.History.{Update, History, afterLower, afterLowerCut, afterUpper, afterBegin, withOpen, isWord, isDone, anyDone}
 

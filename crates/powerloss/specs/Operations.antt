@@ -10,7 +10,7 @@ use lib.IntN.{ℤ}
 use lib.ListN.{length}
 use mir.Syntax.{w64}
 use mir.Val.{SFits}
-use Rattle.header.specs.Region.{regionSize}
+use Rattle.region.specs.Region.{regionSize}
 use Rattle.header.specs.Types.{Bytes}
 use Rattle.flash.specs.Flash.{Op}
 use Rattle.writer.specs.declared.Stage.the-variants.{Committed}

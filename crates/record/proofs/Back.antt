@@ -1,24 +1,22 @@
 -- A record that was written reads back.
 use mathlib.Core.Path.{_≡_, refl, ap, _∙_, sym}
 use mathlib.Core.List.{List, [], _∷_, _++_, append-assoc, append-nil}
-use Prim.Native.Nat.{ℕ, _+_, _*_, _<_, _≤_}
+use Prim.Native.Nat.{ℕ, _+_, _≤_}
 use native.Mathlib.Omega.{arith}
 use native.Mathlib.Nat.{add-assoc}
 use lib.ListN.{length, length-append, length-take, take, getD, List·getD-eq-default}
 use lib.Seq.{getD-at, take-at}
-use mir.Syntax.{w64}
-use mir.Val.{SFits}
-use Rattle.leaf.specs.Bytes.{byte, word, time, le32, le64}
-use Rattle.record.specs.Runs.{many, puts, fill}
+use Rattle.leaf.specs.Bytes.{word, time, le32, le64}
+use Rattle.base.specs.Lists.{many, puts, fill, byte}
 use Rattle.leaf.proofs.Laws.{Shifts, word-shifts, word-front, time-front, length-le32}
-use Rattle.record.proofs.Series.{length-puts}
+use Rattle.base.proofs.Lists.{length-puts}
 use Rattle.record.proofs.Reading.{run-back, bytes-back, words-back, past}
 use Rattle.record.specs.declared.Block.{Block}
 use Rattle.record.specs.declared.Source.{Source}
-use Rattle.record.specs.Record.{noBlock, blockAt, blockBytes, sourceOf, decoded, headBytes, tableBytes, tailBytes, sourceBytes}
+use Rattle.record.specs.Record.{blockAt, blockBytes, sourceOf, decoded, headBytes, tableBytes, tailBytes, sourceBytes}
 use Rattle.record.proofs.Laws.{length-block, length-head, length-source}
-use Rattle.record.specs.Types.{All, U32, Block32, Sized, Ranged}
-use Rattle.record.specs.Claims.{ReadsBack, NoTexts, Version1, SevenTables}
+use Rattle.record.specs.Types.{All, Block32, Sized, Ranged}
+use Rattle.record.specs.Claims.{ReadsBack, Version1, SevenTables}
 
 block-shifts : Shifts blockAt
 block-shifts p q k =

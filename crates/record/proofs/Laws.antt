@@ -1,14 +1,14 @@
 -- What a record's writers leave, joined.
-use mathlib.Core.Path.{_≡_, refl, ap, _∙_, sym}
+use mathlib.Core.Path.{_≡_, refl, ap, _∙_}
 use mathlib.Core.List.{List, [], _∷_, _++_, append-assoc}
-use Prim.Native.Nat.{ℕ, _+_, _*_}
+use Prim.Native.Nat.{ℕ, _+_}
 use native.Mathlib.Omega.{arith}
 use lib.ListN.{length, set, length-append}
 use lib.Seq.{sets}
 use Rattle.leaf.specs.Bytes.{le32, le64}
-use Rattle.record.specs.Runs.{puts, fill}
-use Rattle.leaf.proofs.Laws.{length-le32, length-le64}
-use Rattle.record.proofs.Series.{next, length-puts, length-fill}
+use Rattle.base.specs.Lists.{puts, fill}
+use Rattle.leaf.proofs.Laws.{length-le32}
+use Rattle.base.proofs.Lists.{next, length-puts, length-fill}
 use Rattle.record.specs.declared.Block.{Block}
 use Rattle.record.specs.declared.Source.{Source}
 use Rattle.record.specs.Types.{Sized}

@@ -1,4 +1,3 @@
-pub mod Series
 pub mod Reading
 pub mod Laws
 pub mod Back

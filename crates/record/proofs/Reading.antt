@@ -1,13 +1,13 @@
 -- What was written reads back: a run of things of one size, wherever it stands.
-use mathlib.Core.Path.{_≡_, refl, ap, _∙_, sym}
+use mathlib.Core.Path.{_≡_, refl, ap, _∙_}
 use mathlib.Core.List.{List, [], _∷_, _++_, append-assoc}
-use Prim.Native.Nat.{ℕ, suc, zero, _+_, _*_, _<_, _≤_}
+use Prim.Native.Nat.{ℕ, suc, zero, _+_, _<_, _≤_}
 use native.Mathlib.Omega.{arith}
 use native.Mathlib.Nat.{add-zero, zero-add, add-assoc}
 use lib.ListN.{length, getD, List·getD-eq-default}
 use lib.Seq.{getD-append-add}
-use Rattle.leaf.specs.Bytes.{byte, word, le32}
-use Rattle.record.specs.Runs.{many, puts, fill}
+use Rattle.leaf.specs.Bytes.{word, le32}
+use Rattle.base.specs.Lists.{many, puts, fill, byte}
 use Rattle.leaf.proofs.Laws.{Shifts, word-shifts, word-front, length-le32}
 use Rattle.record.specs.Types.{All}
 

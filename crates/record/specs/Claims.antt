@@ -5,7 +5,7 @@ use Prim.Native.Nat.{ℕ}
 use lib.ListN.{getD}
 use Rattle.record.specs.declared.Source.{Source}
 use Rattle.record.specs.Record.{decoded, sourceBytes, noBlock}
-use Rattle.record.specs.Runs.{fill}
+use Rattle.base.specs.Lists.{fill}
 use Rattle.record.specs.Types.{Sized, Ranged}
 
 -- a record that was written reads back, whatever follows it

@@ -1,4 +1,3 @@
-pub mod Runs
 pub mod Record
 pub mod Types
 pub mod Claims

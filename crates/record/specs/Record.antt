@@ -1,12 +1,12 @@
 -- A source's record: 01's 'Versions 1, 2, 3 have three records ..'.
-use mathlib.Core.List.{List, [], _∷_, _++_}
+use mathlib.Core.List.{List, _∷_, _++_}
 use Prim.Native.Nat.{ℕ, _+_, _*_, _-_}
 use lib.Dec.{ltb}
 use lib.IntN.{pos}
 use lib.ListN.{take}
 use Rattle.base.specs.Number.{pick}
-use Rattle.leaf.specs.Bytes.{byte, word, time, le32, le64}
-use Rattle.record.specs.Runs.{many, puts, fill}
+use Rattle.leaf.specs.Bytes.{word, time, le32, le64}
+use Rattle.base.specs.Lists.{many, puts, fill, byte}
 use Rattle.record.specs.declared.Block.{Block}
 use Rattle.record.specs.declared.Source.{Source}
 

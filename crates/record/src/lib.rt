@@ -4,8 +4,8 @@ ghost use mathlib.Core.List.{_++_};
 ghost use Prim.Native.Nat.{_+_, _-_, _*_, _≤_};
 ghost use lib.ListN.{length, drop, take, set};
 ghost use lib.Seq.{sets};
-ghost use Rattle.leaf.specs.Bytes.{byte, word, le32, le64, written};
-ghost use Rattle.record.specs.Runs.{many, puts, fill};
+ghost use Rattle.leaf.specs.Bytes.{word, le32, le64, written};
+ghost use Rattle.base.specs.Lists.{many, puts, fill, byte};
 ghost use Rattle.record.specs.Record.{
   sourceSize,
   tableCount,

@@ -13,7 +13,6 @@ use crate::text::signed;
 use crate::text::starts;
 use crate::text::unhex;
 use crate::text::word;
-use leaf::bytes::get8;
 use leaf::date::Date;
 use leaf::date::NewDate;
 

@@ -10,7 +10,7 @@ use lib.ListN.{length, take, drop, set, take-append-drop}
 use lib.Seq.{sets, take-all, length-take-le}
 use borrow.Author.Tests.{ne-eqb, le-leb, leb-true}
 use Rattle.leaf.proofs.Checksum.{crc32-append}
-use Rattle.header.proofs.Laws.{and-left, and-right}
+use Rattle.base.proofs.Bools.{and-left, and-right}
 use Rattle.writer.specs.declared.Stage.{Stage}
 use Rattle.writer.specs.declared.Stage.the-variants.{Idle, Due, Headed, Committed}
 use Rattle.writer.specs.declared.Taken.{Taken}

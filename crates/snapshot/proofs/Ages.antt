@@ -7,7 +7,7 @@ use native.Mathlib.Omega.{arith}
 use lib.IntN.{ℤ}
 use Rattle.base.specs.Number.{pick}
 use Rattle.record.specs.declared.Source.{Source}
-use Rattle.record.specs.Runs.{many, each}
+use Rattle.base.specs.Lists.{many, each}
 use Rattle.snapshot.specs.declared.Days.{Days}
 use Rattle.snapshot.specs.declared.SourceTimes.{SourceTimes}
 use Rattle.snapshot.specs.declared.Seen.{Seen}

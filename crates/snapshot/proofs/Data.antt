@@ -1,6 +1,6 @@
 -- A table of a source lies in the bank's data.
 use mathlib.Core.Path.{_≡_, refl, ap, _∙_, sym}
-use mathlib.Core.Bool.{Bool, true, false, _&&_, _||_, false≢true}
+use mathlib.Core.Bool.{Bool, true, false, _&&_, _||_}
 use mathlib.Core.List.{List, [], _∷_}
 use Prim.Native.Nat.{ℕ, zero, suc, _+_, _*_, _≤_, _<_}
 use native.Mathlib.Nat.{zero-mul, suc-mul}
@@ -12,11 +12,12 @@ use lib.Seq.{take-take, drop-drop}
 use Rattle.record.specs.declared.Block.{Block}
 use Rattle.record.specs.declared.Source.{Source}
 use Rattle.record.specs.Record.{sourceSize, noBlock}
-use Rattle.record.specs.Runs.{many, each}
+use Rattle.base.specs.Lists.{many, each}
 use Rattle.header.specs.declared.Bank.{Bank}
 use Rattle.header.specs.declared.Validated.the-variants.{Good}
-use Rattle.header.specs.Region.{sectorSize, bankOf, dataOf}
+use Rattle.region.specs.Region.{sectorSize, bankOf, dataOf}
 use Rattle.header.specs.Header.{recordAt, datesOk, updatedOk, blockOk, sourceOk}
+use Rattle.base.proofs.Bools.{and-left, and-right}
 use Rattle.header.proofs.Laws.{passed}
 use Rattle.bank.specs.Bank.{named}
 use Rattle.bank.proofs.Sequence.{named-passes}
@@ -24,14 +25,6 @@ use Rattle.snapshot.specs.Source.{sourceIn}
 use Rattle.snapshot.specs.Rows.{bytesOf}
 use Rattle.snapshot.specs.Claims.{InData}
 use Rattle.snapshot.proofs.RowsLaws.{its-number}
-
-and-left : (a b : Bool) → (a && b) ≡ true → a ≡ true
-and-left true b e = refl
-and-left false b e = absurd (false≢true e)
-
-and-right : (a b : Bool) → (a && b) ≡ true → b ≡ true
-and-right true b e = e
-and-right false b e = absurd (false≢true e)
 
 -- what holds of each holds of one
 each-nth : {A : Type 0} (p : A → Bool) (f : List ℕ → ℕ → A) (step : ℕ) (l : List ℕ) (at n i : ℕ) → each p (many f step l at n) ≡ true → i < n → p (f l (at + i * step)) ≡ true

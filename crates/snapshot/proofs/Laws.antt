@@ -9,18 +9,16 @@ use lib.IntN.{ℤ}
 use lib.ListN.{length}
 use Rattle.refusal.specs.declared.Refusal.{Refusal}
 use Rattle.refusal.specs.declared.Refusal.the-variants.{Region, Argument, Source as NoSuchSource}
-use Rattle.record.specs.Runs.{each, fill}
+use Rattle.base.specs.Lists.{each, fill}
 use Rattle.record.specs.declared.Source.{Source}
 use Rattle.record.specs.Record.{noSource}
 use Rattle.header.specs.Header.{recordsOf}
 use Rattle.header.specs.declared.Bank.{Bank}
 use Rattle.header.specs.declared.Validated.the-variants.{Good, Refused as Bad}
-use Rattle.header.specs.Region.{regionSize, bankOf}
+use Rattle.region.specs.Region.{regionSize, bankOf}
 use Rattle.header.proofs.Laws.{span-count, passed, no-refusal}
 use Rattle.bank.specs.Bank.{named}
 use Rattle.bank.proofs.Sequence.{named-passes}
-use Rattle.snapshot.specs.declared.Asked.{Asked}
-use Rattle.snapshot.specs.declared.Records.{Records}
 use Rattle.snapshot.specs.declared.Days.{Days}
 use Rattle.snapshot.specs.declared.FreshAnswer.the-variants.{Fresh, Refused}
 use Rattle.snapshot.specs.declared.Outcome.the-variants.{Done}

@@ -12,7 +12,7 @@ use Rattle.record.specs.Record.{noBlock}
 use Rattle.header.specs.declared.Bank.{Bank}
 use Rattle.header.specs.declared.Validated.{Validated}
 use Rattle.header.specs.declared.Validated.the-variants.{Good, Refused as Bad}
-use Rattle.header.specs.Region.{regionSize, bankOf}
+use Rattle.region.specs.Region.{regionSize, bankOf}
 use Rattle.header.specs.Header.{numbersOf}
 use Rattle.header.proofs.Laws.{passed}
 use Rattle.bank.specs.Bank.{named}

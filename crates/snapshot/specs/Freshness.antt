@@ -1,5 +1,5 @@
 -- Freshness: `Bank::fresh`, with three dates and three wanted-day flags.
-use mathlib.Core.Bool.{Bool, true, false, not, _&&_, _||_}
+use mathlib.Core.Bool.{Bool, false, not, _&&_, _||_}
 use mathlib.Core.List.{List, [], _∷_}
 use Prim.Native.Nat.{ℕ}
 use lib.Dec.{leb, eqb}
@@ -10,11 +10,11 @@ use Rattle.base.specs.Number.{pick}
 use Rattle.leaf.specs.Date.{validDate}
 use Rattle.refusal.specs.declared.Refusal.the-variants.{Region, Argument}
 use Rattle.record.specs.declared.Source.{Source}
-use Rattle.record.specs.Runs.{each}
+use Rattle.base.specs.Lists.{each}
 use Rattle.header.specs.declared.Bank.{Bank}
 use Rattle.header.specs.declared.Validated.{Validated}
 use Rattle.header.specs.declared.Validated.the-variants.{Good, Refused as Bad}
-use Rattle.header.specs.Region.{regionSize, bankOf}
+use Rattle.region.specs.Region.{regionSize, bankOf}
 use Rattle.header.specs.Header.{recordsOf}
 use Rattle.bank.specs.Bank.{named}
 use Rattle.snapshot.specs.declared.Day.{Day}

@@ -9,7 +9,7 @@ use Rattle.key.specs.declared.SameKey.the-variants.{Refused}
 use Rattle.header.specs.declared.Bank.{Bank}
 use Rattle.header.specs.declared.Validated.{Validated}
 use Rattle.header.specs.declared.Validated.the-variants.{Good, Refused as Bad}
-use Rattle.header.specs.Region.{bankOf, dataOf}
+use Rattle.region.specs.Region.{bankOf, dataOf}
 use Rattle.snapshot.specs.Freshness.{namedIf}
 
 -- a bank's key: the first bytes of its data

@@ -10,7 +10,7 @@ use Rattle.record.specs.Record.{noBlock}
 use Rattle.header.specs.declared.Bank.{Bank}
 use Rattle.header.specs.declared.Validated.{Validated}
 use Rattle.header.specs.declared.Validated.the-variants.{Good, Refused as Bad}
-use Rattle.header.specs.Region.{sectorSize, bankOf}
+use Rattle.region.specs.Region.{sectorSize, bankOf}
 use Rattle.snapshot.specs.Source.{sourceIn}
 use Rattle.snapshot.specs.Freshness.{namedIf}
 use Rattle.row.specs.Columns.{maxTable, columnCount}

@@ -1,5 +1,4 @@
 -- A source of a loaded bank.
-use mathlib.Core.Bool.{Bool, true, false}
 use mathlib.Core.List.{List, _++_}
 use Prim.Native.Nat.{ℕ, _+_, _*_, _-_}
 use lib.Dec.{ltb}
@@ -8,14 +7,13 @@ use Rattle.refusal.specs.declared.Refusal.{Refusal}
 use Rattle.refusal.specs.declared.Refusal.the-variants.{Source as NoSuchSource}
 use Rattle.record.specs.declared.Source.{Source}
 use Rattle.record.specs.Record.{sourceSize, noSource}
-use Rattle.record.specs.Runs.{fill}
+use Rattle.base.specs.Lists.{fill}
 use Rattle.header.specs.declared.Bank.{Bank}
 use Rattle.header.specs.declared.Validated.{Validated}
 use Rattle.header.specs.declared.Validated.the-variants.{Good, Refused as Bad}
-use Rattle.header.specs.Region.{bankOf}
+use Rattle.region.specs.Region.{bankOf}
 use Rattle.header.specs.Header.{recordAt, recordsOf}
 use Rattle.bank.specs.Bank.{named}
-use Rattle.snapshot.specs.declared.Outcome.{Outcome}
 use Rattle.snapshot.specs.declared.Outcome.the-variants.{Done, Refused}
 use Rattle.snapshot.specs.declared.Asked.{Asked}
 use Rattle.snapshot.specs.declared.Records.{Records}

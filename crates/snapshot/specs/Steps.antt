@@ -1,8 +1,7 @@
 -- What the private functions that go through the sources promise each other.
-use mathlib.Core.Bool.{Bool, true, false, _&&_}
+use mathlib.Core.Bool.{true, false, _&&_}
 use mathlib.Core.List.{List, [], _∷_}
 use lib.IntN.{ℤ, pos}
-use lib.Signed.{leZ}
 use Rattle.base.specs.Number.{pick}
 use Rattle.record.specs.declared.Source.{Source}
 use Rattle.snapshot.specs.declared.Days.{Days}

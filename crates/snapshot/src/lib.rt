@@ -2,22 +2,20 @@
 pub mod rows;
 
 ghost use mathlib.Core.Path.{_≡_};
-ghost use mathlib.Core.Bool.{Bool, not, _&&_};
+ghost use mathlib.Core.Bool.{not, _&&_};
 ghost use mathlib.Core.List.{_++_};
 ghost use lib.Dec.{leb};
 ghost use lib.IntN.{pos};
 ghost use lib.Signed.{leZ};
 ghost use Prim.Native.Nat.{_+_, _*_, _-_, _≤_};
-ghost use Rattle.header.specs.Region.{bankOf};
 ghost use Rattle.header.specs.Header.{recordsOf};
 ghost use Rattle.base.specs.Number.{pick};
 ghost use Rattle.record.specs.Record.{noSource};
-ghost use Rattle.record.specs.Runs.{each, fill};
+ghost use Rattle.base.specs.Lists.{each, fill};
 ghost use Rattle.snapshot.specs.Source as Sources;
 ghost use Rattle.snapshot.specs.Freshness as Fresh;
 ghost use Rattle.snapshot.specs.Steps as Steps;
 ghost use Rattle.snapshot.specs.KeyMatch as Keys;
-use bank::bank_of;
 use bank::header;
 use base::number::le;
 use base::slice::part;
@@ -31,6 +29,7 @@ use record::Source;
 use record::no_source;
 use record::source_size;
 use refusal::Refusal;
+use region::bank_of;
 
 pub enum Outcome {
     Done,

@@ -19,7 +19,7 @@ use Rattle.key.specs.declared.KeyAnswer.{KeyAnswer}
 use Rattle.key.specs.declared.KeyAnswer.the-variants.{Written as KeyWritten, Refused as KeyRefused}
 use Rattle.key.specs.Picks as Picks
 use Rattle.key.specs.Layout.{prefix, keyOf, every, sized, fit, keyAnswer, within as keyWithin, after as keyAfter}
-use Rattle.key.proofs.Sizes.{both-true, entry-small, small, few}
+use Rattle.key.proofs.Sizes.{entry-small, small, few}
 use Rattle.key.proofs.Answers.{key-length}
 use Rattle.row.specs.declared.RowAnswer.{RowAnswer}
 use Rattle.row.specs.declared.RowAnswer.the-variants.{Written, Refused as RowRefused}
@@ -27,8 +27,8 @@ use Rattle.row.specs.Columns.{columnCount, columnsOf, columns, line, namesLine}
 use Rattle.csv.specs.Write.{rowOf}
 use Rattle.row.specs.Write.{within, after, handed, namesAnswer, rowAnswer}
 use Rattle.record.specs.declared.Source.{Source}
-use Rattle.header.specs.Region.{regionSize, capacity}
-use Rattle.header.proofs.Laws.{and-left, and-right}
+use Rattle.region.specs.Region.{regionSize, capacity}
+use Rattle.base.proofs.Bools.{and-left, and-right, both-true}
 use Rattle.bank.specs.declared.Loaded.the-variants.{Refused as NotRead}
 use Rattle.bank.specs.Bank.{loaded}
 use Rattle.flash.specs.Flash.{performed}
@@ -38,7 +38,7 @@ use Rattle.writer.specs.declared.Step.{Step}
 use Rattle.writer.specs.State.{did, stays, position, isOpen, inRange}
 use Rattle.writer.proofs.Laws.{ranged, position-fits, open-table}
 use Rattle.lower.specs.Lower.{started, mayTake}
-use Rattle.run.specs.Run.{Lower, source, table, bytes, end, close, due, lowerStep, lowerOps, lowerRegion, ranWriter, ranRegion}
+use Rattle.run.specs.Run.{Lower, source, table, end, close, lowerStep, lowerOps, lowerRegion, ranWriter, ranRegion}
 use Rattle.run.specs.Feed.{dues, feed}
 use Rattle.upper.specs.Upper.{Upper, runOf, argumentOk, orderOk, rowOk, allFits, refusalOf, runIf, upperRun, answered, upperStep, upperRegion, beginRefusal, keyBytes, beginRun, beganWith, beginStep, beginRegion}
 use Rattle.run.proofs.Laws.{feed-append, then-writer, then-region}

@@ -1,5 +1,5 @@
 -- The upper layer: "each of its calls is a run of lower calls that ends with nothing due", and it tests that all fits before the first byte.
-use mathlib.Core.Bool.{Bool, true, false, not, _&&_}
+use mathlib.Core.Bool.{Bool, true, not, _&&_}
 use mathlib.Core.List.{List, [], _∷_, _++_}
 use mathlib.Core.Option.{Option, none, some}
 use Prim.Native.Nat.{ℕ, _+_}
@@ -17,7 +17,7 @@ use Rattle.csv.specs.Write.{rowOf}
 use Rattle.row.specs.Columns.{columnCount, namesLine}
 use Rattle.row.specs.Write.{handed}
 use Rattle.record.specs.declared.Source.{Source}
-use Rattle.header.specs.Region.{regionSize, capacity}
+use Rattle.region.specs.Region.{regionSize, capacity}
 use Rattle.bank.specs.declared.Loaded.the-variants.{Refused as NotRead}
 use Rattle.bank.specs.Bank.{loaded}
 use Rattle.flash.specs.Flash.{Op}

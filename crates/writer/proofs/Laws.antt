@@ -7,7 +7,7 @@ use borrow.Author.Tests.{leb-true}
 use Rattle.writer.specs.declared.Taken.{Taken}
 use Rattle.writer.specs.declared.Tables.{Tables}
 use Rattle.writer.specs.declared.Writer.{Writer}
-use Rattle.header.proofs.Laws.{and-left, and-right}
+use Rattle.base.proofs.Bools.{and-left, and-right}
 use Rattle.writer.specs.State.{position, aligned, openOk, isOpen, inRange, activeOk, takenOk, tablesOk, stageOk}
 
 -- what a state within its ranges has

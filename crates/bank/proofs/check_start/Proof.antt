@@ -1,5 +1,5 @@
-use Rattle.bank.proofs.Cases.{start-good, start-bad, past-data, verdict-yes, verdict-no, some-left, turn-no-region, turn-forged, turn-bank, turn-bad}
-use mathlib.Core.Path.{_≡_, refl, sym, ap, _∙_}
+use Rattle.bank.proofs.Cases.{start-good, start-bad}
+use mathlib.Core.Path.{sym, _∙_}
 use borrow.Author.Needs.{needs}
 use Rattle.bank.proofs.check_start.Statement.{statement}
 use Rattle.bank.proofs.check_start.Tie as tie

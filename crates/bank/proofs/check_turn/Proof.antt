@@ -1,8 +1,8 @@
 use Rattle.header.specs.Header.{headerOf}
 use borrow.Author.Tests.{not-true, not-false}
-use borrow.Author.Tests.{eq-eqb, ne-eqb, lt-leb, le-leb}
-use Rattle.bank.proofs.Cases.{start-good, start-bad, past-data, verdict-yes, verdict-no, some-left, turn-no-region, turn-forged, turn-bank, turn-bad}
-use mathlib.Core.Path.{_≡_, refl, sym, ap, _∙_}
+use borrow.Author.Tests.{eq-eqb, ne-eqb}
+use Rattle.bank.proofs.Cases.{turn-no-region, turn-forged, turn-bank, turn-bad}
+use mathlib.Core.Path.{sym, ap, _∙_}
 use borrow.Author.Needs.{needs}
 use Rattle.bank.proofs.check_turn.Statement.{statement}
 use Rattle.bank.proofs.check_turn.Tie as tie

@@ -1,9 +1,8 @@
 use mathlib.Core.List.{List}
-use Rattle.bank.specs.Bank.{named, dataOk, validated, generation, firstTried, loaded}
-use Rattle.header.specs.Region.{bankOf, dataOf}
+use Rattle.region.specs.Region.{dataOf}
 use lib.ListN.{length, take, drop}
-use Prim.Native.Nat.{ℕ, _-_, _*_}
-use mathlib.Core.Path.{_≡_, refl, sym, ap, _∙_}
+use Prim.Native.Nat.{ℕ, _-_}
+use mathlib.Core.Path.{ap, _∙_}
 use borrow.Author.Needs.{needs}
 use Rattle.bank.proofs.data_in.Statement.{statement}
 use Rattle.bank.proofs.data_in.Tie as tie

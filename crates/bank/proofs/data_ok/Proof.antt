@@ -1,8 +1,5 @@
-use Rattle.bank.specs.Bank.{named, dataOk, validated, generation, firstTried, loaded}
-use Rattle.header.specs.Region.{bankOf, dataOf}
-use lib.ListN.{length, take, drop}
-use Prim.Native.Nat.{ℕ, _-_, _*_}
-use mathlib.Core.Path.{_≡_, refl, sym, ap, _∙_}
+use Rattle.bank.specs.Bank.{dataOk}
+use Prim.Native.Nat.{_-_}
 use borrow.Author.Needs.{needs}
 use Rattle.bank.proofs.data_ok.Statement.{statement}
 use Rattle.bank.proofs.data_ok.Tie as tie

@@ -1,9 +1,7 @@
 use native.Mathlib.Omega.{arith}
-use Rattle.bank.specs.Bank.{named, dataOk, validated, generation, firstTried, loaded}
-use Rattle.header.specs.Region.{bankOf, dataOf}
-use lib.ListN.{length, take, drop}
-use Prim.Native.Nat.{ℕ, _-_, _*_}
-use mathlib.Core.Path.{_≡_, refl, sym, ap, _∙_}
+use Rattle.bank.specs.Bank.{generation, firstTried}
+use Prim.Native.Nat.{_-_}
+use mathlib.Core.Path.{sym}
 use borrow.Author.Needs.{needs}
 use Rattle.bank.proofs.first_tried.Statement.{statement}
 use Rattle.bank.proofs.first_tried.Tie as tie

@@ -1,10 +1,8 @@
 use Rattle.leaf.specs.Bytes.{word}
 use mathlib.Core.List.{List}
-use Rattle.bank.specs.Bank.{named, dataOk, validated, generation, firstTried, loaded}
-use Rattle.header.specs.Region.{bankOf, dataOf}
-use lib.ListN.{length, take, drop}
-use Prim.Native.Nat.{ℕ, _-_, _*_}
-use mathlib.Core.Path.{_≡_, refl, sym, ap, _∙_}
+use Rattle.bank.specs.Bank.{generation}
+use Prim.Native.Nat.{ℕ, _-_}
+use mathlib.Core.Path.{ap, _∙_}
 use borrow.Author.Needs.{needs}
 use Rattle.bank.proofs.generation.Statement.{statement}
 use Rattle.bank.proofs.generation.Tie as tie

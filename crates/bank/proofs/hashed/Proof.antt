@@ -4,7 +4,7 @@ use Rattle.bank.specs.declared.Progress.the-variants.{Hashed}
 use Rattle.leaf.specs.Crc.{crc32}
 use lib.ListN.{take, drop}
 use Prim.Native.Nat.{_+_}
-use mathlib.Core.Path.{_≡_, refl, sym, ap, _∙_}
+use mathlib.Core.Path.{_≡_, ap, _∙_}
 use borrow.Author.Needs.{needs}
 use Rattle.bank.proofs.hashed.Statement.{statement}
 use Rattle.bank.proofs.hashed.Tie as tie

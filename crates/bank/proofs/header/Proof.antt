@@ -1,7 +1,7 @@
 use Rattle.header.specs.Header.{headerOf}
-use Rattle.bank.proofs.Laws.{no-region, no-bank, named-is, data-good, data-bad, header-bad, load-no-region, load-first, load-second, load-none}
+use Rattle.bank.proofs.Laws.{no-region, no-bank, named-is}
 use borrow.Author.Tests.{eq-eqb, ne-eqb, lt-leb, le-leb}
-use mathlib.Core.Path.{_≡_, refl, sym, ap, _∙_}
+use mathlib.Core.Path.{ap, _∙_}
 use borrow.Author.Needs.{needs}
 use Rattle.bank.proofs.header.Statement.{statement}
 use Rattle.bank.proofs.header.Tie as tie

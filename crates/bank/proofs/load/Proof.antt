@@ -1,10 +1,8 @@
-use Rattle.bank.specs.Bank.{named, dataOk, validated, generation, firstTried, loaded}
-use Rattle.header.specs.Region.{bankOf, dataOf}
-use lib.ListN.{length, take, drop}
-use Prim.Native.Nat.{ℕ, _-_, _*_}
-use Rattle.bank.proofs.Laws.{no-region, no-bank, named-is, data-good, data-bad, header-bad, load-no-region, load-first, load-second, load-none}
-use borrow.Author.Tests.{eq-eqb, ne-eqb, lt-leb, le-leb}
-use mathlib.Core.Path.{_≡_, refl, sym, ap, _∙_}
+use Rattle.bank.specs.Bank.{validated, firstTried}
+use Prim.Native.Nat.{ℕ, _-_}
+use Rattle.bank.proofs.Laws.{load-no-region, load-first, load-second, load-none}
+use borrow.Author.Tests.{eq-eqb, ne-eqb}
+use mathlib.Core.Path.{_≡_, sym, ap, _∙_}
 use borrow.Author.Needs.{needs}
 use Rattle.bank.proofs.load.Statement.{statement}
 use Rattle.bank.proofs.load.Tie as tie

@@ -1,6 +1,6 @@
 use borrow.Author.Tests.{eq-eqb, ne-eqb, lt-leb, le-leb}
-use Rattle.bank.proofs.Cases.{start-good, start-bad, past-data, verdict-yes, verdict-no, some-left, turn-no-region, turn-forged, turn-bank, turn-bad}
-use mathlib.Core.Path.{_≡_, refl, sym, ap, _∙_}
+use Rattle.bank.proofs.Cases.{past-data, verdict-yes, verdict-no, some-left}
+use mathlib.Core.Path.{_∙_}
 use borrow.Author.Needs.{needs}
 use Rattle.bank.proofs.on_bank.Statement.{statement}
 use Rattle.bank.proofs.on_bank.Tie as tie

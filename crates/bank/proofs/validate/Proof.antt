@@ -1,5 +1,5 @@
-use Rattle.bank.proofs.Laws.{no-region, no-bank, named-is, data-good, data-bad, header-bad, load-no-region, load-first, load-second, load-none}
-use mathlib.Core.Path.{_≡_, refl, sym, ap, _∙_}
+use Rattle.bank.proofs.Laws.{data-good, data-bad, header-bad}
+use mathlib.Core.Path.{sym, _∙_}
 use borrow.Author.Needs.{needs}
 use Rattle.bank.proofs.validate.Statement.{statement}
 use Rattle.bank.proofs.validate.Tie as tie

@@ -5,7 +5,7 @@ use Prim.Native.Nat.{ℕ, _+_}
 use native.Mathlib.Nat.{sub-zero}
 use lib.Dec.{leb}
 use lib.ListN.{take, drop}
-use Rattle.key.specs.Match.{same}
+use Rattle.base.specs.Same.{same}
 use Rattle.due.specs.Due.{differs}
 use borrow.Author.Needs.{needs}
 use Rattle.due.proofs.differs_from.Statement.{statement}

@@ -1,5 +1,4 @@
 use mathlib.Core.Path.{sym, ap, _∙_}
-use mathlib.Core.List.{[]}
 use native.Mathlib.Omega.{arith}
 use Rattle.writer.specs.declared.PartsStep.{PartsStep}
 use Rattle.writer.specs.State.{inRange}

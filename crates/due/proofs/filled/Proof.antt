@@ -5,7 +5,7 @@ use native.Mathlib.Omega.{arith}
 use native.Mathlib.Nat.{zero-add}
 use lib.ListN.{length, take, replicate}
 use lib.Seq.{sets}
-use Rattle.record.proofs.Series.{bytes-more}
+use Rattle.base.proofs.Lists.{bytes-more}
 use Rattle.due.proofs.Laws.{filled-end}
 use Rattle.due.proofs.filled.Statement.{statement}
 use Rattle.due.proofs.filled.Tie as tie

@@ -1,13 +1,13 @@
 use borrow.Author.Needs.{needs}
 use Rattle.record.specs.Record.{noBlock}
-use Rattle.record.specs.Runs.{each}
+use Rattle.base.specs.Lists.{each}
 use lib.Seq.{take-all}
 use lib.ListN.{length, take}
 use native.Mathlib.Omega.{arith}
 use Prim.Native.Nat.{_≤_, _-_}
-use Rattle.header.specs.Header.{numbersOf, recordAt, recordsOf, marked, headerCrc, sealed, spanOk, isUnknown, updatedOk, blockOk, sourceOk}
-use Rattle.header.proofs.Laws.{unknown-bits, each-take, each-many}
-use mathlib.Core.Path.{_≡_, refl, sym, ap, _∙_}
+use Rattle.header.specs.Header.{blockOk}
+use Rattle.header.proofs.Laws.{each-take}
+use mathlib.Core.Path.{_≡_, refl, ap, _∙_}
 use Rattle.header.proofs.blocks_ok.Statement.{statement}
 use Rattle.header.proofs.blocks_ok.Tie as tie
 

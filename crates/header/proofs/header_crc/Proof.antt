@@ -1,11 +1,11 @@
-use Rattle.record.specs.Runs.{fill}
+use Rattle.base.specs.Lists.{fill}
 use Rattle.leaf.proofs.Checksum.{crc32-append}
 use Rattle.leaf.specs.Crc.{crc32}
 use lib.ListN.{take, drop}
 use Prim.Native.Nat.{_*_}
 use mathlib.Core.List.{_++_}
-use Rattle.header.specs.Header.{numbersOf, recordAt, recordsOf, marked, headerCrc, sealed, spanOk, isUnknown, updatedOk, blockOk, sourceOk}
-use mathlib.Core.Path.{_≡_, refl, sym, ap, _∙_}
+use Rattle.header.specs.Header.{headerCrc}
+use mathlib.Core.Path.{_∙_}
 use borrow.Author.Needs.{needs}
 use Rattle.header.proofs.header_crc.Statement.{statement}
 use Rattle.header.proofs.header_crc.Tie as tie

@@ -1,9 +1,9 @@
 use Rattle.header.proofs.Laws.{span-count, not-marked, not-sealed, not-spanned, bad-source, all-good}
 use Rattle.header.specs.declared.Validated.the-variants.{Good}
-use Rattle.record.specs.Runs.{each}
+use Rattle.base.specs.Lists.{each}
 use borrow.Author.Tests.{not-true, not-false}
-use Rattle.header.specs.Header.{numbersOf, recordAt, recordsOf, marked, headerCrc, sealed, spanOk, isUnknown, updatedOk, blockOk, sourceOk}
-use mathlib.Core.Path.{_≡_, refl, sym, ap, _∙_}
+use Rattle.header.specs.Header.{numbersOf, recordsOf, marked, sealed, spanOk, sourceOk}
+use mathlib.Core.Path.{sym, ap, _∙_}
 use borrow.Author.Needs.{needs}
 use Rattle.header.proofs.header_of.Statement.{statement}
 use Rattle.header.proofs.header_of.Tie as tie

@@ -1,5 +1,5 @@
 use Rattle.leaf.specs.Bytes.{word}
-use Rattle.header.specs.Header.{numbersOf, recordAt, recordsOf, marked, headerCrc, sealed, spanOk, isUnknown, updatedOk, blockOk, sourceOk}
+use Rattle.header.specs.Header.{marked}
 use borrow.Author.Needs.{needs}
 use Rattle.header.proofs.is_marked.Statement.{statement}
 use Rattle.header.proofs.is_marked.Tie as tie

@@ -1,7 +1,7 @@
 use Rattle.record.specs.Record.{sourceSize}
 use Rattle.leaf.specs.Bytes.{word}
-use Rattle.header.specs.Header.{numbersOf, recordAt, recordsOf, marked, headerCrc, sealed, spanOk, isUnknown, updatedOk, blockOk, sourceOk}
-use mathlib.Core.Path.{_≡_, refl, sym, ap, _∙_}
+use Rattle.header.specs.Header.{headerCrc, sealed}
+use mathlib.Core.Path.{_≡_, ap, _∙_}
 use borrow.Author.Needs.{needs}
 use Rattle.header.proofs.is_sealed.Statement.{statement}
 use Rattle.header.proofs.is_sealed.Tie as tie

@@ -1,4 +1,4 @@
-use Rattle.header.proofs.Laws.{unknown-bits, each-take, each-many}
+use Rattle.header.proofs.Laws.{unknown-bits}
 use Rattle.header.proofs.is_unknown.Statement.{statement}
 use Rattle.header.proofs.is_unknown.Tie as tie
 

@@ -2,8 +2,8 @@ use Rattle.record.specs.Record.{decoded}
 use lib.Seq.{take-all}
 use lib.ListN.{length, drop, length-drop}
 use native.Mathlib.Omega.{arith}
-use Rattle.header.specs.Header.{numbersOf, recordAt, recordsOf, marked, headerCrc, sealed, spanOk, isUnknown, updatedOk, blockOk, sourceOk}
-use mathlib.Core.Path.{_≡_, refl, sym, ap, _∙_}
+use Rattle.header.specs.Header.{recordAt}
+use mathlib.Core.Path.{ap, _∙_}
 use borrow.Author.Needs.{needs}
 use Rattle.header.proofs.record_at.Statement.{statement}
 use Rattle.header.proofs.record_at.Tie as tie

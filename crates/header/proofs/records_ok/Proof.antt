@@ -1,12 +1,12 @@
 use borrow.Author.Needs.{needs}
 use Rattle.record.specs.Record.{sourceSize}
-use Rattle.record.specs.Runs.{many, each}
+use Rattle.base.specs.Lists.{many, each}
 use native.Mathlib.Nat.{zero-mul, add-mul, one-mul}
 use native.Mathlib.Omega.{arith}
 use Prim.Native.Nat.{ℕ, _+_, _*_, _-_, _≤_}
-use Rattle.header.specs.Header.{numbersOf, recordAt, recordsOf, marked, headerCrc, sealed, spanOk, isUnknown, updatedOk, blockOk, sourceOk}
-use Rattle.header.proofs.Laws.{unknown-bits, each-take, each-many}
-use mathlib.Core.Path.{_≡_, refl, sym, ap, _∙_}
+use Rattle.header.specs.Header.{recordAt, recordsOf, sourceOk}
+use Rattle.header.proofs.Laws.{each-many}
+use mathlib.Core.Path.{_≡_, refl, ap, _∙_}
 use Rattle.header.proofs.records_ok.Statement.{statement}
 use Rattle.header.proofs.records_ok.Tie as tie
 

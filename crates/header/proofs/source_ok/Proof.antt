@@ -1,7 +1,7 @@
-use Rattle.header.specs.Header.{numbersOf, recordAt, recordsOf, marked, headerCrc, sealed, spanOk, isUnknown, updatedOk, blockOk, sourceOk}
+use Rattle.header.specs.Header.{updatedOk, sourceOk}
 use mir.ValLaws.{toZ-ofZ}
 use mir.Syntax.{w64}
-use mathlib.Core.Path.{_≡_, refl, sym, ap, _∙_}
+use mathlib.Core.Path.{_≡_, _∙_}
 use borrow.Author.Needs.{needs}
 use Rattle.header.proofs.source_ok.Statement.{statement}
 use Rattle.header.proofs.source_ok.Tie as tie

@@ -1,7 +1,6 @@
-use Rattle.header.specs.Header.{numbersOf, recordAt, recordsOf, marked, headerCrc, sealed, spanOk, isUnknown, updatedOk, blockOk, sourceOk}
+use Rattle.header.specs.Header.{spanOk}
 use mir.ValLaws.{toZ-ofZ}
 use mir.Syntax.{w64}
-use mathlib.Core.Path.{_≡_, refl, sym, ap, _∙_}
 use borrow.Author.Needs.{needs}
 use Rattle.header.proofs.span_ok.Statement.{statement}
 use Rattle.header.proofs.span_ok.Tie as tie

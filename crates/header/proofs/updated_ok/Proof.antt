@@ -1,6 +1,5 @@
 use mir.ValLaws.{toZ-ofZ}
 use mir.Syntax.{w64}
-use mathlib.Core.Path.{_≡_, refl, sym, ap, _∙_}
 use borrow.Author.Needs.{needs}
 use Rattle.header.proofs.updated_ok.Statement.{statement}
 use Rattle.header.proofs.updated_ok.Tie as tie

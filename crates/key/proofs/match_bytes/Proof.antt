@@ -2,7 +2,7 @@ use mathlib.Core.Path.{_≡_, refl, _∙_, sym}
 use Prim.Native.Nat.{_+_, _-_}
 use native.Mathlib.Omega.{arith}
 use lib.ListN.{length, take, drop}
-use Rattle.key.specs.Match.{same}
+use Rattle.base.specs.Same.{same}
 use Rattle.key.proofs.Stretch.{nothing-to-match, too-short, matches, differs}
 use borrow.Author.Needs.{needs}
 use Rattle.key.proofs.match_bytes.Statement.{statement}

@@ -3,7 +3,7 @@ use native.Mathlib.Omega.{arith}
 use Rattle.key.specs.Picks.{pickOf, firsts}
 use Rattle.key.specs.Layout.{keyOf}
 use Rattle.key.specs.Steps.{between}
-use Rattle.key.proofs.Stretch.{other-length}
+use Rattle.base.proofs.Same.{other-length}
 use Rattle.key.proofs.Answers.{part-is, part-below, part-length, part-count, total-is, prefix-differs, count-differs, picks-differ, all-match}
 use borrow.Author.Needs.{needs}
 use Rattle.key.proofs.match_key.Statement.{statement}

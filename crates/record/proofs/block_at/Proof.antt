@@ -1,9 +1,6 @@
 use borrow.Author.Needs.{needs}
 use Rattle.record.proofs.block_at.Statement.{statement}
 use Rattle.record.proofs.block_at.Tie as tie
-use Rattle.record.proofs.block_at.Reads as reads
-use Rattle.record.proofs.block_at.Lts as lts
-use Rattle.record.proofs.word_at.Reads as word-at-reads
 
 word-at-requires : tie.Need-word-at-requires
 word-at-requires c κs = search needs

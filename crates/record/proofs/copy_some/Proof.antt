@@ -1,19 +1,14 @@
 use Rattle.record.proofs.copy_some.Statement.{statement}
 use Rattle.record.proofs.copy_some.Tie as tie
-use Rattle.record.proofs.copy_some.Reads as reads
-use Rattle.record.proofs.copy_some.Lts as lts
-use Rattle.leaf.proofs.bytes.get8.Reads as get8-reads
 use borrow.Author.Needs.{needs}
-use mathlib.Core.Path.{_≡_, refl, sym, ap, _∙_}
-use mathlib.Core.List.{[], _∷_, _++_, append-nil}
-use Prim.Native.Nat.{ℕ, suc, _≤_, _-_, _+_, _*_, _/_, _%_}
+use mathlib.Core.Path.{_≡_, refl, ap, _∙_}
+use mathlib.Core.List.{_++_}
+use Prim.Native.Nat.{_≤_, _-_, _+_}
 use native.Mathlib.Omega.{arith}
-use lib.ListN.{length, drop, take, length-set, getD}
-use lib.Seq.{sets, take-length, take-all, length-sets, drop-length}
-use Rattle.leaf.specs.Bytes.{byte, word, le32, le64, time}
-use Rattle.record.specs.Runs.{many, fill, puts}
+use lib.ListN.{length, drop}
+use Rattle.base.specs.Lists.{many, byte}
 use native.Mathlib.Nat.{mul-one}
-use Rattle.record.proofs.Series.{many-set, many-length}
+use Rattle.base.proofs.Lists.{many-set, many-length}
 
 abbrev Inv-loop : tie.InvT-loop
 Inv-loop out₀ s at n j₀ out j = (j ≤ n) × (out ≡ many byte 1 s at j ++ drop j out₀)

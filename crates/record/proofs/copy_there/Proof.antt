@@ -1,7 +1,6 @@
 use borrow.Author.Needs.{needs}
-use Rattle.record.proofs.Series.{many-set, many-length}
-use Rattle.record.specs.Runs.{many}
-use Rattle.leaf.specs.Bytes.{byte}
+use Rattle.base.proofs.Lists.{many-set, many-length}
+use Rattle.base.specs.Lists.{many, byte}
 use lib.ListN.{length, drop, getD}
 use native.Mathlib.Nat.{mul-one}
 use native.Mathlib.Omega.{arith}

@@ -1,15 +1,9 @@
-use mathlib.Core.Path.{_≡_, ap, _∙_}
+use mathlib.Core.Path.{ap, _∙_}
 use lib.ListN.{take}
-use Rattle.record.specs.Record.{sourceSize, tableCount, sourceOf, decoded}
+use Rattle.record.specs.Record.{tableCount, sourceOf, decoded}
 use borrow.Author.Needs.{needs}
 use Rattle.record.proofs.decode.Statement.{statement}
 use Rattle.record.proofs.decode.Tie as tie
-use Rattle.record.proofs.decode.Reads as reads
-use Rattle.record.proofs.decode.Lts as lts
-use Rattle.record.proofs.first.Reads as first-reads
-use Rattle.record.proofs.read.Reads as read-reads
-use Rattle.record.proofs.source_size.Reads as source-size-reads
-use Rattle.record.proofs.table_count.Reads as table-count-reads
 
 source-size-requires : tie.Need-source-size-requires
 source-size-requires c κs = search needs

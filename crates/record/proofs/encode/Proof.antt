@@ -1,4 +1,4 @@
-use mathlib.Core.Path.{_≡_, ap, sym, _∙_}
+use mathlib.Core.Path.{_≡_, sym, _∙_}
 use mathlib.Core.Bool.{false}
 use Prim.Native.Nat.{_+_}
 use native.Mathlib.Omega.{arith}
@@ -10,10 +10,6 @@ use Rattle.record.specs.Record.{sourceBytes}
 use borrow.Author.Needs.{needs}
 use Rattle.record.proofs.encode.Statement.{statement}
 use Rattle.record.proofs.encode.Tie as tie
-use Rattle.record.proofs.encode.Reads as reads
-use Rattle.record.proofs.encode.Lts as lts
-use Rattle.record.proofs.has_size.Reads as has-size-reads
-use Rattle.record.proofs.put_source.Reads as put-source-reads
 
 has-size-requires : tie.Need-has-size-requires
 has-size-requires c κs = search needs

@@ -3,13 +3,6 @@ use Rattle.record.specs.Types.{Sized}
 use borrow.Author.Needs.{needs}
 use Rattle.record.proofs.has_size.Statement.{statement}
 use Rattle.record.proofs.has_size.Tie as tie
-use Rattle.record.proofs.has_size.Reads as reads
-use Rattle.record.proofs.has_size.Lts as lts
-use Rattle.record.proofs.has_blocks.Reads as has-blocks-reads
-use Rattle.record.proofs.has_id.Reads as has-id-reads
-use Rattle.record.proofs.has_stamp.Reads as has-stamp-reads
-use Rattle.record.proofs.has_validator.Reads as has-validator-reads
-use Rattle.record.proofs.has_words.Reads as has-words-reads
 
 has-words-requires : tie.Need-has-words-requires
 has-words-requires c κs = search needs

@@ -1,6 +1,6 @@
-use Rattle.record.specs.Runs.{fill}
+use Rattle.base.specs.Lists.{fill}
 use Rattle.record.specs.Record.{noSource}
-use mathlib.Core.Path.{_≡_, refl, sym, ap, _∙_}
+use mathlib.Core.Path.{refl}
 use Rattle.record.proofs.no_source.Statement.{statement}
 use Rattle.record.proofs.no_source.Tie as tie
 

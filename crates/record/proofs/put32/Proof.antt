@@ -1,13 +1,9 @@
 use Rattle.leaf.proofs.Laws.{written-sets, length-le32}
-use mathlib.Core.Path.{_≡_, _∙_}
-use native.Mathlib.Omega.{arith}
+use mathlib.Core.Path.{_∙_}
 use Rattle.leaf.specs.Bytes.{le32}
 use borrow.Author.Needs.{needs}
 use Rattle.record.proofs.put32.Statement.{statement}
 use Rattle.record.proofs.put32.Tie as tie
-use Rattle.record.proofs.put32.Reads as reads
-use Rattle.record.proofs.put32.Lts as lts
-use Rattle.leaf.proofs.bytes.put.Reads as put-reads
 
 put-requires : tie.Need-put-requires
 put-requires c κs = search needs

@@ -1,16 +1,12 @@
 use Rattle.leaf.proofs.Laws.{written-sets, length-le64}
-use mathlib.Core.Path.{_≡_, ap, _∙_}
+use mathlib.Core.Path.{ap, _∙_}
 use lib.IntN.{ℤ}
 use mir.Syntax.{w64}
 use mir.ValLaws.{toZ-ofZ}
-use native.Mathlib.Omega.{arith}
 use Rattle.leaf.specs.Bytes.{written, le64}
 use borrow.Author.Needs.{needs}
 use Rattle.record.proofs.put64.Statement.{statement}
 use Rattle.record.proofs.put64.Tie as tie
-use Rattle.record.proofs.put64.Reads as reads
-use Rattle.record.proofs.put64.Lts as lts
-use Rattle.leaf.proofs.bytes.put_time.Reads as put-time-reads
 
 put-time-requires : tie.Need-put-time-requires
 put-time-requires c κs = search needs

@@ -1,17 +1,13 @@
 use Rattle.record.proofs.put_bytes.Statement.{statement}
 use Rattle.record.proofs.put_bytes.Tie as tie
-use Rattle.record.proofs.put_bytes.Reads as reads
-use Rattle.record.proofs.put_bytes.Lts as lts
 use borrow.Author.Needs.{needs}
-use mathlib.Core.Path.{_≡_, refl, sym, ap, _∙_}
-use mathlib.Core.List.{List, [], _∷_, _++_, append-nil}
-use Prim.Native.Nat.{ℕ, suc, _≤_, _-_, _+_, _*_, _/_, _%_}
+use mathlib.Core.Path.{_≡_, refl, ap, _∙_}
+use mathlib.Core.List.{List}
+use Prim.Native.Nat.{ℕ, _≤_, _-_}
 use native.Mathlib.Omega.{arith}
-use lib.ListN.{length, drop, take, length-set, getD}
-use lib.Seq.{sets, take-length, take-all, length-sets, drop-length}
-use Rattle.leaf.specs.Bytes.{byte, word, le32, le64, time}
-use Rattle.record.specs.Runs.{many, fill, puts}
-use Rattle.record.proofs.Series.{bytes-more}
+use lib.ListN.{length, take}
+use lib.Seq.{sets, take-all, length-sets}
+use Rattle.base.proofs.Lists.{bytes-more}
 
 abbrev Inv-loop : tie.InvT-loop
 Inv-loop out₀ at s j₀ out j = (j ≤ length s) × (out ≡ sets out₀ at (take j s))

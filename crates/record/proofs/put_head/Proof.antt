@@ -1,20 +1,10 @@
 use borrow.Author.Needs.{needs}
 use Rattle.record.proofs.put_head.Statement.{statement}
 use Rattle.record.proofs.put_head.Tie as tie
-use Rattle.record.proofs.put_head.Reads as reads
-use Rattle.record.proofs.put_head.Lts as lts
-use Rattle.record.proofs.put32.Reads as put32-reads
-use Rattle.record.proofs.put64.Reads as put64-reads
-use mathlib.Core.Path.{_≡_, refl, sym, ap, _∙_}
-use mathlib.Core.List.{List, [], _∷_, _++_, append-nil}
-use Prim.Native.Nat.{ℕ, suc, _≤_, _-_, _+_, _*_, _/_, _%_}
-use native.Mathlib.Omega.{arith}
-use lib.ListN.{length, drop, take, length-set, getD, replicate}
-use lib.Seq.{sets, take-length, take-all, length-sets, drop-length}
-use Rattle.leaf.specs.Bytes.{byte, word, le32, le64, time}
-use Rattle.record.specs.Runs.{many, fill, puts}
-use Rattle.record.specs.Record.{noBlock, blockAt, blockBytes, sourceOf, headBytes, tableBytes, tailBytes, sourceBytes}
-use Rattle.record.proofs.Laws.{block-is, head-is, tables-are, tail-is, source-is}
+use mathlib.Core.Path.{_≡_, _∙_}
+use Prim.Native.Nat.{_-_}
+use lib.ListN.{length}
+use Rattle.record.proofs.Laws.{head-is}
 use mir.Syntax.{w64}
 use mir.Val.{toZ, ofZ}
 use mir.ValLaws.{toZ-ofZ}

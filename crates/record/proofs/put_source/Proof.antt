@@ -1,24 +1,13 @@
-use mathlib.Core.Path.{_≡_, refl, sym, ap, _∙_}
-use mathlib.Core.List.{List, [], _∷_, _++_, append-nil}
-use Prim.Native.Nat.{ℕ, suc, _≤_, _-_, _+_, _*_, _/_, _%_}
-use native.Mathlib.Omega.{arith}
-use lib.ListN.{length, drop, take, length-set, getD, replicate}
-use lib.Seq.{sets, take-length, take-all, length-sets, drop-length}
-use Rattle.leaf.specs.Bytes.{byte, word, le32, le64, time}
-use Rattle.record.specs.Runs.{many, fill, puts}
-use Rattle.record.specs.Record.{noBlock, blockAt, blockBytes, sourceOf, headBytes, tableBytes, tailBytes, sourceBytes}
-use Rattle.record.proofs.Laws.{block-is, head-is, tables-are, tail-is, source-is}
+use mathlib.Core.Path.{_∙_}
+use Prim.Native.Nat.{_-_}
+use lib.ListN.{length}
+use Rattle.base.specs.Lists.{fill}
+use Rattle.record.proofs.Laws.{source-is}
 use Rattle.record.proofs.Laws.{length-source}
 use Rattle.record.specs.Types.{Sized}
 use borrow.Author.Needs.{needs}
 use Rattle.record.proofs.put_source.Statement.{statement}
 use Rattle.record.proofs.put_source.Tie as tie
-use Rattle.record.proofs.put_source.Reads as reads
-use Rattle.record.proofs.put_source.Lts as lts
-use Rattle.record.proofs.put_bytes.Reads as put-bytes-reads
-use Rattle.record.proofs.put_head.Reads as put-head-reads
-use Rattle.record.proofs.put_tables.Reads as put-tables-reads
-use Rattle.record.proofs.put_tail.Reads as put-tail-reads
 
 -- src/lib.rt:193:5
 put-head-requires : tie.Need-put-head-requires

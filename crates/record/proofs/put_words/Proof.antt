@@ -1,19 +1,14 @@
 use Rattle.record.proofs.put_words.Statement.{statement}
 use Rattle.record.proofs.put_words.Tie as tie
-use Rattle.record.proofs.put_words.Reads as reads
-use Rattle.record.proofs.put_words.Lts as lts
-use Rattle.record.proofs.put32.Reads as put32-reads
 use borrow.Author.Needs.{needs}
-use mathlib.Core.Path.{_≡_, refl, sym, ap, _∙_}
-use mathlib.Core.List.{List, [], _∷_, _++_, append-nil}
-use Prim.Native.Nat.{ℕ, suc, _≤_, _-_, _+_, _*_, _/_, _%_}
+use mathlib.Core.Path.{_≡_, refl, ap, _∙_}
+use Prim.Native.Nat.{_≤_, _-_}
 use native.Mathlib.Omega.{arith}
-use lib.ListN.{length, drop, take, length-set, getD, replicate}
-use lib.Seq.{sets, take-length, take-all, length-sets, drop-length}
-use Rattle.leaf.specs.Bytes.{byte, word, le32, le64, time}
-use Rattle.record.specs.Runs.{many, fill, puts}
-use Rattle.record.specs.Record.{noBlock, blockAt, blockBytes, sourceOf, headBytes, tableBytes, tailBytes, sourceBytes}
-use Rattle.record.proofs.Series.{puts-more}
+use lib.ListN.{length, take}
+use lib.Seq.{sets, take-all, length-sets}
+use Rattle.leaf.specs.Bytes.{le32}
+use Rattle.base.specs.Lists.{puts}
+use Rattle.base.proofs.Lists.{puts-more}
 use Rattle.leaf.proofs.Laws.{length-le32}
 
 abbrev Inv-loop : tie.InvT-loop

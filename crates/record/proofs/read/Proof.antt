@@ -1,12 +1,9 @@
-use mathlib.Core.Path.{_≡_, refl, sym, ap, _∙_}
-use mathlib.Core.List.{List, [], _∷_, _++_, append-nil}
-use Prim.Native.Nat.{ℕ, suc, _≤_, _-_, _+_, _*_, _/_, _%_}
-use native.Mathlib.Omega.{arith}
-use lib.ListN.{length, drop, take, length-set, getD, replicate}
-use lib.Seq.{sets, take-length, take-all, length-sets, drop-length}
-use Rattle.leaf.specs.Bytes.{byte, word, le32, le64, time}
-use Rattle.record.specs.Runs.{many, fill, puts}
-use Rattle.record.specs.Record.{noBlock, blockAt, blockBytes, sourceOf, headBytes, tableBytes, tailBytes, sourceBytes}
+use mathlib.Core.Path.{_∙_}
+use mathlib.Core.List.{append-nil}
+use Prim.Native.Nat.{_-_, _+_, _*_}
+use Rattle.leaf.specs.Bytes.{word, time}
+use Rattle.base.specs.Lists.{many, byte}
+use Rattle.record.specs.Record.{sourceOf}
 use mir.Syntax.{w64}
 use mir.ValLaws.{toZ-ofZ}
 use borrow.Author.Needs.{needs}

@@ -9,10 +9,6 @@ use Rattle.row.proofs.Laws.{field-plain, field-special, quoted-size, qu
 use borrow.Author.Needs.{needs}
 use Rattle.row.proofs.put_field.Statement.{statement}
 use Rattle.row.proofs.put_field.Tie as tie
-use Rattle.row.proofs.put_field.Reads as reads
-use Rattle.row.proofs.put_field.Lts as lts
-use Rattle.row.proofs.copy.Reads as copy-reads
-use Rattle.row.proofs.put_inner.Reads as put-inner-reads
 
 copy-requires : tie.Need-copy-requires
 copy-requires c κs = search needs

@@ -5,11 +5,6 @@ use Rattle.row.proofs.Laws.{doubled-less, doubled-same}
 use borrow.Author.Needs.{needs}
 use Rattle.row.proofs.put_inner.Statement.{statement}
 use Rattle.row.proofs.put_inner.Tie as tie
-use Rattle.row.proofs.put_inner.Reads as reads
-use Rattle.row.proofs.put_inner.Lts as lts
-use Rattle.row.proofs.copy.Reads as copy-reads
-use Rattle.row.proofs.put_each.Reads as put-each-reads
-use Rattle.row.proofs.put_few.Reads as put-few-reads
 
 copy-requires : tie.Need-copy-requires
 copy-requires c κs = search needs

@@ -3,7 +3,7 @@ use mathlib.Core.List.{[]}
 use mathlib.Core.Path.{sym, _∙_}
 use mathlib.Core.Bool.{not, _&&_}
 use native.Mathlib.Omega.{arith}
-use Rattle.header.proofs.Laws.{and-left, and-right}
+use Rattle.base.proofs.Bools.{and-left, and-right}
 use Rattle.writer.specs.State.{isDue}
 use Rattle.lower.specs.Lower.{mayTake}
 use Rattle.lower.proofs.Laws.{takes-fits}

@@ -1,4 +1,4 @@
-use Rattle.record.specs.Runs.{each}
+use Rattle.base.specs.Lists.{each}
 use borrow.Author.Needs.{needs}
 use Rattle.snapshot.proofs.are_days.Statement.{statement}
 use Rattle.snapshot.proofs.are_days.Tie as tie

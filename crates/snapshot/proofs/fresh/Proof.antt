@@ -3,7 +3,7 @@ use Rattle.snapshot.specs.declared.FreshAnswer.the-variants.{Fresh}
 use Rattle.snapshot.proofs.Laws.{few, fresh-good, fresh-bad}
 use mir.ValLaws.{toZ-ofZ}
 use mir.Syntax.{w64}
-use mathlib.Core.Path.{_≡_, refl, sym, ap, _∙_}
+use mathlib.Core.Path.{sym, ap, _∙_}
 use borrow.Author.Needs.{needs}
 use Rattle.snapshot.proofs.fresh.Statement.{statement}
 use Rattle.snapshot.proofs.fresh.Tie as tie

@@ -1,16 +1,11 @@
 use borrow.Author.Needs.{needs}
 use Rattle.snapshot.proofs.fresh_in.Statement.{statement}
 use Rattle.snapshot.proofs.fresh_in.Tie as tie
-use Rattle.snapshot.proofs.fresh_in.Reads as reads
-use Rattle.snapshot.proofs.fresh_in.Lts as lts
-use Rattle.bank.proofs.bank_of.Reads as bank-of-reads
-use Rattle.snapshot.proofs.checked_at.Reads as checked-at-reads
-use Rattle.snapshot.proofs.updated_in.Reads as updated-in-reads
 use Rattle.snapshot.specs.Freshness.{daysOf, used, updatedAt, checkedAt, freshness}
 use Rattle.header.specs.Header.{recordsOf}
 use mir.ValLaws.{toZ-ofZ}
 use mir.Syntax.{w64}
-use mathlib.Core.Path.{_≡_, refl, sym, ap, _∙_}
+use mathlib.Core.Path.{_≡_, _∙_}
 
 bank-of-requires : tie.Need-bank-of-requires
 bank-of-requires c κs = search needs

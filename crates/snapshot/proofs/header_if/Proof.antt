@@ -1,7 +1,7 @@
 use Rattle.snapshot.specs.Freshness.{namedIf}
-use borrow.Author.Tests.{eq-eqb, ne-eqb, lt-leb, le-leb, lt-ltb, le-ltb}
-use Rattle.snapshot.proofs.Laws.{bound, named-fits, unfit-no-region, unfit, source-done, source-past, source-bad}
-use mathlib.Core.Path.{_≡_, refl, sym, ap, _∙_}
+use borrow.Author.Tests.{eq-eqb, ne-eqb}
+use Rattle.snapshot.proofs.Laws.{named-fits, unfit-no-region, unfit}
+use mathlib.Core.Path.{sym, ap, _∙_}
 use borrow.Author.Needs.{needs}
 use Rattle.snapshot.proofs.header_if.Statement.{statement}
 use Rattle.snapshot.proofs.header_if.Tie as tie

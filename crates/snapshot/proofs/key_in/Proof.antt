@@ -1,9 +1,9 @@
 use Rattle.snapshot.specs.KeyMatch.{keyIn}
-use Rattle.header.specs.Region.{bankOf, dataOf}
+use Rattle.region.specs.Region.{dataOf}
 use lib.ListN.{take, drop}
 use Prim.Native.Nat.{ℕ}
 use mathlib.Core.List.{List}
-use mathlib.Core.Path.{_≡_, refl, sym, ap, _∙_}
+use mathlib.Core.Path.{ap, _∙_}
 use borrow.Author.Needs.{needs}
 use Rattle.snapshot.proofs.key_in.Statement.{statement}
 use Rattle.snapshot.proofs.key_in.Tie as tie

@@ -1,4 +1,3 @@
-use mathlib.Core.Path.{_≡_, refl, sym, ap, _∙_}
 use borrow.Author.Needs.{needs}
 use Rattle.snapshot.proofs.left.Statement.{statement}
 use Rattle.snapshot.proofs.left.Tie as tie

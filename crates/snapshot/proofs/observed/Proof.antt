@@ -1,4 +1,3 @@
-use Rattle.snapshot.specs.declared.SourceTimes.{SourceTimes}
 use Rattle.snapshot.specs.Freshness.{older}
 use Rattle.base.specs.Number.{pick}
 use lib.Signed.{leZ}
@@ -6,7 +5,7 @@ use lib.IntN.{pos}
 use mathlib.Core.Bool.{true, _&&_}
 use mir.ValLaws.{toZ-ofZ}
 use mir.Syntax.{w64}
-use mathlib.Core.Path.{_≡_, refl, sym, ap, _∙_}
+use mathlib.Core.Path.{_≡_, _∙_}
 use borrow.Author.Needs.{needs}
 use Rattle.snapshot.proofs.observed.Statement.{statement}
 use Rattle.snapshot.proofs.observed.Tie as tie

@@ -4,8 +4,8 @@ use mathlib.Core.Path.{_≡_, refl, ap, _∙_}
 use mathlib.Core.List.{_++_}
 use Prim.Native.Nat.{_+_, _-_, _≤_}
 use native.Mathlib.Omega.{arith}
-use Rattle.record.proofs.Series.{many-set, drop-new}
-use Rattle.record.specs.Runs.{many}
+use Rattle.base.proofs.Lists.{many-set, drop-new}
+use Rattle.base.specs.Lists.{many}
 use Rattle.header.specs.Header.{recordAt, recordsOf}
 use lib.ListN.{drop, replicate}
 use borrow.Author.Needs.{needs}

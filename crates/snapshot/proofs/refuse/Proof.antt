@@ -1,7 +1,6 @@
-use Rattle.snapshot.specs.declared.Outcome.the-variants.{Done, Refused}
-use Rattle.snapshot.specs.declared.Asked.{Asked}
+use Rattle.snapshot.specs.declared.Outcome.the-variants.{Refused}
 use Rattle.record.specs.declared.Source.{Source}
-use mathlib.Core.Path.{_≡_, refl, sym, ap, _∙_}
+use mathlib.Core.Path.{ap}
 use borrow.Author.Needs.{needs}
 use Rattle.snapshot.proofs.refuse.Statement.{statement}
 use Rattle.snapshot.proofs.refuse.Tie as tie

@@ -3,7 +3,7 @@ use mathlib.Core.Path.{ap, _∙_}
 use Rattle.record.specs.declared.Source.{Source}
 use mathlib.Core.List.{List}
 use Prim.Native.Nat.{_-_}
-use Rattle.record.proofs.Series.{replicate-fill}
+use Rattle.base.proofs.Lists.{replicate-fill}
 use lib.ListN.{replicate}
 use Rattle.snapshot.specs.declared.Outcome.the-variants.{Refused}
 use borrow.Author.Needs.{needs}

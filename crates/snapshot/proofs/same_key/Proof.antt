@@ -3,7 +3,7 @@ use Rattle.key.specs.Match.{matchAnswer}
 use Prim.Native.Nat.{ℕ}
 use mathlib.Core.List.{List}
 use Rattle.snapshot.proofs.Matches.{match-good, match-bad}
-use mathlib.Core.Path.{_≡_, refl, sym, ap, _∙_}
+use mathlib.Core.Path.{sym, ap, _∙_}
 use borrow.Author.Needs.{needs}
 use Rattle.snapshot.proofs.same_key.Statement.{statement}
 use Rattle.snapshot.proofs.same_key.Tie as tie

@@ -1,8 +1,8 @@
-use Rattle.snapshot.specs.Steps.{observed, leftOf, updatedOf, see, seen, nothing}
-use Rattle.snapshot.specs.Freshness.{daysOf, givesAny, updatedAt, used}
+use Rattle.snapshot.specs.Steps.{observed, see}
+use Rattle.snapshot.specs.Freshness.{daysOf, givesAny}
 use mir.ValLaws.{toZ-ofZ}
 use mir.Syntax.{w64}
-use mathlib.Core.Path.{_≡_, refl, sym, ap, _∙_}
+use mathlib.Core.Path.{_≡_, sym, ap, _∙_}
 use borrow.Author.Needs.{needs}
 use Rattle.snapshot.proofs.see.Statement.{statement}
 use Rattle.snapshot.proofs.see.Tie as tie

@@ -1,9 +1,8 @@
-use borrow.Author.Tests.{eq-eqb, ne-eqb, lt-leb, le-leb, lt-ltb, le-ltb}
-use Rattle.snapshot.proofs.Laws.{bound, named-fits, unfit-no-region, unfit, source-done, source-past, source-bad}
-use Rattle.snapshot.specs.declared.Outcome.the-variants.{Done, Refused}
-use Rattle.snapshot.specs.declared.Asked.{Asked}
+use borrow.Author.Tests.{lt-ltb, le-ltb}
+use Rattle.snapshot.proofs.Laws.{source-done, source-past, source-bad}
+use Rattle.snapshot.specs.declared.Outcome.the-variants.{Done}
 use Rattle.record.specs.declared.Source.{Source}
-use mathlib.Core.Path.{_≡_, refl, sym, ap, _∙_}
+use mathlib.Core.Path.{sym, ap, _∙_}
 use borrow.Author.Needs.{needs}
 use Rattle.snapshot.proofs.source.Statement.{statement}
 use Rattle.snapshot.proofs.source.Tie as tie

@@ -1,17 +1,12 @@
 use borrow.Author.Needs.{needs}
 use Rattle.snapshot.proofs.source_in.Statement.{statement}
 use Rattle.snapshot.proofs.source_in.Tie as tie
-use Rattle.snapshot.proofs.source_in.Reads as reads
-use Rattle.snapshot.proofs.source_in.Lts as lts
-use Rattle.bank.proofs.bank_of.Reads as bank-of-reads
-use Rattle.header.proofs.record_at.Reads as record-at-reads
-use Rattle.record.proofs.source_size.Reads as source-size-reads
 use Rattle.snapshot.specs.Source.{sourceIn}
 use Rattle.header.specs.Header.{recordAt}
 use native.Mathlib.Omega.{arith}
 use Prim.Native.Nat.{_+_, _*_}
-use Rattle.snapshot.proofs.Laws.{bound, named-fits, unfit-no-region, unfit, source-done, source-past, source-bad}
-use mathlib.Core.Path.{_≡_, refl, sym, ap, _∙_}
+use Rattle.snapshot.proofs.Laws.{bound}
+use mathlib.Core.Path.{_∙_}
 
 bank-of-requires : tie.Need-bank-of-requires
 bank-of-requires c κs = search needs

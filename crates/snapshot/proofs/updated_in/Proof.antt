@@ -3,16 +3,15 @@ use mir.Val.{toZ, ofZ}
 use borrow.Author.Needs.{needs}
 use Rattle.snapshot.specs.declared.Seen.{Seen}
 use Rattle.header.specs.Header.{recordAt}
-use Rattle.record.specs.Runs.{many}
+use Rattle.base.specs.Lists.{many}
 use Rattle.record.specs.Record.{sourceSize}
 use native.Mathlib.Omega.{arith}
-use Prim.Native.Nat.{ℕ, _+_, _*_, _-_, _≤_}
+use Prim.Native.Nat.{_+_, _*_, _-_, _≤_}
 use Rattle.snapshot.proofs.Ages.{seen-all, one-more, no-more}
-use Rattle.snapshot.specs.Steps.{observed, leftOf, updatedOf, see, seen, nothing}
-use Rattle.snapshot.specs.Freshness.{daysOf, givesAny, updatedAt, used}
+use Rattle.snapshot.specs.Steps.{see, seen, nothing}
 use mir.ValLaws.{toZ-ofZ}
 use mir.Syntax.{w64}
-use mathlib.Core.Path.{_≡_, refl, sym, ap, _∙_}
+use mathlib.Core.Path.{_≡_, sym, ap, _∙_}
 use Rattle.snapshot.proofs.updated_in.Statement.{statement}
 use Rattle.snapshot.proofs.updated_in.Tie as tie
 

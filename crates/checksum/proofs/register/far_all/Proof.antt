@@ -1,11 +1,10 @@
-use mathlib.Core.Path.{_≡_, refl, sym, ap, _∙_}
-use Prim.Native.Nat.{ℕ, _+_, _-_, _*_, _^_, _≤_}
+use mathlib.Core.Path.{_≡_, sym, ap, _∙_}
+use Prim.Native.Nat.{ℕ, _+_, _-_, _≤_}
 use native.Mathlib.Nat.{zero-add}
 use native.Mathlib.Omega.{arith}
 use borrow.Author.Needs.{needs}
-use lib.Bits.{bitXor}
 use lib.ListN.{length, drop}
-use Rattle.checksum.specs.Register.{steps, run}
+use Rattle.checksum.specs.Register.{run}
 use Rattle.checksum.specs.Pending.{five}
 use Rattle.checksum.proofs.Fold.{fold-at}
 use Rattle.checksum.proofs.register.far_all.Statement.{statement}

@@ -3,7 +3,7 @@ use mathlib.Core.Path.{_≡_, refl, ap, _∙_}
 use Prim.Native.Nat.{ℕ, _-_, _≤_, _<_}
 use native.Mathlib.Omega.{arith}
 use lib.ListN.{length, take}
-use Rattle.record.specs.Runs.{many}
+use Rattle.base.specs.Lists.{many}
 use Rattle.header.specs.Header.{recordAt}
 use Rattle.lower.specs.Lower.{pastEnd}
 use Rattle.commit.specs.Unchanged.{sameSource, sameEach}

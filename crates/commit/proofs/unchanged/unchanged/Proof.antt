@@ -1,7 +1,7 @@
 use mathlib.Core.Path.{sym, _∙_}
 use mathlib.Core.Bool.{_&&_}
 use native.Mathlib.Omega.{arith}
-use Rattle.header.proofs.Laws.{and-left}
+use Rattle.base.proofs.Bools.{and-left}
 use Rattle.writer.specs.State.{position, inRange}
 use Rattle.writer.proofs.Laws.{ranged, count-fits}
 use Rattle.commit.specs.Commit.{isIdle}

@@ -1,10 +1,9 @@
-use Rattle.export.specs.declared.bank_calls.FreshNumbers.{FreshNumbers}
 use Rattle.snapshot.specs.Freshness.{unknown}
 use Prim.Native.Nat.{ℕ}
-use Rattle.export.specs.Answers.{noBank, ofBank, ofValidated, ofLoaded, ofFresh, ofKey, ofMatch, ofTurn, refusalOf, outputOf}
+use Rattle.export.specs.Answers.{ofFresh}
 use mir.ValLaws.{toZ-ofZ}
 use mir.Syntax.{w64}
-use mathlib.Core.Path.{_≡_, refl, sym, ap, _∙_}
+use mathlib.Core.Path.{sym, ap, _∙_}
 use borrow.Author.Needs.{needs}
 use Rattle.export.proofs.bank_calls.of_fresh.Statement.{statement}
 use Rattle.export.proofs.bank_calls.of_fresh.Tie as tie

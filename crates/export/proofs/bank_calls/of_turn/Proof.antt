@@ -1,9 +1,7 @@
-use Rattle.export.specs.declared.bank_calls.TurnNumbers.{TurnNumbers}
 use Prim.Native.Nat.{ℕ}
 use Rattle.bank.specs.declared.Progress.{Progress}
-use Rattle.bank.specs.declared.Turn.{Turn}
-use Rattle.export.specs.Answers.{noBank, ofBank, ofValidated, ofLoaded, ofFresh, ofKey, ofMatch, ofTurn, refusalOf, outputOf}
-use mathlib.Core.Path.{_≡_, refl, sym, ap, _∙_}
+use Rattle.export.specs.Answers.{ofTurn}
+use mathlib.Core.Path.{sym, ap, _∙_}
 use borrow.Author.Needs.{needs}
 use Rattle.export.proofs.bank_calls.of_turn.Statement.{statement}
 use Rattle.export.proofs.bank_calls.of_turn.Tie as tie

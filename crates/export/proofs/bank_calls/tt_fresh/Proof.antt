@@ -1,8 +1,8 @@
 use Rattle.snapshot.specs.Freshness.{askedFresh}
-use Rattle.export.specs.Answers.{noBank, ofBank, ofValidated, ofLoaded, ofFresh, ofKey, ofMatch, ofTurn, refusalOf, outputOf}
+use Rattle.export.specs.Answers.{ofFresh}
 use mir.ValLaws.{toZ-ofZ}
 use mir.Syntax.{w64}
-use mathlib.Core.Path.{_≡_, refl, sym, ap, _∙_}
+use mathlib.Core.Path.{ap, _∙_}
 use borrow.Author.Needs.{needs}
 use Rattle.export.proofs.bank_calls.tt_fresh.Statement.{statement}
 use Rattle.export.proofs.bank_calls.tt_fresh.Tie as tie

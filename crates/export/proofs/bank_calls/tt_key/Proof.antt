@@ -1,8 +1,8 @@
 use Rattle.key.specs.Picks.{handed}
 use Rattle.key.specs.Layout.{after, keyOf}
 use Rattle.key.specs.declared.KeyAnswer.{KeyAnswer}
-use Rattle.export.specs.Answers.{noBank, ofBank, ofValidated, ofLoaded, ofFresh, ofKey, ofMatch, ofTurn, refusalOf, outputOf}
-use mathlib.Core.Path.{_≡_, refl, sym, ap, _∙_}
+use Rattle.export.specs.Answers.{ofKey}
+use mathlib.Core.Path.{ap, _∙_}
 use borrow.Author.Needs.{needs}
 use Rattle.export.proofs.bank_calls.tt_key.Statement.{statement}
 use Rattle.export.proofs.bank_calls.tt_key.Tie as tie

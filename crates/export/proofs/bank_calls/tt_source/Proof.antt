@@ -3,8 +3,8 @@ use Rattle.snapshot.specs.declared.Asked.{Asked}
 use Rattle.record.specs.Record.{sourceBytes}
 use Rattle.leaf.specs.Bytes.{written}
 use lib.ListN.{length}
-use Rattle.export.specs.Answers.{noBank, ofBank, ofValidated, ofLoaded, ofFresh, ofKey, ofMatch, ofTurn, refusalOf, outputOf}
-use mathlib.Core.Path.{_≡_, refl, sym, ap, _∙_}
+use Rattle.export.specs.Answers.{refusalOf, outputOf}
+use mathlib.Core.Path.{sym, ap, _∙_}
 use borrow.Author.Needs.{needs}
 use Rattle.export.proofs.bank_calls.tt_source.Statement.{statement}
 use Rattle.export.proofs.bank_calls.tt_source.Tie as tie

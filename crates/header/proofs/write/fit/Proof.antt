@@ -3,7 +3,7 @@ use mathlib.Core.Path.{_≡_, refl, ap, _∙_}
 use Prim.Native.Nat.{ℕ, _-_, _≤_, _<_, min}
 use native.Mathlib.Omega.{arith}
 use lib.ListN.{length, take}
-use Rattle.record.specs.Runs.{each}
+use Rattle.base.specs.Lists.{each}
 use Rattle.header.specs.Header.{sourceOk}
 use Rattle.header.proofs.Laws.{each-take}
 use Rattle.header.specs.WriteHeader.{textOk, isFit}

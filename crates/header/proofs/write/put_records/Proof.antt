@@ -6,8 +6,8 @@ use lib.ListN.{length, take, getD}
 use lib.Seq.{sets, length-sets}
 use Rattle.leaf.proofs.Laws.{written-sets}
 use Rattle.record.specs.Record.{sourceBytes}
-use Rattle.record.specs.Runs.{puts}
-use Rattle.record.proofs.Series.{puts-next, length-puts-next}
+use Rattle.base.specs.Lists.{puts}
+use Rattle.base.proofs.Lists.{puts-next, length-puts-next}
 use Rattle.record.proofs.Laws.{length-source}
 use Rattle.header.proofs.Writing.{noSource}
 use Rattle.header.proofs.write.put_records.Statement.{statement}

@@ -1,4 +1,4 @@
-use Rattle.record.proofs.Series.{replicate-fill}
+use Rattle.base.proofs.Lists.{replicate-fill}
 use Rattle.header.proofs.write.zeros.Statement.{statement}
 use Rattle.header.proofs.write.zeros.Tie as tie
 

@@ -1,7 +1,7 @@
 use mathlib.Core.Path.{_∙_, ap}
 use mathlib.Core.List.{List}
 use Prim.Native.Nat.{ℕ}
-use Rattle.leaf.specs.Bytes.{byte}
+use Rattle.base.specs.Lists.{byte}
 use Rattle.leaf.proofs.Steps.{word-of}
 use borrow.Author.Needs.{needs}
 use Rattle.leaf.proofs.bytes.get.Statement.{statement}

@@ -1,6 +1,4 @@
 -- `leaf::crc::crc32` meets its contract: the register started from the complement, and complemented. Assumes nothing.
-use mathlib.Core.Path.{_≡_}
-use Prim.Native.Nat.{_%_, _^_}
 use native.Mathlib.Nat.{mod-eq-of-lt}
 use borrow.Author.Needs.{needs}
 use Rattle.leaf.proofs.Shift.{crc32-run}

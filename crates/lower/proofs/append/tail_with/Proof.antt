@@ -4,7 +4,7 @@ use mathlib.Core.List.{List}
 use Prim.Native.Nat.{ℕ, _≤_, _-_}
 use lib.ListN.{length, take}
 use lib.Seq.{sets, take-all}
-use Rattle.record.proofs.Series.{bytes-more}
+use Rattle.base.proofs.Lists.{bytes-more}
 use borrow.Author.Needs.{needs}
 use Rattle.lower.proofs.append.tail_with.Statement.{statement}
 use Rattle.lower.proofs.append.tail_with.Tie as tie

@@ -1,6 +1,5 @@
 use mathlib.Core.Path.{sym, ap, _∙_}
 use native.Mathlib.Omega.{arith}
-use Rattle.writer.specs.declared.Answer.{Answer}
 use Rattle.writer.specs.Parts.{withSources, stepWith}
 use Rattle.lower.proofs.Laws.{took-none, took-some}
 use Rattle.lower.specs.declared.append.Took.{Took}

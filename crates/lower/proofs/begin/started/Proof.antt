@@ -4,7 +4,7 @@ use mir.ValLaws.{toZ-ofZ}
 use mir.Syntax.{w64}
 use lib.ListN.{replicate}
 use mathlib.Core.Bool.{false}
-use Rattle.record.proofs.Series.{replicate-fill}
+use Rattle.base.proofs.Lists.{replicate-fill}
 use Rattle.record.specs.Record.{noSource}
 use Rattle.lower.specs.Lower.{started}
 use Rattle.writer.specs.declared.Stage.the-variants.{Idle}

@@ -5,7 +5,7 @@ use Rattle.writer.proofs.Laws.{ranged, open-table, count-fits, position-fits}
 use Rattle.lower.specs.Lower.{mayTake}
 use Rattle.writer.specs.State.{did}
 use Rattle.writer.specs.State.{isOpen, inRange, position}
-use Rattle.header.proofs.Laws.{and-left, and-right}
+use Rattle.base.proofs.Bools.{and-left, and-right}
 use borrow.Author.Needs.{needs}
 use Rattle.lower.proofs.end.end.Statement.{statement}
 use Rattle.lower.proofs.end.end.Tie as tie

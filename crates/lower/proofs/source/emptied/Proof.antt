@@ -1,7 +1,7 @@
 use mir.ValLaws.{toZ-ofZ}
 use mir.Syntax.{w64}
 use Rattle.record.specs.Record.{noBlock}
-use Rattle.record.proofs.Series.{replicate-fill}
+use Rattle.base.proofs.Lists.{replicate-fill}
 use Rattle.lower.proofs.source.emptied.Statement.{statement}
 use Rattle.lower.proofs.source.emptied.Tie as tie
 

@@ -5,7 +5,7 @@ use Rattle.writer.proofs.Laws.{position-fits, ranged}
 use Rattle.lower.specs.Lower.{mayTake, mayBegin}
 use Rattle.writer.specs.State.{did}
 use Rattle.writer.specs.State.{inRange}
-use Rattle.header.proofs.Laws.{and-left}
+use Rattle.base.proofs.Bools.{and-left}
 use borrow.Author.Needs.{needs}
 use Rattle.lower.proofs.source.table.Statement.{statement}
 use Rattle.lower.proofs.source.table.Tie as tie

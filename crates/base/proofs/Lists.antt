@@ -3,12 +3,11 @@ use mathlib.Core.Path.{_≡_, refl, ap, _∙_, sym}
 use mathlib.Core.List.{List, [], _∷_, _++_, append-assoc, append-nil}
 use Prim.Native.Nat.{ℕ, suc, zero, _+_, _*_, _-_, _<_, _≤_}
 use native.Mathlib.Omega.{arith}
-use native.Mathlib.Nat.{add-zero, zero-add, suc-add, suc-mul, zero-sub, sub-zero, zero-mul, mul-comm}
+use native.Mathlib.Nat.{add-zero, zero-add, suc-add, suc-mul, zero-sub, zero-mul}
 use native.Mathlib.Numerals.{add-one, unary-clauses}
 use lib.ListN.{length, set, getD, drop, take, length-append, length-drop, replicate}
-use lib.Seq.{sets, sets-eq, take-at, drop-at, take-suc, length-take-le, set-at, drop-cons, append-snoc, getD-drop}
-use Rattle.leaf.specs.Bytes.{byte, word, time}
-use Rattle.record.specs.Runs.{many, puts, fill}
+use lib.Seq.{sets, sets-eq, take-at, drop-at, take-suc, length-take-le, set-at, drop-cons, append-snoc}
+use Rattle.base.specs.Lists.{many, puts, fill}
 
 module _ {A : Type 0} (f : List ℕ → ℕ → A) (step : ℕ) (l : List ℕ) where
   pub length-many : (at n : ℕ) → length (many f step l at n) ≡ n

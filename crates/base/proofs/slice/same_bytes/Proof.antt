@@ -3,11 +3,11 @@ use mathlib.Core.Bool.{false}
 use Prim.Native.Nat.{_-_, _≤_}
 use native.Mathlib.Omega.{arith}
 use lib.ListN.{length, drop}
 use Rattle.base.specs.Number.{pick}
-use Rattle.key.specs.Match.{same}
-use Rattle.key.proofs.Stretch.{bytes-next, bytes-end, other-length}
-use Rattle.due.proofs.same_bytes.Statement.{statement}
-use Rattle.due.proofs.same_bytes.Tie as tie
+use Rattle.base.specs.Same.{same}
+use Rattle.base.proofs.Same.{bytes-next, bytes-end, other-length}
+use Rattle.base.proofs.slice.same_bytes.Statement.{statement}
+use Rattle.base.proofs.slice.same_bytes.Tie as tie
 
 abbrev Inv-loop : tie.InvT-loop
 Inv-loop a b differ₀ i₀ differ i = (i ≤ length a) × (same a b ≡ pick differ false (same (drop i a) (drop i b)))

@@ -1,7 +1,12 @@
--- Runs of things of one size in a list of bytes, and bytes in a row.
+-- Lists of bytes: one byte, runs of things of one size, bytes joined and repeated.
 use mathlib.Core.Bool.{Bool, true, _&&_}
 use mathlib.Core.List.{List, [], _∷_, _++_}
 use Prim.Native.Nat.{ℕ, suc, zero, _+_}
+use lib.ListN.{getD}
+
+-- the byte at an offset; past the end it reads 0, so that every reading is total
+abbrev pub byte : List ℕ → ℕ → ℕ
+byte l at = getD l at 0
 
 -- n things, each read by f, step bytes apart, the first at a place
 unfoldable pub many : {A : Type 0} → (List ℕ → ℕ → A) → ℕ → List ℕ → ℕ → ℕ → List A

@@ -1,0 +1,24 @@
+// The region: two banks, each a header sector and data. Its sizes, and a bank's bytes.
+ghost use mathlib.Core.Path.{_≡_};
+ghost use Rattle.region.specs.Region.{bankOf};
+use base::slice::part;
+
+pub const SECTOR_SIZE: usize = 4096;
+// The most data bytes of a bank.
+pub const CAPACITY: usize = 487424;
+
+pub const BANK_SIZE: usize = SECTOR_SIZE + CAPACITY;
+
+pub const REGION_SIZE: usize = 2 * BANK_SIZE;
+
+// The same as 32-bit numbers.
+pub const SECTOR_SIZE_32: u32 = SECTOR_SIZE as u32;
+
+pub const CAPACITY_32: u32 = CAPACITY as u32;
+
+// A bank's bytes.
+pub fn bank_of(region: &[u8], number: u32) -> &[u8]
+    ensures { λ r. ⌜ now r ≡ bankOf (now (region .entry)) number ⌝ }
+{
+    part(region, number as usize * BANK_SIZE, BANK_SIZE)
+}
