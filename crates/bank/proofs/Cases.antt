@@ -11,8 +11,8 @@ use Rattle.header.specs.declared.Bank.{Bank}
 use Rattle.header.specs.declared.Validated.the-variants.{Good, Refused as Bad}
 use Rattle.region.specs.Region.{regionSize, capacity, bankOf}
 use Rattle.header.specs.Header.{headerOf}
-use Rattle.bank.specs.declared.Checking.{Checking}
-use Rattle.bank.specs.declared.Progress.the-variants.{Hashed, Yes, Refused}
+use Rattle.bank.specs.declared.turns.Checking.{Checking}
+use Rattle.bank.specs.declared.turns.Progress.the-variants.{Hashed, Yes, Refused}
 use Rattle.bank.specs.Bank.{named}
 use Rattle.bank.specs.Turns.{stays, fresh, begin, started, hashed, onBank, thenTurn, turned}
 

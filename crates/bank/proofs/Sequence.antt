@@ -19,9 +19,9 @@ use Rattle.header.specs.declared.Validated.the-variants.{Good, Refused as Bad}
 use Rattle.region.specs.Region.{regionSize, capacity, bankOf, dataOf}
 use Rattle.header.specs.Header.{headerOf}
 use Rattle.header.proofs.Laws.{no-refusal, passed, span-length}
-use Rattle.bank.specs.declared.Checking.{Checking}
-use Rattle.bank.specs.declared.Progress.the-variants.{Hashed, Yes, Refused}
-use Rattle.bank.specs.declared.Turn.{Turn}
+use Rattle.bank.specs.declared.turns.Checking.{Checking}
+use Rattle.bank.specs.declared.turns.Progress.the-variants.{Hashed, Yes, Refused}
+use Rattle.bank.specs.declared.turns.Turn.{Turn}
 use Rattle.bank.specs.Bank.{named, validated, thenData, dataOk, dataIn}
 use Rattle.bank.specs.Turns.{stays, fresh, verdict, hashed, onBank, turned, after, total, reported, asVerdict, Divided, TurnsValidate}
 use Rattle.bank.proofs.Laws.{no-region, no-bank, named-is}

@@ -13,10 +13,10 @@ use Rattle.header.specs.declared.Validated.{Validated}
 use Rattle.header.specs.declared.Validated.the-variants.{Good, Refused as Bad}
 use Rattle.region.specs.Region.{regionSize, capacity, bankOf}
 use Rattle.header.specs.Header.{headerOf}
-use Rattle.bank.specs.declared.Checking.{Checking}
-use Rattle.bank.specs.declared.Progress.{Progress}
-use Rattle.bank.specs.declared.Progress.the-variants.{Hashed, Yes, Refused}
-use Rattle.bank.specs.declared.Turn.{Turn}
+use Rattle.bank.specs.declared.turns.Checking.{Checking}
+use Rattle.bank.specs.declared.turns.Progress.{Progress}
+use Rattle.bank.specs.declared.turns.Progress.the-variants.{Hashed, Yes, Refused}
+use Rattle.bank.specs.declared.turns.Turn.{Turn}
 use Rattle.bank.specs.Bank.{named, validated, dataIn}
 
 -- a refusal, and a verdict, give back the state

@@ -18,14 +18,14 @@ use Rattle.header.specs.declared.Validated.{Validated}
 use Rattle.header.specs.declared.Validated.the-variants.{Good, Refused as Bad}
 use Rattle.bank.specs.declared.Loaded.{Loaded}
 use Rattle.bank.specs.declared.Loaded.the-variants.{Found, Nothing, Refused as NotRead}
-use Rattle.bank.specs.declared.Progress.{Progress}
-use Rattle.bank.specs.declared.Progress.the-variants.{Hashed, Yes, Refused as NoTurn}
-use Rattle.bank.specs.declared.Turn.{Turn}
-use Rattle.snapshot.specs.declared.Asked.{Asked}
+use Rattle.bank.specs.declared.turns.Progress.{Progress}
+use Rattle.bank.specs.declared.turns.Progress.the-variants.{Hashed, Yes, Refused as NoTurn}
+use Rattle.bank.specs.declared.turns.Turn.{Turn}
+use Rattle.snapshot.specs.declared.source.Asked.{Asked}
 use Rattle.snapshot.specs.declared.Outcome.{Outcome}
 use Rattle.snapshot.specs.declared.Outcome.the-variants.{Done, Refused as NoSource}
-use Rattle.snapshot.specs.declared.FreshAnswer.{FreshAnswer}
-use Rattle.snapshot.specs.declared.FreshAnswer.the-variants.{Fresh, Refused as NotFresh}
+use Rattle.snapshot.specs.declared.freshness.FreshAnswer.{FreshAnswer}
+use Rattle.snapshot.specs.declared.freshness.FreshAnswer.the-variants.{Fresh, Refused as NotFresh}
 use Rattle.snapshot.specs.Freshness.{unknown}
 use Rattle.rowread.specs.declared.ReadAnswer.{ReadAnswer}
 use Rattle.rowread.specs.declared.ReadAnswer.the-variants.{Stored, End, Refused as NoRow}

@@ -15,20 +15,20 @@ ghost use Rattle.snapshot.specs.KeyMatch as Matches;
 ghost use Rattle.rowread.specs.Stored as Stored;
 ghost use Rattle.snapshot.specs.Rows as Rows;
 ghost use Rattle.export.specs.Answers as Answers;
-use bank::Checking;
 use bank::Loaded;
-use bank::Progress;
-use bank::Turn;
+use bank::turns::Checking;
+use bank::turns::Progress;
+use bank::turns::Turn;
 use header::Bank;
 use header::Validated;
 use key::KeyAnswer;
 use key::SameKey;
 use refusal::Refusal;
 use rowread::ReadAnswer;
-use snapshot::Day;
-use snapshot::Days;
-use snapshot::FreshAnswer;
 use snapshot::Outcome;
+use snapshot::freshness::Day;
+use snapshot::freshness::Days;
+use snapshot::freshness::FreshAnswer;
 
 // A bank's numbers, if found; `key` is the key's length.
 #[repr(C)]
@@ -272,7 +272,7 @@ pub extern "C" fn tt_load(region: &[u8]) -> BankNumbers
 pub extern "C" fn tt_check_start(region: &[u8], bank: u32) -> TurnNumbers
     ensures { λ r. ⌜ r ≡ Answers.ofTurn (Turns.started (now (region .entry)) bank) ⌝ }
 {
-    of_turn(bank::check_start(region, bank))
+    of_turn(bank::turns::check_start(region, bank))
 }
 
 // One turn of at most n bytes from the state given; with nothing left it gives the verdict, 1 or refusal 7.
@@ -286,7 +286,7 @@ pub extern "C" fn tt_check_turn(
 ) -> TurnNumbers
     ensures { λ r. ⌜ r ≡ Answers.ofTurn (Turns.turned (now (region .entry)) (record { bank = bank; position = position; crc = crc }) n) ⌝ }
 {
-    of_turn(bank::check_turn(
+    of_turn(bank::turns::check_turn(
         region,
         Checking {
             bank,
@@ -322,7 +322,7 @@ pub extern "C" fn tt_same_key(
 ) -> MatchNumbers
     ensures { λ r. ⌜ r ≡ Answers.ofMatch (Matches.askedKey (now (region .entry)) bank (now (identity .entry)) (now (texts .entry)) (now (lengths .entry))) ⌝ }
 {
-    of_match(snapshot::same_key(region, bank, identity, texts, lengths))
+    of_match(snapshot::keymatch::same_key(region, bank, identity, texts, lengths))
 }
 
 fn day(date: u32, wanted: bool) -> Day
@@ -351,7 +351,7 @@ pub extern "C" fn tt_fresh(
         second: day(day1, wanted1),
         third: day(day2, wanted2),
     };
-    of_fresh(snapshot::fresh(region, bank, days, at))
+    of_fresh(snapshot::freshness::fresh(region, bank, days, at))
 }
 
 fn fits(room: usize) -> u32
@@ -367,7 +367,7 @@ pub extern "C" fn tt_source(region: &[u8], bank: u32, index: u32, out: &mut [u8]
     ensures { λ _. ⌜ now (out .exit) ≡ Answers.outputOf (now (out .entry)) (Sources.askedSource (now (region .entry)) bank index) (Sources.askedSource (now (region .entry)) bank index .outcome) ⌝ }
 {
     let small = fits(out.len());
-    let a = snapshot::source(region, bank, index);
+    let a = snapshot::source::source(region, bank, index);
     let o = a.outcome;
     match o {
         Outcome::Done => {

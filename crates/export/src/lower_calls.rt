@@ -49,7 +49,7 @@ pub extern "C" fn tt_update_source(state: State, bytes: &[u8]) -> UpdateStep
 pub extern "C" fn tt_update_table(state: State, table: u32) -> UpdateStep
     ensures { λ x. ⌜ x ≡ Answers.after (Lower.tableStep (writerOf state) table) state ⌝ }
 {
-    let s = lower::source::table(writer_of(state), table);
+    let s = lower::table::table(writer_of(state), table);
     after(s, state)
 }
 
@@ -75,7 +75,7 @@ pub extern "C" fn tt_update_bytes(state: State, bytes: &[u8]) -> UpdateStep
 pub extern "C" fn tt_update_end(state: State) -> UpdateStep
     ensures { λ x. ⌜ x ≡ Answers.after (Lower.endStep (writerOf state)) state ⌝ }
 {
-    let s = lower::end::end(writer_of(state));
+    let s = lower::table::end(writer_of(state));
     after(s, state)
 }
 

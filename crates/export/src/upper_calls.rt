@@ -49,7 +49,7 @@ pub extern "C" fn tt_upper_table(region: &mut [u8], state: State, table: u32) ->
     ensures { λ x. ⌜ x ≡ Answers.after (Upper.upperStep (now (region .entry)) (writerOf state) (Upper.tableWithNames table)) state ⌝ }
     ensures { λ _. ⌜ now (region .exit) ≡ Upper.upperRegion (now (region .entry)) (writerOf state) (Upper.tableWithNames table) ⌝ }
 {
-    let s = upper::rows::table(writer_of(state), region, table);
+    let s = upper::table::table(writer_of(state), region, table);
     after(s, state)
 }
 
@@ -75,7 +75,7 @@ pub extern "C" fn tt_upper_end(region: &mut [u8], state: State) -> UpdateStep
     ensures { λ x. ⌜ x ≡ Answers.after (Upper.upperStep (now (region .entry)) (writerOf state) Upper.tableEnd) state ⌝ }
     ensures { λ _. ⌜ now (region .exit) ≡ Upper.upperRegion (now (region .entry)) (writerOf state) Upper.tableEnd ⌝ }
 {
-    let s = upper::source::end(writer_of(state), region);
+    let s = upper::table::end(writer_of(state), region);
     after(s, state)
 }
 
@@ -85,6 +85,6 @@ pub extern "C" fn tt_upper_close(region: &mut [u8], state: State) -> UpdateStep
     ensures { λ x. ⌜ x ≡ Answers.after (Upper.upperStep (now (region .entry)) (writerOf state) Upper.closing) state ⌝ }
     ensures { λ _. ⌜ now (region .exit) ≡ Upper.upperRegion (now (region .entry)) (writerOf state) Upper.closing ⌝ }
 {
-    let s = upper::source::close(writer_of(state), region);
+    let s = upper::begin::close(writer_of(state), region);
     after(s, state)
 }

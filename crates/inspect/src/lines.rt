@@ -17,7 +17,7 @@ use header::Validated;
 use key::SameKey;
 use record::Block;
 use record::Source;
-use snapshot::FreshAnswer;
+use snapshot::freshness::FreshAnswer;
 use std::num::wrapping_add_usize;
 
 fn good(b: Bank) {
@@ -119,7 +119,7 @@ fn source_lines(i: u32, s: Source) {
 }
 
 fn source_of(region: &[u8], number: u32, i: u32) {
-    let a = snapshot::source(region, number, i);
+    let a = snapshot::source::source(region, number, i);
     let s = a.source;
     source_lines(i, s);
 }
@@ -134,7 +134,7 @@ fn sources(region: &[u8], b: Bank) {
 
 fn fresh(region: &[u8], number: u32, o: Options) {
     say(b"fresh: ");
-    let f = snapshot::fresh(region, number, o.days, o.now);
+    let f = snapshot::freshness::fresh(region, number, o.days, o.now);
     match f {
         FreshAnswer::Fresh(t) => {
             time_field(b"checked ", t.checked);
@@ -162,7 +162,7 @@ fn same_key(
     lengths: &[u32],
 ) {
     say(b"match: ");
-    let k = snapshot::same_key(
+    let k = snapshot::keymatch::same_key(
         region,
         number,
         identity,

@@ -10,8 +10,8 @@ use crate::text::set;
 use crate::text::signed;
 use base::slice::part;
 use leaf::bytes::get8;
-use snapshot::Day;
-use snapshot::Days;
+use snapshot::freshness::Day;
+use snapshot::freshness::Days;
 use std::num::wrapping_add_usize;
 
 // What the arguments so far come to: go on, help, or what is wrong.

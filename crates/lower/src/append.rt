@@ -11,7 +11,7 @@ ghost use Rattle.lower.specs.Lower as Lower;
 ghost use Rattle.lower.specs.Took.{partsTook, stepTook};
 use crate::may_take_parts;
 use crate::room;
-use leaf::both::crc32_both;
+use leaf::crc::crc32_both;
 use refusal::Refusal;
 use writer::Answer;
 use writer::Parts;

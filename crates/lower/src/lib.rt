@@ -1,8 +1,8 @@
 // What the lower layer's calls test: whether a state takes bytes, whether a table is open or may begin, and the tail's room.
 pub mod append;
 pub mod begin;
-pub mod end;
 pub mod source;
+pub mod table;
 
 ghost use mathlib.Core.Path.{_≡_};
 ghost use mathlib.Core.List.{List};

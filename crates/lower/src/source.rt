@@ -1,10 +1,8 @@
 // The lower layer's calls that begin a source and a table.
 ghost use mathlib.Core.Path.{_≡_};
-ghost use Prim.Native.Nat.{_≤_, _<_};
-ghost use Rattle.writer.specs.State as State;
+ghost use Prim.Native.Nat.{_<_};
 ghost use Rattle.lower.specs.Lower as Lower;
 use crate::is_open;
-use crate::may_begin;
 use crate::may_take;
 use record::Block;
 use record::Source;
@@ -61,34 +59,4 @@ pub fn source(w: Writer, s: Source) -> Step
         return stays(w, Refusal::Full);
     }
     stays(w, Refusal::Turn)
-}
-
-fn with_table(w: Writer, table: u32) -> Writer
-    requires { ⌜ (table ≤ 7) × (State.position (w .taken) ≤ 487424) ⌝ }
-    ensures { λ r. ⌜ r ≡ Lower.withTable w table ⌝ }
-{
-    let x = w.tables;
-    let t = w.taken;
-    let tables = Tables {
-        count: x.count,
-        table,
-        start: t.written + t.fill,
-        crc: 0,
-        begun: x.begun | (1 << table),
-    };
-    Writer { tables, ..w }
-}
-
-// Begins a table of the last source.
-pub fn table(w: Writer, table: u32) -> Step
-    ensures { λ r. ⌜ r ≡ Lower.tableStep w table ⌝ }
-{
-    if table <= 7 {
-        if may_take(w) & may_begin(w.tables, table) {
-            let v = with_table(w, table);
-            return did(v);
-        }
-        return stays(w, Refusal::Turn);
-    }
-    stays(w, Refusal::Argument)
 }

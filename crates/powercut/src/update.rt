@@ -148,7 +148,7 @@ fn take(u: Update, bytes: &[u8]) -> Update {
 
 fn start_table(u: Update) -> Update {
     let w = u.writer;
-    let s = lower::source::table(w, 0);
+    let s = lower::table::table(w, 0);
     let writer = s.writer;
     let a = s.answer;
     Update {
@@ -162,7 +162,7 @@ fn start_table(u: Update) -> Update {
 
 fn close(u: Update) -> Update {
     let w = u.writer;
-    let s = lower::end::end(w);
+    let s = lower::table::end(w);
     let ended = s.writer;
     let a = s.answer;
     let t = lower::begin::close(ended);

@@ -10,20 +10,20 @@ use crate::text::signed;
 use crate::text::unhex;
 use crate::text::word;
 use crate::text::words;
-use bank::Checking;
 use bank::Loaded;
-use bank::Progress;
-use bank::Turn;
+use bank::turns::Checking;
+use bank::turns::Progress;
+use bank::turns::Turn;
 use base::number::wide;
 use header::Bank;
 use header::Validated;
 use key::SameKey;
 use record::Source;
 use refusal::Refusal;
-use snapshot::Day;
-use snapshot::Days;
-use snapshot::FreshAnswer;
 use snapshot::Outcome;
+use snapshot::freshness::Day;
+use snapshot::freshness::Days;
+use snapshot::freshness::FreshAnswer;
 
 // Whether word k is a number.
 fn is(a: &[u8], k: u8, n: u32) -> bool {
@@ -83,7 +83,7 @@ fn is_record(a: &[u8], s: Source) -> bool {
 
 // The record at an index among all sources of a bank.
 fn among(region: &[u8], number: u32, i: u32) -> Source {
-    let x = snapshot::sources(region, number);
+    let x = snapshot::source::sources(region, number);
     let all = x.sources;
     match i {
         0 => all[0],
@@ -97,7 +97,7 @@ pub fn source(l: &[u8], region: &[u8]) -> bool {
     let a = rest(l, 3);
     let n = number32(l, word(l, 1));
     let i = number32(l, word(l, 2));
-    let x = snapshot::source(region, n, i);
+    let x = snapshot::source::source(region, n, i);
     let s = x.source;
     let outcome = x.outcome;
     match outcome {
@@ -133,7 +133,7 @@ fn is_times(a: &[u8], checked: i64, updated: i64) -> bool {
 
 pub fn fresh(l: &[u8], region: &[u8]) -> bool {
     let a = rest(l, 7);
-    let x = snapshot::fresh(
+    let x = snapshot::freshness::fresh(
         region,
         number32(l, word(l, 1)),
         days(l),
@@ -163,7 +163,7 @@ fn is_turn(a: &[u8], t: Turn) -> bool {
 pub fn check_start(l: &[u8], region: &[u8]) -> bool {
     is_turn(
         rest(l, 2),
-        bank::check_start(region, number32(l, word(l, 1))),
+        bank::turns::check_start(region, number32(l, word(l, 1))),
     )
 }
 
@@ -175,7 +175,7 @@ pub fn check_turn(l: &[u8], region: &[u8]) -> bool {
     };
     is_turn(
         rest(l, 5),
-        bank::check_turn(region, s, number32(l, word(l, 4))),
+        bank::turns::check_turn(region, s, number32(l, word(l, 4))),
     )
 }
 
@@ -188,7 +188,7 @@ fn matches(l: &[u8], region: &[u8], identity: &[u8], texts: &[u8]) -> bool {
     let mut list = [0u32; 256];
     let n = lengths(l, 4, &mut list);
     let a = rest(l, 5);
-    let x = snapshot::same_key(
+    let x = snapshot::keymatch::same_key(
         region,
         number32(l, word(l, 1)),
         identity,

@@ -8,9 +8,9 @@ use lib.IntN.{ℤ}
 use Rattle.base.specs.Number.{pick}
 use Rattle.record.specs.declared.Source.{Source}
 use Rattle.base.specs.Lists.{many, each}
-use Rattle.snapshot.specs.declared.Days.{Days}
-use Rattle.snapshot.specs.declared.SourceTimes.{SourceTimes}
-use Rattle.snapshot.specs.declared.Seen.{Seen}
+use Rattle.snapshot.specs.declared.freshness.Days.{Days}
+use Rattle.snapshot.specs.declared.freshness.SourceTimes.{SourceTimes}
+use Rattle.snapshot.specs.declared.freshness.Seen.{Seen}
 use Rattle.snapshot.specs.Freshness.{unknown, daysOf, givesAny, left, used, known, older, oldest, updatedAt}
 use Rattle.snapshot.specs.Steps.{leftOf, observed, updatedOf, see, seen, nothing}
 

@@ -19,8 +19,8 @@ use Rattle.region.specs.Region.{regionSize, bankOf}
 use Rattle.header.proofs.Laws.{span-count, passed, no-refusal}
 use Rattle.bank.specs.Bank.{named}
 use Rattle.bank.proofs.Sequence.{named-passes}
-use Rattle.snapshot.specs.declared.Days.{Days}
-use Rattle.snapshot.specs.declared.FreshAnswer.the-variants.{Fresh, Refused}
+use Rattle.snapshot.specs.declared.freshness.Days.{Days}
+use Rattle.snapshot.specs.declared.freshness.FreshAnswer.the-variants.{Fresh, Refused}
 use Rattle.snapshot.specs.declared.Outcome.the-variants.{Done}
 use Rattle.snapshot.specs.Source.{sourceIn, refuse, thenSource, askedSource, sourcesIn, refuseAll, thenSources, askedSources}
 use Rattle.snapshot.specs.Freshness.{namedIf, daysOf, isDay, freshness, thenFresh, askedFresh}

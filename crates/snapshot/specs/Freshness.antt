@@ -17,11 +17,11 @@ use Rattle.header.specs.declared.Validated.the-variants.{Good, Refused as Bad}
 use Rattle.region.specs.Region.{regionSize, bankOf}
 use Rattle.header.specs.Header.{recordsOf}
 use Rattle.bank.specs.Bank.{named}
-use Rattle.snapshot.specs.declared.Day.{Day}
-use Rattle.snapshot.specs.declared.Days.{Days}
-use Rattle.snapshot.specs.declared.Freshness.{Freshness}
-use Rattle.snapshot.specs.declared.FreshAnswer.{FreshAnswer}
-use Rattle.snapshot.specs.declared.FreshAnswer.the-variants.{Fresh, Refused}
+use Rattle.snapshot.specs.declared.freshness.Day.{Day}
+use Rattle.snapshot.specs.declared.freshness.Days.{Days}
+use Rattle.snapshot.specs.declared.freshness.Freshness.{Freshness}
+use Rattle.snapshot.specs.declared.freshness.FreshAnswer.{FreshAnswer}
+use Rattle.snapshot.specs.declared.freshness.FreshAnswer.the-variants.{Fresh, Refused}
 
 -- a call's further arguments are tested with the bank's number: 1, 2, then 3 to 6
 unfoldable pub namedIf : Bool → List ℕ → ℕ → Validated

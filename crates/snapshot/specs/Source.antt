@@ -15,8 +15,8 @@ use Rattle.region.specs.Region.{bankOf}
 use Rattle.header.specs.Header.{recordAt, recordsOf}
 use Rattle.bank.specs.Bank.{named}
 use Rattle.snapshot.specs.declared.Outcome.the-variants.{Done, Refused}
-use Rattle.snapshot.specs.declared.Asked.{Asked}
-use Rattle.snapshot.specs.declared.Records.{Records}
+use Rattle.snapshot.specs.declared.source.Asked.{Asked}
+use Rattle.snapshot.specs.declared.source.Records.{Records}
 
 -- the record at an index of a bank
 unfoldable pub sourceIn : List ℕ → Bank → ℕ → Source

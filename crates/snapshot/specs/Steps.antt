@@ -4,9 +4,9 @@ use mathlib.Core.List.{List, [], _∷_}
 use lib.IntN.{ℤ, pos}
 use Rattle.base.specs.Number.{pick}
 use Rattle.record.specs.declared.Source.{Source}
-use Rattle.snapshot.specs.declared.Days.{Days}
-use Rattle.snapshot.specs.declared.SourceTimes.{SourceTimes}
-use Rattle.snapshot.specs.declared.Seen.{Seen}
+use Rattle.snapshot.specs.declared.freshness.Days.{Days}
+use Rattle.snapshot.specs.declared.freshness.SourceTimes.{SourceTimes}
+use Rattle.snapshot.specs.declared.freshness.Seen.{Seen}
 use Rattle.snapshot.specs.Freshness.{unknown, daysOf, leaves, givesAny, known, older}
 
 -- the days still wanted, as a struct

@@ -13,12 +13,16 @@ ghost use Rattle.upper.specs.Upper as Upper;
 use bank::Loaded;
 use key::KeyAnswer;
 use lower::begin::started;
+use lower::is_open;
+use lower::may_take;
 use refusal::Refusal;
 use run::feed;
+use run::settle;
 use writer::Answer;
 use writer::Step;
 use writer::Writer;
 use writer::did;
+use writer::stays;
 
 // Feeds the identity's part of the key.
 fn feed_prefix(w: Writer, region: &mut [u8], identity: &[u8]) -> Writer
@@ -95,4 +99,27 @@ pub fn begin(
         return begin_in(region, comparing, at, identity, texts, lengths);
     }
     refuse(comparing, at, Refusal::Region)
+}
+
+// The run of a closing.
+fn run_close(w: Writer, region: &mut [u8]) -> Writer
+    ensures { λ r. ⌜ (r ≡ ranWriter (now (region .entry)) w (Upper.runOf Upper.closing)) × (now (region .exit) ≡ ranRegion (now (region .entry)) w (Upper.runOf Upper.closing)) ⌝ }
+{
+    let v = settle(w, region);
+    let k = lower::begin::close(v);
+    settle(k.writer, region)
+}
+
+// Closes the update.
+pub fn close(w: Writer, region: &mut [u8]) -> Step
+    ensures { λ r. ⌜ (r ≡ Upper.upperStep (now (region .entry)) w Upper.closing) × (now (region .exit) ≡ Upper.upperRegion (now (region .entry)) w Upper.closing) ⌝ }
+{
+    if region.len() == 983040 {
+        if may_take(w) & !is_open(w.tables) {
+            let v = run_close(w, region);
+            return did(v);
+        }
+        return stays(w, Refusal::Turn);
+    }
+    stays(w, Refusal::Region)
 }

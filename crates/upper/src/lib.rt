@@ -2,6 +2,7 @@
 pub mod begin;
 pub mod rows;
 pub mod source;
+pub mod table;
 
 ghost use mathlib.Core.Path.{_≡_};
 ghost use Prim.Native.Nat.{_+_};

@@ -2,88 +2,27 @@
 ghost use mathlib.Core.Path.{_≡_};
 ghost use mathlib.Core.Bool.{true};
 ghost use Prim.Native.Nat.{_≤_};
-ghost use mathlib.Core.List.{List, _∷_, _++_};
+ghost use mathlib.Core.List.{List, _++_};
 ghost use lib.ListN.{length, take};
-ghost use Rattle.row.specs.Columns.{namesLine};
 ghost use Rattle.record.specs.declared.Source.{Source};
 ghost use Rattle.writer.specs.Parts.{withSources, stepWith};
-ghost use Rattle.run.specs.Run as Run;
-ghost use Rattle.run.specs.Run.{ranWriter, ranRegion};
 ghost use Rattle.run.specs.Feed as Feed;
 ghost use Rattle.run.specs.Parts as Partly;
 ghost use Rattle.upper.specs.Upper as Upper;
 use crate::fits;
 use lower::is_open;
-use lower::may_begin;
-use lower::may_take;
 use lower::may_take_parts;
 use refusal::Refusal;
 use row::RowAnswer;
 use run::feed_line_parts;
-use run::settle;
-use run::settle_feed;
 use writer::Parts;
 use writer::PartsStep;
 use writer::Step;
 use writer::Writer;
-use writer::did;
 use writer::parts_did;
 use writer::parts_of;
 use writer::parts_stay;
-use writer::stays;
 use writer::step_with;
-
-// A table's names line stands in the first n bytes.
-struct Line {
-    n: usize,
-    bytes: [u8; 128],
-}
-
-fn names(table: u32) -> Line
-    requires { ⌜ table ≤ 7 ⌝ }
-    ensures { λ r. ⌜ (r .n ≤ 128) × (r .n ≡ length (namesLine table)) × (take (r .n) (r .bytes) ≡ namesLine table) ⌝ }
-{
-    let mut bytes = [0u8; 128];
-    let a = row::names_line(table, &mut bytes);
-    match a {
-        RowAnswer::Written(n) => Line { n, bytes },
-        RowAnswer::Refused(_) => Line { n: 0, bytes },
-    }
-}
-
-// The run of a table's beginning, its names line in the first n bytes.
-fn run_table(w: Writer, region: &mut [u8], table: u32, names: [u8; 128], n: usize) -> Writer
-    requires { ⌜ n ≤ 128 ⌝ }
-    ensures { λ r. ⌜ (r ≡ ranWriter (now (region .entry)) w (Feed.dues ++ (Run.table table ∷ (Feed.dues ++ Feed.feed (take n names))))) × (now (region .exit) ≡ ranRegion (now (region .entry)) w (Feed.dues ++ (Run.table table ∷ (Feed.dues ++ Feed.feed (take n names))))) ⌝ }
-{
-    let line = &names[0..n];
-    let v = settle(w, region);
-    let t = lower::source::table(v, table);
-    settle_feed(t.writer, region, line)
-}
-
-// Begins a table, and feeds its names line.
-pub fn table(w: Writer, region: &mut [u8], table: u32) -> Step
-    ensures { λ r. ⌜ (r ≡ Upper.upperStep (now (region .entry)) w (Upper.tableWithNames table)) × (now (region .exit) ≡ Upper.upperRegion (now (region .entry)) w (Upper.tableWithNames table)) ⌝ }
-{
-    if region.len() == 983040 {
-        if table <= 7 {
-            if may_take(w) & may_begin(w.tables, table) {
-                let l = names(table);
-                let n = l.n;
-                let bytes = l.bytes;
-                if fits(w.taken, n) {
-                    let v = run_table(w, region, table, bytes, n);
-                    return did(v);
-                }
-                return stays(w, Refusal::Full);
-            }
-            return stays(w, Refusal::Turn);
-        }
-        return stays(w, Refusal::Argument);
-    }
-    stays(w, Refusal::Region)
-}
 
 // The run of a row, which stands in the first n bytes.
 fn run_row(p: Parts, region: &mut [u8], bytes: &[u8], n: usize) -> Parts

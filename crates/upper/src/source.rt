@@ -17,52 +17,6 @@ use writer::Writer;
 use writer::did;
 use writer::stays;
 
-// The run of a table's end.
-fn run_end(w: Writer, region: &mut [u8]) -> Writer
-    ensures { λ r. ⌜ (r ≡ ranWriter (now (region .entry)) w (Upper.runOf Upper.tableEnd)) × (now (region .exit) ≡ ranRegion (now (region .entry)) w (Upper.runOf Upper.tableEnd)) ⌝ }
-{
-    let v = settle(w, region);
-    let e = lower::end::end(v);
-    settle(e.writer, region)
-}
-
-// Ends the open table.
-pub fn end(w: Writer, region: &mut [u8]) -> Step
-    ensures { λ r. ⌜ (r ≡ Upper.upperStep (now (region .entry)) w Upper.tableEnd) × (now (region .exit) ≡ Upper.upperRegion (now (region .entry)) w Upper.tableEnd) ⌝ }
-{
-    if region.len() == 983040 {
-        if may_take(w) & is_open(w.tables) {
-            let v = run_end(w, region);
-            return did(v);
-        }
-        return stays(w, Refusal::Turn);
-    }
-    stays(w, Refusal::Region)
-}
-
-// The run of a closing.
-fn run_close(w: Writer, region: &mut [u8]) -> Writer
-    ensures { λ r. ⌜ (r ≡ ranWriter (now (region .entry)) w (Upper.runOf Upper.closing)) × (now (region .exit) ≡ ranRegion (now (region .entry)) w (Upper.runOf Upper.closing)) ⌝ }
-{
-    let v = settle(w, region);
-    let k = lower::begin::close(v);
-    settle(k.writer, region)
-}
-
-// Closes the update.
-pub fn close(w: Writer, region: &mut [u8]) -> Step
-    ensures { λ r. ⌜ (r ≡ Upper.upperStep (now (region .entry)) w Upper.closing) × (now (region .exit) ≡ Upper.upperRegion (now (region .entry)) w Upper.closing) ⌝ }
-{
-    if region.len() == 983040 {
-        if may_take(w) & !is_open(w.tables) {
-            let v = run_close(w, region);
-            return did(v);
-        }
-        return stays(w, Refusal::Turn);
-    }
-    stays(w, Refusal::Region)
-}
-
 // A source's dates as they are fed.
 fn dates(s: Source) -> [u8; 8]
     ensures { λ r. ⌜ r ≡ le32 (s .start) ++ le32 (s .end) ⌝ }

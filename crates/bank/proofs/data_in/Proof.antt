@@ -1,7 +1,7 @@
 use mathlib.Core.List.{List}
 use Rattle.region.specs.Region.{dataOf}
 use lib.ListN.{length, take, drop}
-use Prim.Native.Nat.{ℕ, _-_}
+use Prim.Native.Nat.{ℕ}
 use mathlib.Core.Path.{ap, _∙_}
 use borrow.Author.Needs.{needs}
 use Rattle.bank.proofs.data_in.Statement.{statement}

@@ -1,5 +1,4 @@
 use Rattle.bank.specs.Bank.{dataOk}
-use Prim.Native.Nat.{_-_}
 use borrow.Author.Needs.{needs}
 use Rattle.bank.proofs.data_ok.Statement.{statement}
 use Rattle.bank.proofs.data_ok.Tie as tie

@@ -1,6 +1,5 @@
 use native.Mathlib.Omega.{arith}
 use Rattle.bank.specs.Bank.{generation, firstTried}
-use Prim.Native.Nat.{_-_}
 use mathlib.Core.Path.{sym}
 use borrow.Author.Needs.{needs}
 use Rattle.bank.proofs.first_tried.Statement.{statement}

@@ -1,7 +1,7 @@
 use Rattle.leaf.specs.Bytes.{word}
 use mathlib.Core.List.{List}
 use Rattle.bank.specs.Bank.{generation}
-use Prim.Native.Nat.{ℕ, _-_}
+use Prim.Native.Nat.{ℕ}
 use mathlib.Core.Path.{ap, _∙_}
 use borrow.Author.Needs.{needs}
 use Rattle.bank.proofs.generation.Statement.{statement}

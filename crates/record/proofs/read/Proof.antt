@@ -1,6 +1,6 @@
 use mathlib.Core.Path.{_∙_}
 use mathlib.Core.List.{append-nil}
-use Prim.Native.Nat.{_-_, _+_, _*_}
+use Prim.Native.Nat.{_+_, _*_}
 use Rattle.leaf.specs.Bytes.{word, time}
 use Rattle.base.specs.Lists.{many, byte}
 use Rattle.record.specs.Record.{sourceOf}

@@ -1,5 +1,4 @@
 use Rattle.region.specs.Region.{bankOf}
-use Prim.Native.Nat.{_-_}
 use borrow.Author.Needs.{needs}
 use Rattle.region.proofs.bank_of.Statement.{statement}
 use Rattle.region.proofs.bank_of.Tie as tie

@@ -1,5 +1,5 @@
 use Prim.Native.Nat.{ℕ}
-use Rattle.bank.specs.declared.Progress.{Progress}
+use Rattle.bank.specs.declared.turns.Progress.{Progress}
 use Rattle.export.specs.Answers.{ofTurn}
 use mathlib.Core.Path.{sym, ap, _∙_}
 use borrow.Author.Needs.{needs}

@@ -1,5 +1,5 @@
 use Rattle.snapshot.specs.Source.{askedSource}
-use Rattle.snapshot.specs.declared.Asked.{Asked}
+use Rattle.snapshot.specs.declared.source.Asked.{Asked}
 use Rattle.record.specs.Record.{sourceBytes}
 use Rattle.leaf.specs.Bytes.{written}
 use lib.ListN.{length}

@@ -4,7 +4,7 @@ use mathlib.Core.Path.{refl, sym, ap, _∙_}
 use borrow.Author.Tests.{eq-eqb, ne-eqb, lt-leb, le-leb}
 use lib.ListN.{length, getD}
 use Rattle.record.specs.Record.{noBlock}
-use Rattle.snapshot.specs.declared.Asked.{Asked}
+use Rattle.snapshot.specs.declared.source.Asked.{Asked}
 use Rattle.rowread.specs.Stored.{joined, endsOf, after}
 use Rattle.snapshot.specs.Rows.{bytesOf}
 use Rattle.snapshot.proofs.RowsLaws.{no-region, no-table, refused, is-row}

@@ -1,0 +1,66 @@
+use mathlib.Core.Path.{sym, ap, _∙_}
+use mathlib.Core.Bool.{not, _&&_}
+use Rattle.lower.proofs.Laws.{table-done, table-turn, table-argument}
+use Rattle.writer.proofs.Laws.{position-fits, ranged}
+use Rattle.lower.specs.Lower.{mayTake, mayBegin}
+use Rattle.writer.specs.State.{did}
+use Rattle.writer.specs.State.{inRange}
+use Rattle.base.proofs.Bools.{and-left}
+use borrow.Author.Needs.{needs}
+use Rattle.lower.proofs.table.table.Statement.{statement}
+use Rattle.lower.proofs.table.table.Tie as tie
+
+may-take-requires : tie.Need-may-take-requires
+may-take-requires c κs = search needs
+
+may-begin-requires : tie.Need-may-begin-requires
+may-begin-requires c κs = search needs
+
+with-table-requires : tie.Need-with-table-requires
+with-table-requires c κs =
+    let o = c .before in
+    let m = o .before in
+    let a = m .before .before .args in
+    (m .before .if1 .taken, position-fits (a .w .taken) (ranged (a .w) (and-left (inRange (a .w)) (not (a .w .taken .closed)) (and-left (mayTake (a .w)) (mayBegin (a .w .tables) (a .table)) ((λ i. sym (m .may-take .ensures) i && sym (o .may-begin .ensures) i) ∙ c .if2 .taken))) .taken))
+
+did-requires : tie.Need-did-requires
+did-requires c κs = search needs
+
+returns : tie.Need-returns
+returns c =
+    let o = c .before .before .before in
+    let m = o .before in
+    let a = m .before .before .args in
+    c .did .ensures ∙ ap did (c .before .with-table .ensures) ∙ table-done (a .w) (a .table) (m .before .if1 .taken) ((λ i. sym (m .may-take .ensures) i && sym (o .may-begin .ensures) i) ∙ c .before .before .if2 .taken)
+
+stays-requires : tie.Need-stays-requires
+stays-requires c κs = search needs
+
+returns-2 : tie.Need-returns-2
+returns-2 c =
+    let o = c .before .before in
+    let m = o .before in
+    let a = m .before .before .args in
+    c .stays .ensures ∙ table-turn (a .w) (a .table) (m .before .if1 .taken) ((λ i. sym (m .may-take .ensures) i && sym (o .may-begin .ensures) i) ∙ c .before .if2 .left)
+
+stays-requires-2 : tie.Need-stays-requires-2
+stays-requires-2 c κs = search needs
+
+returns-3 : tie.Need-returns-3
+returns-3 c =
+    let a = c .before .before .args in
+    c .stays2 .ensures ∙ table-argument (a .w) (a .table) (c .before .if1 .left)
+
+pub table-spec : {M : Type 1} → statement M
+table-spec =
+    tie.close
+    (tie.spec
+    may-take-requires
+    may-begin-requires
+    with-table-requires
+    did-requires
+    returns
+    stays-requires
+    returns-2
+    stays-requires-2
+    returns-3)

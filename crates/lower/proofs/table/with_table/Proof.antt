@@ -1,0 +1,33 @@
+use mathlib.Core.Path.{ap}
+use Rattle.lower.specs.Lower.{withTable}
+use Prim.Native.Nat.{ℕ, _+_}
+use lib.Bits.{bitOr}
+use Rattle.lower.proofs.Laws.{shifted}
+use borrow.Author.Needs.{needs}
+use Rattle.lower.proofs.table.with_table.Statement.{statement}
+use Rattle.lower.proofs.table.with_table.Tie as tie
+
+add-t6 : tie.Need-add-t6
+add-t6 c = search needs
+
+shl-t7 : tie.Need-shl-t7
+shl-t7 c = search needs
+
+returns : tie.Need-returns
+unfolding withTable
+returns c =
+    let s = c .before .before .before .before .before .before .before .before in
+    let a = s .args in
+    ap
+    (λ (b : ℕ). record {
+      stage = a .w .stage;
+      beginning = a .w .beginning;
+      taken = a .w .taken;
+      tables = record { count = a .w .tables .count; table = a .table; start = a .w .taken .written + a .w .taken .fill; crc = 0; begun = bitOr (a .w .tables .begun) b };
+      sources = a .w .sources;
+      tail = a .w .tail;
+    })
+    (shifted (a .table) (s .pre .0))
+
+pub with-table-spec : {M : Type 1} → statement M
+with-table-spec = tie.close (tie.spec add-t6 shl-t7 returns)

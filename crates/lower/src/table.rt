@@ -1,0 +1,91 @@
+// table
+ghost use mathlib.Core.Path.{_≡_};
+ghost use Prim.Native.Nat.{_≤_};
+ghost use Rattle.writer.specs.State as State;
+ghost use Rattle.lower.specs.Lower as Lower;
+use crate::is_open;
+use crate::may_begin;
+use crate::may_take;
+use record::Block;
+use record::Source;
+use refusal::Refusal;
+use writer::Step;
+use writer::Tables;
+use writer::Writer;
+use writer::did;
+use writer::stays;
+ghost use Prim.Native.Nat.{_≤_};
+
+fn with_table(w: Writer, table: u32) -> Writer
+    requires { ⌜ (table ≤ 7) × (State.position (w .taken) ≤ 487424) ⌝ }
+    ensures { λ r. ⌜ r ≡ Lower.withTable w table ⌝ }
+{
+    let x = w.tables;
+    let t = w.taken;
+    let tables = Tables {
+        count: x.count,
+        table,
+        start: t.written + t.fill,
+        crc: 0,
+        begun: x.begun | (1 << table),
+    };
+    Writer { tables, ..w }
+}
+
+// Begins a table of the last source.
+pub fn table(w: Writer, table: u32) -> Step
+    ensures { λ r. ⌜ r ≡ Lower.tableStep w table ⌝ }
+{
+    if table <= 7 {
+        if may_take(w) & may_begin(w.tables, table) {
+            let v = with_table(w, table);
+            return did(v);
+        }
+        return stays(w, Refusal::Turn);
+    }
+    stays(w, Refusal::Argument)
+}
+
+fn with_block(s: Source, table: u32, b: Block) -> Source
+    requires { ⌜ table ≤ 7 ⌝ }
+    ensures { λ r. ⌜ r ≡ Lower.withBlock s table b ⌝ }
+{
+    let mut tables = s.tables;
+    tables[table as usize] = b;
+    Source { tables, ..s }
+}
+
+fn with_end(w: Writer) -> Writer
+    requires { ⌜ (w .tables .table ≤ 7) × (1 ≤ w .tables .count) × (w .tables .count ≤ 3) × (w .tables .start ≤ State.position (w .taken)) × (State.position (w .taken) ≤ 487424) ⌝ }
+    ensures { λ r. ⌜ r ≡ Lower.withEnd w ⌝ }
+{
+    let t = w.taken;
+    let x = w.tables;
+    let b = Block {
+        offset: x.start,
+        length: t.written + t.fill - x.start,
+        crc: x.crc,
+    };
+    let i = (x.count - 1) as usize;
+    let mut sources = w.sources;
+    let s = sources[i];
+    let e = with_block(s, x.table, b);
+    sources[i] = e;
+    let tables = Tables { table: 8, ..x };
+    Writer {
+        tables,
+        sources,
+        ..w
+    }
+}
+
+// Ends the open table.
+pub fn end(w: Writer) -> Step
+    ensures { λ r. ⌜ r ≡ Lower.endStep w ⌝ }
+{
+    if may_take(w) & is_open(w.tables) {
+        let v = with_end(w);
+        return did(v);
+    }
+    stays(w, Refusal::Turn)
+}

@@ -1,0 +1,114 @@
+// source
+ghost use mathlib.Core.Path.{_≡_};
+ghost use mathlib.Core.List.{_++_};
+ghost use Prim.Native.Nat.{_+_, _*_, _-_, _≤_};
+ghost use Rattle.header.specs.Header.{recordsOf};
+ghost use Rattle.record.specs.Record.{noSource};
+ghost use Rattle.base.specs.Lists.{fill};
+ghost use Rattle.snapshot.specs.Source as Sources;
+use crate::Outcome;
+use bank::header;
+use header::Bank;
+use header::Validated;
+use header::record_at;
+use record::Source;
+use record::no_source;
+use record::source_size;
+use refusal::Refusal;
+use region::bank_of;
+
+// A source, or zeros beside a refusal.
+pub struct Asked {
+    pub outcome: Outcome,
+    pub source: Source,
+}
+
+// The sources below the count and zeros after them, or zeros beside a refusal.
+pub struct Records {
+    pub outcome: Outcome,
+    pub sources: [Source; 3],
+}
+
+fn refuse(r: Refusal) -> Asked
+    ensures { λ x. ⌜ x ≡ Sources.refuse r ⌝ }
+{
+    let source = no_source();
+    Asked {
+        outcome: Outcome::Refused(r),
+        source,
+    }
+}
+
+fn source_in(region: &[u8], b: Bank, i: u32) -> Source
+    ensures { λ r. ⌜ r ≡ Sources.sourceIn (now (region .entry)) b i ⌝ }
+{
+    let l = bank_of(region, b.number);
+    let at = 48 + i as usize * source_size(b.version);
+    record_at(l, b.version, at)
+}
+
+// The source at an index.
+pub fn source(region: &[u8], number: u32, i: u32) -> Asked
+    ensures { λ r. ⌜ r ≡ Sources.askedSource (now (region .entry)) number i ⌝ }
+{
+    let h = header(region, number);
+    match h {
+        Validated::Good(b) => {
+            if i < b.count {
+                let source = source_in(region, b, i);
+                return Asked {
+                    outcome: Outcome::Done,
+                    source,
+                };
+            }
+            refuse(Refusal::Source)
+        }
+        Validated::Refused(r) => refuse(r),
+    }
+}
+
+fn refuse_all(r: Refusal) -> Records
+    ensures { λ x. ⌜ x ≡ Sources.refuseAll r ⌝ }
+{
+    let z = no_source();
+    let sources = [z; 3];
+    Records {
+        outcome: Outcome::Refused(r),
+        sources,
+    }
+}
+
+// A bank's first n records, and zeros.
+fn records_at(l: &[u8], version: u32, n: usize) -> [Source; 3]
+    requires { ⌜ n ≤ 3 ⌝ }
+    ensures { λ r. ⌜ r ≡ recordsOf version (now (l .entry)) n ++ fill noSource (3 - n) ⌝ }
+{
+    let size = source_size(version);
+    let z = no_source();
+    let mut t = [z; 3];
+    let mut i = 0;
+    while i < n {
+        let s = record_at(l, version, 48 + i * size);
+        t[i] = s;
+        i += 1;
+    }
+    t
+}
+
+// All sources of a bank.
+pub fn sources(region: &[u8], number: u32) -> Records
+    ensures { λ r. ⌜ r ≡ Sources.askedSources (now (region .entry)) number ⌝ }
+{
+    let h = header(region, number);
+    match h {
+        Validated::Good(b) => {
+            let l = bank_of(region, b.number);
+            let sources = records_at(l, b.version, b.count as usize);
+            Records {
+                outcome: Outcome::Done,
+                sources,
+            }
+        }
+        Validated::Refused(r) => refuse_all(r),
+    }
+}

@@ -1,0 +1,98 @@
+// table
+ghost use mathlib.Core.Path.{_≡_};
+ghost use mathlib.Core.List.{_++_};
+ghost use Rattle.run.specs.Run.{ranWriter, ranRegion};
+ghost use Rattle.upper.specs.Upper as Upper;
+use crate::fits;
+use lower::is_open;
+use lower::may_take;
+use refusal::Refusal;
+use run::settle;
+use run::settle_feed;
+use writer::Step;
+use writer::Writer;
+use writer::did;
+use writer::stays;
+ghost use Prim.Native.Nat.{_≤_};
+ghost use mathlib.Core.List.{_∷_, _++_};
+ghost use lib.ListN.{length, take};
+ghost use Rattle.row.specs.Columns.{namesLine};
+ghost use Rattle.run.specs.Run as Run;
+ghost use Rattle.run.specs.Feed as Feed;
+use lower::may_begin;
+use row::RowAnswer;
+
+// The run of a table's end.
+fn run_end(w: Writer, region: &mut [u8]) -> Writer
+    ensures { λ r. ⌜ (r ≡ ranWriter (now (region .entry)) w (Upper.runOf Upper.tableEnd)) × (now (region .exit) ≡ ranRegion (now (region .entry)) w (Upper.runOf Upper.tableEnd)) ⌝ }
+{
+    let v = settle(w, region);
+    let e = lower::table::end(v);
+    settle(e.writer, region)
+}
+
+// Ends the open table.
+pub fn end(w: Writer, region: &mut [u8]) -> Step
+    ensures { λ r. ⌜ (r ≡ Upper.upperStep (now (region .entry)) w Upper.tableEnd) × (now (region .exit) ≡ Upper.upperRegion (now (region .entry)) w Upper.tableEnd) ⌝ }
+{
+    if region.len() == 983040 {
+        if may_take(w) & is_open(w.tables) {
+            let v = run_end(w, region);
+            return did(v);
+        }
+        return stays(w, Refusal::Turn);
+    }
+    stays(w, Refusal::Region)
+}
+
+// A table's names line stands in the first n bytes.
+struct Line {
+    n: usize,
+    bytes: [u8; 128],
+}
+
+fn names(table: u32) -> Line
+    requires { ⌜ table ≤ 7 ⌝ }
+    ensures { λ r. ⌜ (r .n ≤ 128) × (r .n ≡ length (namesLine table)) × (take (r .n) (r .bytes) ≡ namesLine table) ⌝ }
+{
+    let mut bytes = [0u8; 128];
+    let a = row::names_line(table, &mut bytes);
+    match a {
+        RowAnswer::Written(n) => Line { n, bytes },
+        RowAnswer::Refused(_) => Line { n: 0, bytes },
+    }
+}
+
+// The run of a table's beginning, its names line in the first n bytes.
+fn run_table(w: Writer, region: &mut [u8], table: u32, names: [u8; 128], n: usize) -> Writer
+    requires { ⌜ n ≤ 128 ⌝ }
+    ensures { λ r. ⌜ (r ≡ ranWriter (now (region .entry)) w (Feed.dues ++ (Run.table table ∷ (Feed.dues ++ Feed.feed (take n names))))) × (now (region .exit) ≡ ranRegion (now (region .entry)) w (Feed.dues ++ (Run.table table ∷ (Feed.dues ++ Feed.feed (take n names))))) ⌝ }
+{
+    let line = &names[0..n];
+    let v = settle(w, region);
+    let t = lower::table::table(v, table);
+    settle_feed(t.writer, region, line)
+}
+
+// Begins a table, and feeds its names line.
+pub fn table(w: Writer, region: &mut [u8], table: u32) -> Step
+    ensures { λ r. ⌜ (r ≡ Upper.upperStep (now (region .entry)) w (Upper.tableWithNames table)) × (now (region .exit) ≡ Upper.upperRegion (now (region .entry)) w (Upper.tableWithNames table)) ⌝ }
+{
+    if region.len() == 983040 {
+        if table <= 7 {
+            if may_take(w) & may_begin(w.tables, table) {
+                let l = names(table);
+                let n = l.n;
+                let bytes = l.bytes;
+                if fits(w.taken, n) {
+                    let v = run_table(w, region, table, bytes, n);
+                    return did(v);
+                }
+                return stays(w, Refusal::Full);
+            }
+            return stays(w, Refusal::Turn);
+        }
+        return stays(w, Refusal::Argument);
+    }
+    stays(w, Refusal::Region)
+}
