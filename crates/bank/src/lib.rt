@@ -2,10 +2,9 @@
 pub mod turns;
 
 ghost use mathlib.Core.Path.{_≡_};
-ghost use Prim.Native.Nat.{_-_, _≤_, min};
+ghost use Prim.Native.Nat.{_-_, _≤_};
 ghost use lib.ListN.{length};
 ghost use Rattle.bank.specs.Bank as Banks;
-ghost use Rattle.bank.specs.Turns as Turns;
 use base::slice::part;
 use header::Bank;
 use header::Validated;
@@ -100,19 +99,4 @@ pub fn load(region: &[u8]) -> Loaded
         return Loaded::Found(c);
     };
     Loaded::Found(b)
-}
-
-fn stays(s: Checking, p: Progress) -> Turn
-    ensures { λ r. ⌜ r ≡ Turns.stays s p ⌝ }
-{
-    Turn {
-        progress: p,
-        next: s,
-    }
-}
-
-fn smaller(a: u32, b: u32) -> u32
-    ensures { λ r. ⌜ (r ≡ min a b) × (r ≤ b) ⌝ }
-{
-    if a < b { a } else { b }
 }

@@ -5,8 +5,8 @@ ghost use lib.ListN.{length};
 ghost use Rattle.bank.specs.Turns as Turns;
 use crate::data_in;
 use crate::header;
-use crate::smaller;
-use crate::stays;
+use crate::turns::smaller;
+use crate::turns::stays;
 use base::slice::part;
 use header::Bank;
 use header::Validated;
@@ -14,6 +14,7 @@ use header::header_of;
 use leaf::crc::crc32;
 use refusal::Refusal;
 use region::bank_of;
+ghost use Prim.Native.Nat.{_-_, _≤_, min};
 
 // How far data checking is on a bank.
 pub struct Checking {
@@ -107,4 +108,19 @@ pub fn check_turn(region: &[u8], s: Checking, n: u32) -> Turn
         Validated::Good(b) => on_bank(region, b, s, n),
         Validated::Refused(r) => stays(s, Progress::Refused(r)),
     }
+}
+
+fn stays(s: Checking, p: Progress) -> Turn
+    ensures { λ r. ⌜ r ≡ Turns.stays s p ⌝ }
+{
+    Turn {
+        progress: p,
+        next: s,
+    }
+}
+
+fn smaller(a: u32, b: u32) -> u32
+    ensures { λ r. ⌜ (r ≡ min a b) × (r ≤ b) ⌝ }
+{
+    if a < b { a } else { b }
 }
