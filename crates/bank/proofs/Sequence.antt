@@ -16,7 +16,7 @@ use Rattle.refusal.specs.declared.Refusal.the-variants.{Region, Argument, Data}
 use Rattle.header.specs.declared.Bank.{Bank}
 use Rattle.header.specs.declared.Validated.{Validated}
 use Rattle.header.specs.declared.Validated.the-variants.{Good, Refused as Bad}
-use Rattle.region.specs.Region.{regionSize, capacity, bankOf, dataOf}
+use Rattle.region.specs.Region.{regionSize, capacity, bankOf, dataOf, sectorSize}
 use Rattle.header.specs.Header.{headerOf}
 use Rattle.header.proofs.Laws.{no-refusal, passed, span-length}
 use Rattle.bank.specs.declared.turns.Checking.{Checking}
@@ -49,7 +49,7 @@ module _ (region : List ℕ) (n : ℕ) (b : Bank) (e : named region n ≡ Good b
   abbrev at : ℕ → Checking
   at k = record { bank = n; position = k; crc = crc32 0 (take k bytes) }
 
-  length-fits : b .length ≤ 487424
+  length-fits : b .length ≤ capacity
   length-fits = span-length b (passed n (bankOf region n) b (named-passes region n b e .header) .span) .1
 
   turn-at : (k m : ℕ) → k ≤ b .length → turned region (at k) m ≡ onBank region b (at k) m
@@ -133,7 +133,7 @@ module _ (region : List ℕ) (n : ℕ) (b : Bank) (e : named region n ≡ Good b
 
   all-bytes : take (b .length) bytes ≡ bytes
   unfolding dataOf
-  all-bytes = take-all (b .length) bytes (rw (length-take (b .length) (drop 4096 (bankOf region (b .number)))) (omega arith))
+  all-bytes = take-all (b .length) bytes (rw (length-take (b .length) (drop sectorSize (bankOf region (b .number)))) (omega arith))
 
   verdict-is : verdict b (at (b .length)) ≡ asVerdict (validated region n)
   unfolding validated dataOk

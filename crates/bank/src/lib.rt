@@ -13,6 +13,8 @@ use leaf::bytes::get;
 use leaf::crc::crc32;
 use leaf::generation::newer;
 use refusal::Refusal;
+use region::REGION_SIZE;
+use region::SECTOR_SIZE;
 use region::bank_of;
 
 pub enum Loaded {
@@ -25,7 +27,7 @@ pub enum Loaded {
 pub fn header(region: &[u8], number: u32) -> Validated
     ensures { λ r. ⌜ r ≡ Banks.named (now (region .entry)) number ⌝ }
 {
-    if region.len() != 983040 {
+    if region.len() != REGION_SIZE {
         return Validated::Refused(Refusal::Region);
     }
     if 1 < number {
@@ -40,7 +42,7 @@ fn data_in(region: &[u8], b: Bank) -> &[u8]
     ensures { λ r. ⌜ now r ≡ Banks.dataIn (now (region .entry)) b ⌝ }
 {
     let l = bank_of(region, b.number);
-    part(l, 4096, b.length as usize)
+    part(l, SECTOR_SIZE, b.length as usize)
 }
 
 fn data_ok(region: &[u8], b: Bank) -> bool
@@ -88,7 +90,7 @@ fn first_tried(region: &[u8]) -> u32
 pub fn load(region: &[u8]) -> Loaded
     ensures { λ r. ⌜ r ≡ Banks.loaded (now (region .entry)) ⌝ }
 {
-    if region.len() != 983040 {
+    if region.len() != REGION_SIZE {
         return Loaded::Refused(Refusal::Region);
     }
     let first = first_tried(region);

@@ -15,6 +15,8 @@ use leaf::crc::crc32;
 use refusal::Refusal;
 use region::bank_of;
 ghost use Prim.Native.Nat.{_-_, _≤_, min};
+use region::CAPACITY_32;
+use region::REGION_SIZE;
 
 // How far data checking is on a bank.
 pub struct Checking {
@@ -96,10 +98,10 @@ fn on_bank(region: &[u8], b: Bank, s: Checking, n: u32) -> Turn
 pub fn check_turn(region: &[u8], s: Checking, n: u32) -> Turn
     ensures { λ r. ⌜ r ≡ Turns.turned (now (region .entry)) s n ⌝ }
 {
-    if region.len() != 983040 {
+    if region.len() != REGION_SIZE {
         return stays(s, Progress::Refused(Refusal::Region));
     }
-    if !((s.bank <= 1) & (s.position <= 487424)) {
+    if !((s.bank <= 1) & (s.position <= CAPACITY_32)) {
         return stays(s, Progress::Refused(Refusal::Turn));
     }
     let l = bank_of(region, s.bank);

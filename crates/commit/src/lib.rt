@@ -14,6 +14,7 @@ ghost use Rattle.writer.specs.declared.Stage.the-variants as Stages;
 ghost use Rattle.writer.specs.State as State;
 ghost use Rattle.due.specs.Due as Due;
 ghost use Rattle.commit.specs.Commit as Commit;
+ghost use Rattle.region.specs.Region.{regionSize};
 use bank::Loaded;
 use base::number::le;
 use flash::write;
@@ -24,6 +25,7 @@ use header::write::header_bytes;
 use leaf::generation::next;
 use record::Source;
 use refusal::Refusal;
+use region::REGION_SIZE;
 use writer::Stage;
 use writer::Step;
 use writer::Writer;
@@ -135,7 +137,7 @@ fn is_current(w: Writer, current: bool) -> bool
 }
 
 fn write_header(w: Writer, region: &mut [u8], b: Bank) -> Step
-    requires { ⌜ (length (now region) ≡ 983040) × (b .number ≤ 1) ⌝ }
+    requires { ⌜ (length (now region) ≡ regionSize) × (b .number ≤ 1) ⌝ }
     ensures { λ r. ⌜ (r ≡ State.did (Due.withStage w Stages.Headed)) × (now (region .exit) ≡ performed (b .number) (writing 0 (headerBytes b (take (b .count) (w .sources)) blankWord) ∷ []) (now (region .entry))) ⌝ }
 {
     let ss = w.sources;
@@ -149,7 +151,7 @@ fn write_header(w: Writer, region: &mut [u8], b: Bank) -> Step
 pub fn commit(w: Writer, region: &mut [u8], stamp: Stamp, current: bool) -> Step
     ensures { λ r. ⌜ (r ≡ Commit.commitStep (now (region .entry)) w stamp current) × (now (region .exit) ≡ Commit.commitRegion (now (region .entry)) w stamp current) ⌝ }
 {
-    if region.len() == 983040 {
+    if region.len() == REGION_SIZE {
         if may_commit(w) {
             if is_current(w, current) {
                 let b = bank_for(w, stamp);
@@ -194,7 +196,7 @@ fn may_write_word(w: Writer) -> bool
 }
 
 fn write_word(w: Writer, region: &mut [u8]) -> Step
-    requires { ⌜ length (now region) ≡ 983040 ⌝ }
+    requires { ⌜ length (now region) ≡ regionSize ⌝ }
     ensures { λ r. ⌜ (r ≡ State.did (Due.withStage w Stages.Committed)) × (now (region .exit) ≡ performed (State.target (w .beginning .active)) (writing 44 commitBytes ∷ []) (now (region .entry))) ⌝ }
 {
     let b = w.beginning;
@@ -210,7 +212,7 @@ fn write_word(w: Writer, region: &mut [u8]) -> Step
 pub fn commit_word(w: Writer, region: &mut [u8]) -> Step
     ensures { λ r. ⌜ (r ≡ Commit.wordStep (now (region .entry)) w) × (now (region .exit) ≡ Commit.wordRegion (now (region .entry)) w) ⌝ }
 {
-    if region.len() == 983040 {
+    if region.len() == REGION_SIZE {
         if may_write_word(w) {
             return write_word(w, region);
         }

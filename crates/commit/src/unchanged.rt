@@ -16,6 +16,7 @@ use record::Block;
 use record::Source;
 use record::source_size;
 use refusal::Refusal;
+use region::REGION_SIZE;
 use region::bank_of;
 use writer::Answer;
 use writer::Step;
@@ -115,7 +116,7 @@ fn same_answer(same: bool) -> Answer
 pub fn unchanged(w: Writer, region: &[u8]) -> Step
     ensures { λ r. ⌜ r ≡ Unchanged.unchangedStep (now (region .entry)) w ⌝ }
 {
-    if region.len() == 983040 {
+    if region.len() == REGION_SIZE {
         if may_ask(w) {
             let b = w.beginning;
             let l = b.active;

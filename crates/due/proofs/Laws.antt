@@ -12,7 +12,7 @@ use borrow.Author.Tests.{eqb-true, eq-eqb, ne-eqb, ltb-true}
 use Rattle.base.specs.Number.{pick}
 use Rattle.base.specs.Lists.{fill}
 use Rattle.base.proofs.Lists.{fill-split, length-fill, drop-new}
-use Rattle.region.specs.Region.{regionSize, bankSize}
+use Rattle.region.specs.Region.{regionSize, bankSize, capacity, sectorSize}
 use Rattle.base.proofs.Bools.{and-left, and-right}
 use Rattle.flash.specs.Flash.{Op, place, size, after, performed}
 use Rattle.flash.proofs.Laws.{after-fits}
@@ -101,7 +101,7 @@ module _ (t : Taken) where
   multiple : takenOk t ≡ true → 1 ≤ t .fill → t .written % 256 ≡ 0
   unfolding takenOk
   multiple e h =
-      let p = leb (position t) 487424 in
+      let p = leb (position t) capacity in
       let a = aligned t in
       multiple-by h (or-cases (eqb (t .written % 256) 0) (t .closed && eqb (t .fill) 0) (and-right p a (and-right (leb (t .fill) 256) (p && a) e)))
 
@@ -110,15 +110,15 @@ module _ (t : Taken) where
   tail-fits e d = omega (arith, multiple e (fill-some d), fill-some d, position-fits t e)
 
   module _ (c : Bool) where
-    sector-by : (k : ℕ) → t .written ≤ 487168 → ((eqb (t .written) 0 && eqb k 0) ≡ true) ⊎ ((eqb (t .written % 4096) 0 && eqb k (t .written / 4096 + 1)) ≡ true) → k ≤ 119
+    sector-by : (k : ℕ) → t .written ≤ 487168 → ((eqb (t .written) 0 && eqb k 0) ≡ true) ⊎ ((eqb (t .written % sectorSize) 0 && eqb k (t .written / sectorSize + 1)) ≡ true) → k ≤ 119
     sector-by k h (inl e) = omega (arith, eqb-true k 0 (and-right (eqb (t .written) 0) (eqb k 0) e))
-    sector-by k h (inr e) = omega (arith, eqb-true k (t .written / 4096 + 1) (and-right (eqb (t .written % 4096) 0) (eqb k (t .written / 4096 + 1)) e))
+    sector-by k h (inr e) = omega (arith, eqb-true k (t .written / sectorSize + 1) (and-right (eqb (t .written % sectorSize) 0) (eqb k (t .written / sectorSize + 1)) e))
 
     pub sector-fits : (k : ℕ) → takenOk t ≡ true → isDue t ≡ true → operationOk c t (Erase k) ≡ true → k ≤ 119
     unfolding operationOk
     sector-fits k e d o =
         let x = eqb (t .written) 0 && eqb k 0 in
-        let y = eqb (t .written % 4096) 0 && eqb k (t .written / 4096 + 1) in
+        let y = eqb (t .written % sectorSize) 0 && eqb k (t .written / sectorSize + 1) in
         sector-by k (tail-fits e d) (or-cases x y (and-right (not c) (x || y) o))
 
     pub write-fits : (a n : ℕ) → takenOk t ≡ true → isDue t ≡ true → operationOk c t (Write a n) ≡ true → (n ≤ 256) × (a ≤ 487168)

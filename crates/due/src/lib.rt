@@ -16,6 +16,7 @@ ghost use Rattle.writer.specs.declared.Stage.the-variants as Stages;
 ghost use Rattle.writer.specs.State as State;
 ghost use Rattle.writer.specs.Parts.{withSources, stepWith};
 ghost use Rattle.due.specs.Due as Due;
+ghost use Rattle.region.specs.Region.{regionSize, capacity, sectorSize};
 use bank::Loaded;
 use base::slice::part;
 use base::slice::same_bytes;
@@ -23,6 +24,8 @@ use flash::erase;
 use flash::write;
 use header::Bank;
 use refusal::Refusal;
+use region::REGION_SIZE;
+use region::SECTOR_SIZE;
 use region::bank_of;
 use writer::Answer;
 use writer::Operation;
@@ -65,17 +68,17 @@ fn padded_length(n: usize) -> usize
 // Writes the tail's first n bytes, padded, at a place of the data.
 fn write_tail(region: &mut [u8], bank: u32, tail: [u8; 256], a: u32, n: u32)
     requires { ⌜ n ≤ 256 ⌝ }
-    ensures { λ _. ⌜ now (region .exit) ≡ writtenIn (now (region .entry)) bank (4096 + a) (Due.padded (take n tail)) ⌝ }
+    ensures { λ _. ⌜ now (region .exit) ≡ writtenIn (now (region .entry)) bank (sectorSize + a) (Due.padded (take n tail)) ⌝ }
 {
     let e = n as usize;
     if e % 4 == 0 {
-        write(region, bank, 4096 + a as usize, &tail[0..e]);
+        write(region, bank, SECTOR_SIZE + a as usize, &tail[0..e]);
         return;
     }
     let t = filled(tail, e);
     let m = padded_length(e);
     let bytes = &t[0..m];
-    write(region, bank, 4096 + a as usize, bytes);
+    write(region, bank, SECTOR_SIZE + a as usize, bytes);
 }
 
 fn differs_from(region: &[u8], b: Bank, t: Taken, tail: [u8; 256]) -> bool
@@ -84,7 +87,7 @@ fn differs_from(region: &[u8], b: Bank, t: Taken, tail: [u8; 256]) -> bool
 {
     let n = t.fill as usize;
     let l = bank_of(region, b.number);
-    let stored = part(l, 4096 + t.written as usize, n);
+    let stored = part(l, SECTOR_SIZE + t.written as usize, n);
     let held = &tail[0..n];
     !(t.written as u64 + t.fill as u64 <= b.length as u64) | !same_bytes(stored, held)
 }
@@ -101,7 +104,7 @@ fn differs(region: &[u8], l: Loaded, t: Taken, tail: [u8; 256]) -> bool
 }
 
 fn with_emptied(p: Parts, different: bool) -> Parts
-    requires { ⌜ State.position (p .taken) ≤ 487424 ⌝ }
+    requires { ⌜ State.position (p .taken) ≤ capacity ⌝ }
     ensures { λ r. ⌜ ((ss : List Source) → withSources r ss ≡ Due.withEmptied (withSources p ss) different) ⌝ }
 {
     let t = p.taken;
@@ -142,19 +145,19 @@ fn after_erase(p: Parts, sector: u32) -> Parts
 }
 
 fn do_erase(p: Parts, region: &mut [u8], sector: u32) -> PartsStep
-    requires { ⌜ (length (now region) ≡ 983040) × (sector ≤ 119) ⌝ }
+    requires { ⌜ (length (now region) ≡ regionSize) × (sector ≤ 119) ⌝ }
     ensures { λ r. ⌜ ((ss : List Source) → stepWith r ss ≡ State.did (Due.operated (now (region .entry)) (withSources p ss) (Operations.Erase sector))) × (now (region .exit) ≡ performed (State.target (p .beginning .active)) (Due.opsOf (p .tail) (Stages.Due (Operations.Erase sector))) (now (region .entry))) ⌝ }
 {
     let b = p.beginning;
     let l = b.active;
     let bank = target(l);
-    erase(region, bank, sector as usize * 4096);
+    erase(region, bank, sector as usize * SECTOR_SIZE);
     let v = after_erase(p, sector);
     parts_did(v)
 }
 
 fn do_write(p: Parts, region: &mut [u8], offset: u32, n: u32) -> PartsStep
-    requires { ⌜ (length (now region) ≡ 983040) × (n ≤ 256) × (offset ≤ 487168) × (State.position (p .taken) ≤ 487424) ⌝ }
+    requires { ⌜ (length (now region) ≡ regionSize) × (n ≤ 256) × (offset ≤ 487168) × (State.position (p .taken) ≤ capacity) ⌝ }
     ensures { λ r. ⌜ ((ss : List Source) → stepWith r ss ≡ State.did (Due.operated (now (region .entry)) (withSources p ss) (Operations.Write offset n))) × (now (region .exit) ≡ performed (State.target (p .beginning .active)) (Due.opsOf (p .tail) (Stages.Due (Operations.Write offset n))) (now (region .entry))) ⌝ }
 {
     let b = p.beginning;
@@ -168,7 +171,7 @@ fn do_write(p: Parts, region: &mut [u8], offset: u32, n: u32) -> PartsStep
 }
 
 fn do_compare(p: Parts, region: &[u8], offset: u32, n: u32) -> PartsStep
-    requires { ⌜ (p .taken .fill ≤ 256) × (State.position (p .taken) ≤ 487424) ⌝ }
+    requires { ⌜ (p .taken .fill ≤ 256) × (State.position (p .taken) ≤ capacity) ⌝ }
     ensures { λ r. ⌜ ((ss : List Source) → stepWith r ss ≡ State.did (Due.operated (now (region .entry)) (withSources p ss) (Operations.Compare offset n))) ⌝ }
 {
     let b = p.beginning;
@@ -181,7 +184,7 @@ fn do_compare(p: Parts, region: &[u8], offset: u32, n: u32) -> PartsStep
 }
 
 fn operate(p: Parts, region: &mut [u8], o: Operation) -> PartsStep
-    requires { ⌜ (length (now region) ≡ 983040) × (State.inRange (withSources p []) ≡ true) × (p .stage ≡ Stages.Due o) ⌝ }
+    requires { ⌜ (length (now region) ≡ regionSize) × (State.inRange (withSources p []) ≡ true) × (p .stage ≡ Stages.Due o) ⌝ }
     ensures { λ r. ⌜ ((ss : List Source) → stepWith r ss ≡ State.did (Due.operated (now (region .entry)) (withSources p ss) o)) × (now (region .exit) ≡ performed (State.target (p .beginning .active)) (Due.opsOf (p .tail) (Stages.Due o)) (now (region .entry))) ⌝ }
 {
     match o {
@@ -201,7 +204,7 @@ fn none_due(p: Parts) -> PartsStep
 }
 
 fn in_stage(p: Parts, region: &mut [u8]) -> PartsStep
-    requires { ⌜ (length (now region) ≡ 983040) × (State.inRange (withSources p []) ≡ true) ⌝ }
+    requires { ⌜ (length (now region) ≡ regionSize) × (State.inRange (withSources p []) ≡ true) ⌝ }
     ensures { λ r. ⌜ ((ss : List Source) → stepWith r ss ≡ Due.stepOf (now (region .entry)) (withSources p ss) (p .stage)) × (now (region .exit) ≡ performed (State.target (p .beginning .active)) (Due.opsOf (p .tail) (p .stage)) (now (region .entry))) ⌝ }
 {
     let s = p.stage;
@@ -220,7 +223,7 @@ fn do_due(p: Parts, region: &mut [u8]) -> PartsStep
     let t = p.taken;
     let x = p.tables;
     let s = p.stage;
-    if region.len() == 983040 {
+    if region.len() == REGION_SIZE {
         if parts_in_range(b, t, x, s) {
             return in_stage(p, region);
         }

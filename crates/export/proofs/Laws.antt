@@ -18,6 +18,7 @@ use Rattle.cstate.specs.declared.State.{State}
 use Rattle.cstate.specs.declared.UpdateStep.{UpdateStep}
 use Rattle.cstate.specs.State.{savedOf, writerOf}
 use Rattle.cstate.specs.Answers.{isAnswer, after}
+use Rattle.region.specs.Region.{capacity}
 
 -- what crosses back, with a tail of its own
 abbrev pub with-tail : List ℕ → UpdateStep → UpdateStep
@@ -59,7 +60,7 @@ module _ (w : Writer) where
   unfolding bytesStep took
   refused-tail xs e =
       let n = room (w .taken) (length xs) in
-      refused-by (mayTake w) (leb (position (w .taken) + length xs) 487424) (isDue (w .taken)) n (withBytes w (take n xs)) e
+      refused-by (mayTake w) (leb (position (w .taken) + length xs) capacity) (isDue (w .taken)) n (withBytes w (take n xs)) e
 
 module _ (w : Writer) (was : State) where
   tail-by : (b : Bool) → (b ≡ false → w .tail ≡ was .tail) → pick b (savedOf w) was .tail ≡ w .tail

@@ -5,21 +5,25 @@ ghost use Prim.Native.Nat.{_+_, _≤_};
 ghost use lib.ListN.{length};
 ghost use Rattle.flash.specs.Flash.{blank, clear, within, erasedIn, writtenIn};
 ghost use Rattle.flash.specs.Claims.{FirstPart};
+ghost use Rattle.region.specs.Region.{regionSize, bankSize};
+use region::BANK_SIZE;
+use region::REGION_SIZE;
+use region::SECTOR_SIZE;
 
 // Whether n bytes at a place of a bank lie within it, in a region of len bytes.
 fn lies_within(len: usize, bank: u32, at: usize, n: usize) -> bool
-    ensures { λ r. ⌜ (r ≡ within len bank at n) × (r ≡ true → (len ≡ 983040) × (bank ≤ 1) × (at + n ≤ 491520)) ⌝ }
+    ensures { λ r. ⌜ (r ≡ within len bank at n) × (r ≡ true → (len ≡ regionSize) × (bank ≤ 1) × (at + n ≤ bankSize)) ⌝ }
 {
-    if len != 983040 {
+    if len != REGION_SIZE {
         return false;
     }
     if 1 < bank {
         return false;
     }
-    if 491520 < n {
+    if BANK_SIZE < n {
         return false;
     }
-    at <= 491520 - n
+    at <= BANK_SIZE - n
 }
 
 // Every byte becomes 255.
@@ -49,9 +53,9 @@ fn clear_bits(s: &mut [u8], ws: &[u8])
 pub fn erase(region: &mut [u8], bank: u32, at: usize)
     ensures { λ _. ⌜ now (region .exit) ≡ erasedIn (now (region .entry)) bank at ⌝ }
 {
-    if lies_within(region.len(), bank, at, 4096) {
-        let sector = bank as usize * 491520 + at;
-        let end = sector + 4096;
+    if lies_within(region.len(), bank, at, SECTOR_SIZE) {
+        let sector = bank as usize * BANK_SIZE + at;
+        let end = sector + SECTOR_SIZE;
         blank_all(&mut region[sector..end]);
     }
 }
@@ -61,7 +65,7 @@ pub fn write(region: &mut [u8], bank: u32, at: usize, bytes: &[u8])
     ensures { λ _. ⌜ now (region .exit) ≡ writtenIn (now (region .entry)) bank at (now (bytes .entry)) ⌝ }
 {
     if lies_within(region.len(), bank, at, bytes.len()) {
-        let from = bank as usize * 491520 + at;
+        let from = bank as usize * BANK_SIZE + at;
         let end = from + bytes.len();
         clear_bits(&mut region[from..end], bytes);
     }

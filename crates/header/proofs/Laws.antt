@@ -23,6 +23,7 @@ use Rattle.header.specs.declared.Bank.{Bank}
 use Rattle.header.specs.declared.Validated.{Validated}
 use Rattle.header.specs.declared.Validated.the-variants.{Good, Refused}
 use Rattle.header.specs.Header.{isUnknown, lengthOk, keyOk, countOk, spanOk, numbersOf, recordsOf, sourceOk, judge, marked, sealed, headerOf}
+use Rattle.region.specs.Region.{capacity}
 
 -- the lowest value, by its bits
 
@@ -49,11 +50,11 @@ each-many p f step l at n = rw (add-one, many-more f step l at n) (sym (each-las
 
 -- what passes 5 has a count of at most three
 
-pub span-length : (b : Bank) → spanOk b ≡ true → (1 ≤ b .length) × (b .length ≤ 487424)
+pub span-length : (b : Bank) → spanOk b ≡ true → (1 ≤ b .length) × (b .length ≤ capacity)
 unfolding spanOk
 span-length b e =
     let l = and-left (lengthOk b) (keyOk b && (countOk b && leZ (pos 0) (b .checked))) e in
-    (leb-true 1 (b .length) (and-left (leb 1 (b .length)) (leb (b .length) 487424) l), leb-true (b .length) 487424 (and-right (leb 1 (b .length)) (leb (b .length) 487424) l))
+    (leb-true 1 (b .length) (and-left (leb 1 (b .length)) (leb (b .length) capacity) l), leb-true (b .length) capacity (and-right (leb 1 (b .length)) (leb (b .length) capacity) l))
 
 pub span-key : (b : Bank) → spanOk b ≡ true → b .key ≤ b .length
 unfolding spanOk

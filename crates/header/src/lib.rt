@@ -31,6 +31,7 @@ use record::Source;
 use record::decode;
 use record::source_size;
 use refusal::Refusal;
+use region::CAPACITY_32;
 
 // A bank's numbers; `key` is the key's length.
 #[repr(C)]
@@ -96,7 +97,7 @@ fn is_sealed(b: &[u8]) -> bool
 pub fn span_ok(b: Bank) -> bool
     ensures { λ r. ⌜ r ≡ spanOk b ⌝ }
 {
-    ((1 <= b.length) & (b.length <= 487424))
+    ((1 <= b.length) & (b.length <= CAPACITY_32))
         & (((1 <= b.key) & (b.key <= b.length))
             & (((1 <= b.count) & (b.count <= 3)) & le(0, b.checked)))
 }

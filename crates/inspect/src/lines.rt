@@ -17,6 +17,7 @@ use header::Validated;
 use key::SameKey;
 use record::Block;
 use record::Source;
+use region::BANK_SIZE;
 use snapshot::freshness::FreshAnswer;
 use std::num::wrapping_add_usize;
 
@@ -58,7 +59,7 @@ fn key_lines(key: &[u8]) {
 fn keys(region: &[u8], b: Bank) {
     let data = part(
         region,
-        wrapping_add_usize(b.number as usize * 491520, 4096),
+        wrapping_add_usize(b.number as usize * BANK_SIZE, 4096),
         487424,
     );
     key_lines(part(data, 0, b.key as usize));

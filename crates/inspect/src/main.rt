@@ -12,6 +12,7 @@ ghost use lib.ListN.{length};
 use crate::image::Size;
 use crate::options::Options;
 use base::slice::part;
+use region::REGION_SIZE;
 
 // Zeros for an argument: Linux hands over none of more bytes.
 fn argument_room() -> [u8; 131072]
@@ -45,7 +46,7 @@ fn identity(at: usize, space: &mut [u8]) -> usize {
 }
 
 fn first_line(size: usize) {
-    out::say(b"region: 983040 bytes");
+    out::say(b"region: REGION_SIZE bytes");
     if size == 4194304 {
         out::say(b" at 3145728 of 4194304");
     }
@@ -62,7 +63,7 @@ fn tell(
     texts: &[u8],
     lengths: &[u32],
 ) {
-    if (size == 983040) | (size == 4194304) {
+    if (size == REGION_SIZE) | (size == 4194304) {
         first_line(size);
         let m = identity(o.identity, space);
         lines::banks(region, o, part(space, 0, m), texts, lengths);
@@ -73,7 +74,7 @@ fn tell(
 
 fn opened(
     fd: i32,
-    region: &mut [u8; 983040],
+    region: &mut [u8; REGION_SIZE],
     o: Options,
     space: &mut [u8],
     n: usize,

@@ -16,6 +16,7 @@ use Rattle.writer.specs.State.{did, stays, position, isOpen, begunIn, isDue, in
 use Rattle.writer.proofs.Laws.{ranged, fill-fits, position-fits}
 use Rattle.lower.specs.Lower.{mayTake, mayBegin, withSource, sourceStep, withTable, tableStep, withEnd, endStep, withClosed, closeStep, room, withBytes, took, bytesStep}
 use Rattle.writer.specs.declared.Answer.the-variants.{Took}
+use Rattle.region.specs.Region.{capacity}
 
 module _ (w : Writer) (s : Source) where
   pub source-done : (mayTake w && not (isOpen (w .tables))) ≡ true → w .tables .count < 3 → did (withSource w s) ≡ sourceStep w s
@@ -61,13 +62,13 @@ module _ (w : Writer) where
   close-turn e = rw e
 
 module _ (w : Writer) (xs : List ℕ) where
-  pub bytes-took : mayTake w ≡ true → position (w .taken) + length xs ≤ 487424 → took w xs ≡ bytesStep w xs
+  pub bytes-took : mayTake w ≡ true → position (w .taken) + length xs ≤ capacity → took w xs ≡ bytesStep w xs
   unfolding bytesStep
-  bytes-took e h = rw (e, le-leb (position (w .taken) + length xs) 487424 h)
+  bytes-took e h = rw (e, le-leb (position (w .taken) + length xs) capacity h)
 
-  pub bytes-full : mayTake w ≡ true → 487424 < position (w .taken) + length xs → stays w Full ≡ bytesStep w xs
+  pub bytes-full : mayTake w ≡ true → capacity < position (w .taken) + length xs → stays w Full ≡ bytesStep w xs
   unfolding bytesStep
-  bytes-full e h = rw (e, lt-leb (position (w .taken) + length xs) 487424 h)
+  bytes-full e h = rw (e, lt-leb (position (w .taken) + length xs) capacity h)
 
   pub bytes-turn : mayTake w ≡ false → stays w Turn ≡ bytesStep w xs
   unfolding bytesStep
@@ -83,7 +84,7 @@ module _ (w : Writer) (xs : List ℕ) where
   took-some n v e h k = rw (e, ← h) (ap (λ (x : Writer). record { answer = Took n; writer = x }) k)
 
 -- the tail and the place of a state that takes bytes
-pub takes-fits : (w : Writer) → mayTake w ≡ true → (w .taken .fill ≤ 256) × (position (w .taken) ≤ 487424)
+pub takes-fits : (w : Writer) → mayTake w ≡ true → (w .taken .fill ≤ 256) × (position (w .taken) ≤ capacity)
 takes-fits w m = let t = ranged w (and-left (inRange w) (not (w .taken .closed)) m) .taken in (fill-fits (w .taken) t, position-fits (w .taken) t)
 
 -- a bit by a shift

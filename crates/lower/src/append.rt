@@ -13,6 +13,7 @@ use crate::may_take_parts;
 use crate::room;
 use leaf::crc::crc32_both;
 use refusal::Refusal;
+use region::CAPACITY;
 use writer::Answer;
 use writer::Parts;
 use writer::PartsStep;
@@ -110,7 +111,7 @@ fn take_any(p: Parts, offered: &[u8]) -> Took
 {
     let t = p.taken;
     if may_take_parts(p) {
-        if offered.len() <= 487424 - (t.written + t.fill) as usize {
+        if offered.len() <= CAPACITY - (t.written + t.fill) as usize {
             return take_some(p, offered);
         }
         return none_taken(p, Answer::Refused(Refusal::Full));

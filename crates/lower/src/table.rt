@@ -15,9 +15,10 @@ use writer::Writer;
 use writer::did;
 use writer::stays;
 ghost use Prim.Native.Nat.{_≤_};
+ghost use Rattle.region.specs.Region.{capacity};
 
 fn with_table(w: Writer, table: u32) -> Writer
-    requires { ⌜ (table ≤ 7) × (State.position (w .taken) ≤ 487424) ⌝ }
+    requires { ⌜ (table ≤ 7) × (State.position (w .taken) ≤ capacity) ⌝ }
     ensures { λ r. ⌜ r ≡ Lower.withTable w table ⌝ }
 {
     let x = w.tables;
@@ -56,7 +57,7 @@ fn with_block(s: Source, table: u32, b: Block) -> Source
 }
 
 fn with_end(w: Writer) -> Writer
-    requires { ⌜ (w .tables .table ≤ 7) × (1 ≤ w .tables .count) × (w .tables .count ≤ 3) × (w .tables .start ≤ State.position (w .taken)) × (State.position (w .taken) ≤ 487424) ⌝ }
+    requires { ⌜ (w .tables .table ≤ 7) × (1 ≤ w .tables .count) × (w .tables .count ≤ 3) × (w .tables .start ≤ State.position (w .taken)) × (State.position (w .taken) ≤ capacity) ⌝ }
     ensures { λ r. ⌜ r ≡ Lower.withEnd w ⌝ }
 {
     let t = w.taken;

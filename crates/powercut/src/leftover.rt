@@ -12,6 +12,7 @@ use leaf::bytes::get;
 use leaf::bytes::put;
 use leaf::crc::crc32;
 use record::source_size;
+use region::BANK_SIZE;
 use std::num::wrapping_add_usize;
 use std::num::wrapping_sub_u32;
 
@@ -25,7 +26,7 @@ pub fn number_after(l: Loaded) -> u32 {
 
 // Where that bank starts.
 pub fn start(l: Loaded) -> usize {
-    (number_after(l) % 2) as usize * 491520
+    (number_after(l) % 2) as usize * BANK_SIZE
 }
 
 // The CRC of the header at a place.
@@ -39,7 +40,7 @@ fn header_crc(region: &[u8], at: usize) -> u32 {
 
 // The active bank again, a generation older.
 fn older_bank(region: &mut [u8], b: Bank, to: usize) {
-    copy_bank(region, (b.number % 2) as usize * 491520, to);
+    copy_bank(region, (b.number % 2) as usize * BANK_SIZE, to);
     put(
         region,
         wrapping_add_usize(to, 8),

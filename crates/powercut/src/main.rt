@@ -21,6 +21,7 @@ use crate::options::Options;
 use crate::trial::Count;
 use base::slice::part;
 use libc::STDERR_FILENO;
+use region::REGION_SIZE;
 use std::num::wrapping_add_u32;
 
 // Zeros for an argument: Linux hands over none of more bytes.
@@ -193,8 +194,8 @@ fn finish(t: Tally, name: &[u8]) {
 
 fn trials(
     image: &[u8],
-    region: &mut [u8; 983040],
-    again: &mut [u8; 983040],
+    region: &mut [u8; REGION_SIZE],
+    again: &mut [u8; REGION_SIZE],
     data: &mut [u8; 487424],
     o: Options,
     fd: i32,
@@ -223,7 +224,7 @@ fn name(image: usize, space: &mut [u8]) -> usize {
 
 // All trials on an image of a size, or that the size is wrong. Its name is the first n bytes of space.
 fn tell(image: &[u8], size: usize, o: Options, space: &mut [u8], n: usize) {
-    if (size != 983040) & (size != 4194304) {
+    if (size != REGION_SIZE) & (size != 4194304) {
         message::wrong_size(part(space, 0, n), size);
         return;
     }
@@ -235,7 +236,7 @@ fn tell(image: &[u8], size: usize, o: Options, space: &mut [u8], n: usize) {
     with_rooms(image, o, fd, part(space, 0, m));
 }
 
-fn opened(fd: i32, image: &mut [u8; 983040], o: Options, space: &mut [u8], n: usize) {
+fn opened(fd: i32, image: &mut [u8; REGION_SIZE], o: Options, space: &mut [u8], n: usize) {
     let r = image::read(fd, image);
     libc::close(fd);
     match r {

@@ -1,6 +1,7 @@
 // Words of an argument, and runs of bytes.
 use base::slice::part;
 use leaf::bytes::get8;
+use region::BANK_SIZE;
 use std::num::wrapping_add_usize;
 
 // What stands from a place up to another.
@@ -68,7 +69,7 @@ pub fn paste(s: &[u8], n: usize, out: &mut [u8], at: usize) {
 // The 491,520 bytes from a place on, at another place too.
 pub fn copy_bank(region: &mut [u8], from: usize, to: usize) {
     let mut i = 0;
-    while i < 491520 {
+    while i < BANK_SIZE {
         let b = get8(region, wrapping_add_usize(from, i));
         put8(region, wrapping_add_usize(to, i), b);
         i += 1;
@@ -78,7 +79,7 @@ pub fn copy_bank(region: &mut [u8], from: usize, to: usize) {
 // The 491,520 bytes from a place on become 255.
 pub fn blank_bank(region: &mut [u8], from: usize) {
     let mut i = 0;
-    while i < 491520 {
+    while i < BANK_SIZE {
         put8(region, wrapping_add_usize(from, i), 255);
         i += 1;
     }
@@ -95,7 +96,7 @@ fn shuffled(x: u32) -> u32 {
 pub fn shuffle_bank(region: &mut [u8], from: usize) {
     let mut x: u32 = 2463534242;
     let mut i = 0;
-    while i < 491520 {
+    while i < BANK_SIZE {
         x = shuffled(x);
         put8(region, wrapping_add_usize(from, i), (x % 256) as u8);
         i += 1;

@@ -27,7 +27,7 @@ use Rattle.record.specs.Types.{All}
 use Rattle.header.specs.declared.Bank.{Bank}
 use Rattle.header.specs.declared.Validated.{Validated}
 use Rattle.header.specs.declared.Validated.the-variants.{Good, Refused as Bad}
-use Rattle.region.specs.Region.{regionSize, bankOf, dataOf}
+use Rattle.region.specs.Region.{regionSize, bankOf, dataOf, sectorSize}
 use Rattle.header.specs.Header as Header
 use Rattle.header.specs.Header.{headerOf, spanOk, sourceOk, lengthOk, keyOk, countOk}
 use Rattle.header.proofs.Laws.{span-length, span-key}
@@ -155,7 +155,7 @@ fit-sources : (w : Writer) (stamp : Stamp) → isFit (bankFor w stamp) (recordsF
 unfolding bankFor
 fit-sources w stamp f = span-some (bankFor w stamp) (fit-span (bankFor w stamp) (recordsFor w) f)
 
-laid-only : (wr fl : ℕ) (tail d b : List ℕ) → 1 ≤ wr → Bare wr fl tail d ⊎ (Laid 0 4096 wr fl tail d b × (0 < wr)) → Laid 0 4096 wr fl tail d b
+laid-only : (wr fl : ℕ) (tail d b : List ℕ) → 1 ≤ wr → Bare wr fl tail d ⊎ (Laid 0 sectorSize wr fl tail d b × (0 < wr)) → Laid 0 sectorSize wr fl tail d b
 laid-only wr fl tail d b n (inl f) = absurd (omega (arith, f .written))
 laid-only wr fl tail d b n (inr h) = h .0
 
@@ -190,7 +190,7 @@ module _ (region : List ℕ) (hd : Loaded) (rs : List Source) (im : Image) (w : 
         let r′ = applied (target a) op region in
         let rg = own region hd w u o in
         one-op (target a) region hd rs im (withStage w Headed) u′ k op
-        (λ j. kept-unmarked-at region hd a rs im k (m .0) op j (head-unmarked 0 4096 (t .written) (t .fill) (w .tail) (u .data·) b h j bk ss))
+        (λ j. kept-unmarked-at region hd a rs im k (m .0) op j (head-unmarked 0 sectorSize (t .written) (t .fill) (w .tail) (u .data·) b h j bk ss))
         (record {
           tied =
               record {

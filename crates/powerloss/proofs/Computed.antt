@@ -24,7 +24,7 @@ use Rattle.record.specs.Types.{All, U32, Block32}
 use Rattle.base.proofs.Lists.{drop-fill, length-fill}
 use Rattle.header.specs.declared.Validated.{Validated}
 use Rattle.header.specs.Header.{marked, spanOk, sourceOk, judge}
-use Rattle.region.specs.Region.{regionSize, bankSize}
+use Rattle.region.specs.Region.{regionSize, bankSize, sectorSize}
 use Rattle.region.specs.Region as Region
 use Rattle.header.specs.WriteHeader.{isFit, headerBytes, blankWord, commitBytes}
 use Rattle.header.specs.Types.{Bytes, Proper}
@@ -119,12 +119,12 @@ module _ (hd : Loaded) (ok : activeOk hd ≡ true) (region : List ℕ) (ss : Lis
     unfolding lowerStep lowerOps dueStep dueOps operated dataDue inRange takenOk tablesOk stageOk operationOk isDue
     does-header = rw (eq-eqb (length region) regionSize l, ok) (refl, refl)
 
-    does-sector : Does due region (st hd (Due (Erase 1)) (tk 0 12 a true) (tb 1 8 9 b 1) ss tail) Done (st hd (Due (Write 0 12)) (tk 0 12 a true) (tb 1 8 9 b 1) ss tail) (erase 4096 ∷ [])
+    does-sector : Does due region (st hd (Due (Erase 1)) (tk 0 12 a true) (tb 1 8 9 b 1) ss tail) Done (st hd (Due (Write 0 12)) (tk 0 12 a true) (tb 1 8 9 b 1) ss tail) (erase sectorSize ∷ [])
     unfolding lowerStep lowerOps dueStep dueOps operated inRange takenOk tablesOk stageOk operationOk isDue
     does-sector = rw (eq-eqb (length region) regionSize l, ok) (refl, refl)
 
     does-write : Does due region (st hd (Due (Write 0 12)) (tk 0 12 a true) (tb 1 8 9 b 1) ss tail)
-        Done (st hd Idle (tk 12 0 a true) (tb 1 8 9 b 1) ss tail) (write 4096 (padded (take 12 tail)) ∷ [])
+        Done (st hd Idle (tk 12 0 a true) (tb 1 8 9 b 1) ss tail) (write sectorSize (padded (take 12 tail)) ∷ [])
     unfolding lowerStep lowerOps dueStep dueOps operated inRange takenOk tablesOk stageOk operationOk isDue
     does-write = rw (eq-eqb (length region) regionSize l, ok) (refl, refl)
 
@@ -231,13 +231,13 @@ module _ (hd : Loaded) (region : List ℕ) (l : length region ≡ regionSize) wh
   l1 = length-performed (target hd) (erase 0 ∷ []) region (target-fits hd) l
 
   abbrev region2 : List ℕ
-  region2 = performed (target hd) (erase 4096 ∷ []) region1
+  region2 = performed (target hd) (erase sectorSize ∷ []) region1
 
   l2 : length region2 ≡ regionSize
-  l2 = length-performed (target hd) (erase 4096 ∷ []) region1 (target-fits hd) l1
+  l2 = length-performed (target hd) (erase sectorSize ∷ []) region1 (target-fits hd) l1
 
   abbrev dataOp : Op
-  dataOp = write 4096 (padded (take 12 tail3))
+  dataOp = write sectorSize (padded (take 12 tail3))
 
   abbrev region3 : List ℕ
   region3 = performed (target hd) (dataOp ∷ []) region2
@@ -586,14 +586,14 @@ module _ (hd : Loaded) (ok : activeOk hd ≡ true) (region : List ℕ) (l : leng
   committing = commit Missing true ∷ word ∷ []
 
   ops-due : ranOps region (dueFirst hd) (due ∷ due ∷ due ∷ committing)
-      ≡ erase 0 ∷ erase 4096 ∷ write 4096 data· ∷ write 0 (headerBytes (updated hd) (written ∷ []) blankWord) ∷ write 44 commitBytes ∷ []
+      ≡ erase 0 ∷ erase sectorSize ∷ write sectorSize data· ∷ write 0 (headerBytes (updated hd) (written ∷ []) blankWord) ∷ write 44 commitBytes ∷ []
   ops-due =
       ran hd due region _ _ _ _ _ _ _ _ (due ∷ due ∷ committing) (does-header hd ok region s2 tail3 crcData crcRoutes l)
       ∙ ap (λ (ops : List Op). erase 0 ∷ ops)
       (ran hd due (region1 hd region l) _ _ _ _ _ _ _ _ (due ∷ committing) (does-sector hd ok (region1 hd region l) s2 tail3 crcData crcRoutes (l1 hd region l))
-      ∙ ap (λ (ops : List Op). erase 4096 ∷ ops)
+      ∙ ap (λ (ops : List Op). erase sectorSize ∷ ops)
       (ran hd due (region2 hd region l) _ _ _ _ _ _ _ _ committing (does-write hd ok (region2 hd region l) s2 tail3 crcData crcRoutes (l2 hd region l))
-      ∙ (λ i. write 4096 (data-op i) ∷ ops-commit i)))
+      ∙ (λ i. write sectorSize (data-op i) ∷ ops-commit i)))
 
 -- the two words, byte by byte
 blank-is : blankWord ≡ 255 ∷ 255 ∷ 255 ∷ 255 ∷ []
@@ -617,7 +617,7 @@ fiveOperations region l =
     ∙ ran hd end region _ _ _ _ _ _ _ _ _ (does-end hd ok region sources1 tail3 crcData crcRoutes)
     ∙ ran hd close region _ _ _ _ _ _ _ _ _ (does-close hd ok region (sources2 crcRoutes) tail3 crcData crcRoutes)
     ∙ ops-due hd ok region l
-    ∙ (λ i. erase 0 ∷ erase 4096 ∷ write 4096 data· ∷ write 0 (headerBytes (updated hd) (written ∷ []) (blank-is i)) ∷ write 44 (word-is i) ∷ [])
+    ∙ (λ i. erase 0 ∷ erase sectorSize ∷ write sectorSize data· ∷ write 0 (headerBytes (updated hd) (written ∷ []) (blank-is i)) ∷ write 44 (word-is i) ∷ [])
 
 -- ---- an erased region
 

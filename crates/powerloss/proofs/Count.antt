@@ -11,7 +11,7 @@ use lib.ListN.{length, take}
 use Rattle.base.specs.Number.{pick}
 use Rattle.refusal.specs.declared.Refusal.the-variants.{Region, Argument, Full, Turn, Obsolete, Unfit}
 use Rattle.record.specs.declared.Source.{Source}
-use Rattle.region.specs.Region.{regionSize, capacity}
+use Rattle.region.specs.Region.{regionSize, capacity, sectorSize}
 use Rattle.base.proofs.Bools.{and-left, and-right}
 use Rattle.header.specs.WriteHeader.{headerBytes, blankWord, commitBytes, isFit}
 use Rattle.flash.specs.Flash.{Op, write}
@@ -42,7 +42,7 @@ abbrev pub soFar : Stage → ℕ → ℕ
 soFar Idle n = min n 1 + sectors n + writes n
 soFar (Due (Erase zero)) n = 0
 soFar (Due (Erase (suc k))) n = 1 + sectors n + writes n
-soFar (Due (Write a m)) n = 2 + n / 4096 + writes n
+soFar (Due (Write a m)) n = 2 + n / sectorSize + writes n
 soFar (Due (Compare a m)) n = 0
 soFar Headed n = min n 1 + sectors n + writes n + 1
 soFar Committed n = min n 1 + sectors n + writes n + 2
@@ -68,18 +68,18 @@ same-tally false st n ops m e h = (e ∙ omega arith ∙ h .0, h .1)
 -- ---- what comes to be due was not done before
 
 module _ (t : Taken) (ops : ℕ) (h : Tally false Idle (t .written) ops) where
-  data-tally : (0 ≡ t .written → ⊥) → (z : Bool) → eqb (t .written % 4096) 0 ≡ z → Tally false (Due (pick z (Erase (t .written / 4096 + 1)) (writeDue t))) (t .written) ops
+  data-tally : (0 ≡ t .written → ⊥) → (z : Bool) → eqb (t .written % sectorSize) 0 ≡ z → Tally false (Due (pick z (Erase (t .written / sectorSize + 1)) (writeDue t))) (t .written) ops
   data-tally n true e =
-      let q = eqb-true (t .written % 4096) 0 e in
-      subst (λ (k : ℕ). Tally false (Due (Erase k)) (t .written) ops) (sym (add-one (t .written / 4096))) (omega (arith, h .0), tt)
+      let q = eqb-true (t .written % sectorSize) 0 e in
+      subst (λ (k : ℕ). Tally false (Due (Erase k)) (t .written) ops) (sym (add-one (t .written / sectorSize))) (omega (arith, h .0), tt)
   data-tally n false e =
-      let q : t .written % 4096 ≡ 0 → ⊥ = eqb-false (t .written % 4096) 0 e in
+      let q : t .written % sectorSize ≡ 0 → ⊥ = eqb-false (t .written % sectorSize) 0 e in
       (omega (arith, h .0), tt)
 
   first-tally : (z : Bool) → eqb (t .written) 0 ≡ z → Tally false (Due (pick z (Erase 0) (dataDue t))) (t .written) ops
   unfolding dataDue
   first-tally true e = (omega (arith, h .0, eqb-true (t .written) 0 e), tt)
-  first-tally false e = data-tally (λ q. eqb-false (t .written) 0 e (sym q)) (eqb (t .written % 4096) 0) refl
+  first-tally false e = data-tally (λ q. eqb-false (t .written) 0 e (sym q)) (eqb (t .written % sectorSize) 0) refl
 
   due-tally : (d : Bool) → Tally false (pick d (Due (firstDue false t)) Idle) (t .written) ops
   unfolding firstDue
@@ -96,7 +96,7 @@ stage-tally false t ops h = due-tally t ops h (isDue t)
 one-more : (n k : ℕ) → 0 < k → min (n + k) 1 ≡ 1
 one-more n k h = omega arith
 
-sector-more : (n k : ℕ) → n % 256 ≡ 0 → 0 < k → k ≤ 256 → sectors (n + k) ≡ n / 4096 + 1
+sector-more : (n k : ℕ) → n % 256 ≡ 0 → 0 < k → k ≤ 256 → sectors (n + k) ≡ n / sectorSize + 1
 sector-more n k a h f = omega arith
 
 write-more : (n k : ℕ) → n % 256 ≡ 0 → 0 < k → k ≤ 256 → writes (n + k) ≡ writes n + 1
@@ -114,18 +114,18 @@ abbrev stageAfter : List ℕ → Writer → Stage → Stage
 stageAfter region w st = stepOf region w st .writer .stage
 
 module _ (region : List ℕ) (w : Writer) (ops m : ℕ) (tk : takenOk (w .taken) ≡ true) where
-  erased : w .taken .written ≡ 0 → m ≡ 1 → (z : Bool) → eqb (w .taken .written % 4096) 0 ≡ z
-      → Tally false (Due (pick z (Erase (w .taken .written / 4096 + 1)) (writeDue (w .taken)))) (w .taken .written) m
-  erased e q true f = subst (λ (k : ℕ). Tally false (Due (Erase k)) (w .taken .written) m) (sym (add-one (w .taken .written / 4096))) (omega arith, tt)
-  erased e q false f = absurd (eqb-false (w .taken .written % 4096) 0 f (omega arith))
+  erased : w .taken .written ≡ 0 → m ≡ 1 → (z : Bool) → eqb (w .taken .written % sectorSize) 0 ≡ z
+      → Tally false (Due (pick z (Erase (w .taken .written / sectorSize + 1)) (writeDue (w .taken)))) (w .taken .written) m
+  erased e q true f = subst (λ (k : ℕ). Tally false (Due (Erase k)) (w .taken .written) m) (sym (add-one (w .taken .written / sectorSize))) (omega arith, tt)
+  erased e q false f = absurd (eqb-false (w .taken .written % sectorSize) 0 f (omega arith))
 
-  wrote : 0 < w .taken .fill → m ≡ 2 + w .taken .written / 4096 + writes (w .taken .written) + 1 → m ≡ soFar Idle (w .taken .written + w .taken .fill)
+  wrote : 0 < w .taken .fill → m ≡ 2 + w .taken .written / sectorSize + writes (w .taken .written) + 1 → m ≡ soFar Idle (w .taken .written + w .taken .fill)
   wrote p e =
       let n = w .taken .written in
       let k = w .taken .fill in
       let a = tail-aligned (w .taken) tk p in
       let f = fill-fits (w .taken) tk in
-      rearranged m (n / 4096) (writes n) e ∙ sym (λ i. one-more n k p i + sector-more n k a p f i + write-more n k a p f i)
+      rearranged m (n / sectorSize) (writes n) e ∙ sym (λ i. one-more n k p i + sector-more n k a p f i + write-more n k a p f i)
 
   did-tally : (st : Stage) → stageOk false (w .taken) st ≡ true → w .stage ≡ st → Tally false st (w .taken .written) ops → m ≡ ops + length (opsOf (w .tail) st)
       → Tally false (stageAfter region w st) (writtenAfter region w st) m
@@ -134,7 +134,7 @@ module _ (region : List ℕ) (w : Writer) (ops m : ℕ) (tk : takenOk (w .taken)
   did-tally Headed k e h q = subst (λ (s : Stage). Tally false s (w .taken .written) m) (sym e) (same-tally false Headed (w .taken .written) ops m q h)
   did-tally Committed k e h q = subst (λ (s : Stage). Tally false s (w .taken .written) m) (sym e) (same-tally false Committed (w .taken .written) ops m q h)
   did-tally (Due (Erase zero)) k e h q =
-      erased (erase-zero (w .taken) (due-ok false (w .taken) (Erase 0) k .1)) (omega (arith, h .0)) (eqb (w .taken .written % 4096) 0) refl
+      erased (erase-zero (w .taken) (due-ok false (w .taken) (Erase 0) k .1)) (omega (arith, h .0)) (eqb (w .taken .written % sectorSize) 0) refl
   did-tally (Due (Erase (suc j))) k e h q =
       let d = erase-data (w .taken) j (due-ok false (w .taken) (Erase (suc j)) k .1) in
       rw (ne-eqb (suc j) 0 (λ z. omega arith)) (omega (arith, h .0, d .0), tt)

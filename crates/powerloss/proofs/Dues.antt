@@ -152,8 +152,8 @@ module _ (region : List ℕ) (hd : Loaded) (rs : List Source) (im : Image) (w : 
       (restage r′ (Due (dataDue t)) c (due-of false t (dataDue t) (d .0) (data-ok t)) (
         live-at region hd a rs im k (m .0) (erase 0),
         data-lies t (w .tail) u (bankOf r′ (target a)) al
-            (subst (Laid 0 4096 (t .written) (t .fill) (w .tail) (u .data·)) (sym (bank-at region hd a rs im k (m .0) (erase 0))) h)
-            (eqb (t .written % 4096) 0) refl,
+            (subst (Laid 0 sectorSize (t .written) (t .fill) (w .tail) (u .data·)) (sym (bank-at region hd a rs im k (m .0) (erase 0))) h)
+            (eqb (t .written % sectorSize) 0) refl,
       ))
 
   erase-next : (j : ℕ) → w .stage ≡ Due (Erase (suc j)) → Carried (erase (suc j * sectorSize) ∷ []) (target (w .beginning .active)) region hd rs im (withStage w (Due (writeDue (w .taken)))) u
@@ -172,7 +172,7 @@ module _ (region : List ℕ) (hd : Loaded) (rs : List Source) (im : Image) (w : 
       let r′ = applied (target a) op region in
       one-op (target a) region hd rs im (withStage w (Due (writeDue t))) u k op
       (λ i. kept-unmarked-at region hd a rs im k (m .0) op i
-      (later-unmarked 0 4096 (t .written) (t .fill) (w .tail) (u .data·) b (m .1) i op (omega arith) (omega (arith, length-at region hd a rs im k (m .0) op, e .0, e .1, position-fits t (own .taken), due-fill t (d .0)))))
+      (later-unmarked 0 sectorSize (t .written) (t .fill) (w .tail) (u .data·) b (m .1) i op (omega arith) (omega (arith, length-at region hd a rs im k (m .0) op, e .0, e .1, position-fits t (own .taken), due-fill t (d .0)))))
       (restage r′ (Due (writeDue t)) c (due-of false t (writeDue t) (d .0) (write-ok t)) (
         live-at region hd a rs im k (m .0) op,
         subst (Laid 256 4097 (t .written) (t .fill) (w .tail) (u .data·)) (sym (bank-at region hd a rs im k (m .0) op)) h,
@@ -198,7 +198,7 @@ module _ (region : List ℕ) (hd : Loaded) (rs : List Source) (im : Image) (w : 
       (empty r′ (t .different) (d .0)
       (subst (λ (x : Bool). Mode x Idle r′ hd a (emptied t (t .different)) (w .tail) u) (sym c) (
         live-at region hd a rs im k (m .0) op,
-        inr (subst (Laid 0 4096 (t .written + t .fill) 0 (w .tail) (u .data·)) (sym (bank-at region hd a rs im k (m .0) op)) h, omega arith),
+        inr (subst (Laid 0 sectorSize (t .written + t .fill) 0 (w .tail) (u .data·)) (sym (bank-at region hd a rs im k (m .0) op)) h, omega arith),
       )))
 
   compare-tail : (i n : ℕ) (c : Bool) → w .beginning .comparing ≡ c → w .stage ≡ Due (Compare i n) → (d : Bool) → Carried [] (target (w .beginning .active)) region hd rs im (withEmptied w d) u

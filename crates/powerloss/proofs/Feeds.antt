@@ -11,7 +11,7 @@ use lib.ListN.{length, take}
 use Rattle.base.specs.Number.{pick}
 use Rattle.refusal.specs.declared.Refusal.the-variants.{Full, Turn}
 use Rattle.record.specs.declared.Source.{Source}
-use Rattle.region.specs.Region.{capacity}
+use Rattle.region.specs.Region.{capacity, sectorSize}
 use Rattle.header.specs.Types.{Bytes}
 use Rattle.bank.specs.declared.Loaded.{Loaded}
 use Rattle.flash.specs.Flash.{performed}
@@ -77,8 +77,8 @@ record Stepped (st : Stage) (w w′ : Writer) : Type 0 where
   tables : w′ .tables ≡ w .tables
   rank· : rank (w′ .stage) ≤ rank st - 1
 
-data-rank : (t : Taken) (z : Bool) → rank (Due (pick z (Erase (t .written / 4096 + 1)) (writeDue t))) ≤ 2
-data-rank t true = subst (λ (k : ℕ). rank (Due (Erase k)) ≤ 2) (sym (add-one (t .written / 4096))) (omega arith)
+data-rank : (t : Taken) (z : Bool) → rank (Due (pick z (Erase (t .written / sectorSize + 1)) (writeDue t))) ≤ 2
+data-rank t true = subst (λ (k : ℕ). rank (Due (Erase k)) ≤ 2) (sym (add-one (t .written / sectorSize))) (omega arith)
 data-rank t false = omega arith
 
 stepped : (region : List ℕ) (w : Writer) (st : Stage) → w .stage ≡ st → Stepped st w (stepOf region w st .writer)
@@ -86,7 +86,7 @@ unfolding operated dataDue
 stepped region w Idle e = record { closed = refl; position· = refl; tables = refl; rank· = omega (arith, ap rank e) }
 stepped region w Headed e = record { closed = refl; position· = refl; tables = refl; rank· = omega (arith, ap rank e) }
 stepped region w Committed e = record { closed = refl; position· = refl; tables = refl; rank· = omega (arith, ap rank e) }
-stepped region w (Due (Erase zero)) e = record { closed = refl; position· = refl; tables = refl; rank· = data-rank (w .taken) (eqb (w .taken .written % 4096) 0) }
+stepped region w (Due (Erase zero)) e = record { closed = refl; position· = refl; tables = refl; rank· = data-rank (w .taken) (eqb (w .taken .written % sectorSize) 0) }
 stepped region w (Due (Erase (suc j))) e =
     rw (ne-eqb (suc j) 0 (λ h. omega arith)) (record { closed = refl; position· = refl; tables = refl; rank· = omega arith })
 stepped region w (Due (Write a n)) e = record { closed = refl; position· = omega arith; tables = refl; rank· = omega arith }
@@ -188,7 +188,7 @@ took-one x w a f d n p q r s = rw (p, q, r, s)
 pub may-take : (hd : Loaded) (region : List ℕ) (w : Writer) (u : Update) → Open region hd w u → w .taken .closed ≡ false → mayTake w ≡ true
 may-take hd region w u o e = rw (o .tied .range, e)
 
-byte-step : (hd : Loaded) (region : List ℕ) (w : Writer) (u : Update) (x : ℕ) → Open region hd w u → w .taken .closed ≡ false → isDue (w .taken) ≡ false → position (w .taken) + 1 ≤ 487424
+byte-step : (hd : Loaded) (region : List ℕ) (w : Writer) (u : Update) (x : ℕ) → Open region hd w u → w .taken .closed ≡ false → isDue (w .taken) ≡ false → position (w .taken) + 1 ≤ capacity
     → bytesStep w (x ∷ []) ≡ record { answer = Took 1; writer = withBytes w (x ∷ []) }
 unfolding bytesStep took
 byte-step hd region w u x o e d p =
@@ -213,7 +213,7 @@ unfolding withBytes
 bytes-position w x = omega arith
 
 pub feed-update : (hd : Loaded) (rs : List Source) (im : Image) (xs region : List ℕ) (w : Writer) (u : Update) → Now hd rs im region w u → w .taken .closed ≡ false → isDue (w .taken) ≡ false
-    → position (w .taken) + length xs ≤ 487424 → Bytes xs → ranUpdate region w (feed xs) u ≡ takes xs u
+    → position (w .taken) + length xs ≤ capacity → Bytes xs → ranUpdate region w (feed xs) u ≡ takes xs u
 unfolding feed
 feed-update hd rs im [] region w u h e d p b = unfold ranUpdate in (sym (takes-nil u))
 feed-update hd rs im (x ∷ xs) region w u h e d p b =
@@ -232,7 +232,7 @@ feed-update hd rs im (x ∷ xs) region w u h e d p b =
 
 -- what was due, then bytes
 pub dues-feed : (hd : Loaded) (rs : List Source) (im : Image) (xs region : List ℕ) (w : Writer) (u : Update) → Now hd rs im region w u → w .taken .closed ≡ false
-    → position (w .taken) + length xs ≤ 487424 → Bytes xs → ranUpdate region w (dues ++ feed xs) u ≡ takes xs u
+    → position (w .taken) + length xs ≤ capacity → Bytes xs → ranUpdate region w (dues ++ feed xs) u ≡ takes xs u
 dues-feed hd rs im xs region w u h e p b =
     let t = three hd rs im region w u h in
     dues-update region w (feed xs) u

@@ -108,7 +108,7 @@ pub record Laid (lo hi wr fl : ℕ) (tail d b : List ℕ) : Type 0 where
   pub lies : b ≡ fill 255 sectorSize ++ (front ++ (fill 255 gap ++ rest))
   pub count : length front ≡ wr
   pub all : d ≡ front ++ take fl tail
-  pub ends : (wr + gap) % 4096 ≡ 0
+  pub ends : (wr + gap) % sectorSize ≡ 0
   pub least : lo ≤ gap
   pub most : gap < hi
 
@@ -121,9 +121,9 @@ pub record HeaderLies (u : Update) (b : List ℕ) : Type 0 where
   pub proper : All Proper (recordsOf u)
 
 abbrev pub Lies : Stage → Taken → List ℕ → Update → List ℕ → Type 0
-Lies Idle t tail u b = Bare (t .written) (t .fill) tail (u .data·) ⊎ (Laid 0 4096 (t .written) (t .fill) tail (u .data·) b × (0 < t .written))
+Lies Idle t tail u b = Bare (t .written) (t .fill) tail (u .data·) ⊎ (Laid 0 sectorSize (t .written) (t .fill) tail (u .data·) b × (0 < t .written))
 Lies (Due (Erase zero)) t tail u b = Bare (t .written) (t .fill) tail (u .data·)
-Lies (Due (Erase (suc k))) t tail u b = Laid 0 4096 (t .written) (t .fill) tail (u .data·) b
+Lies (Due (Erase (suc k))) t tail u b = Laid 0 sectorSize (t .written) (t .fill) tail (u .data·) b
 Lies (Due (Write a n)) t tail u b = Laid 256 4097 (t .written) (t .fill) tail (u .data·) b
 Lies (Due (Compare a n)) t tail u b = ⊥
 Lies Headed t tail u b = HeaderLies u b

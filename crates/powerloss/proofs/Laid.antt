@@ -11,7 +11,7 @@ use Rattle.base.specs.Lists.{fill, byte}
 use Rattle.record.specs.Types.{All}
 use Rattle.base.proofs.Lists.{length-fill, fill-split}
 use Rattle.header.specs.declared.Bank.{Bank}
-use Rattle.region.specs.Region.{bankSize, sectorSize, dataOf}
+use Rattle.region.specs.Region.{bankSize, sectorSize, dataOf, capacity}
 use Rattle.header.specs.Header.{marked}
 use Rattle.header.specs.WriteHeader.{headerBytes, blankWord, commitBytes, recordBytes}
 use Rattle.header.specs.Types.{Bytes, Proper}
@@ -34,9 +34,9 @@ byte-fill (suc n) zero x h = refl
 byte-fill (suc n) (suc i) x h = byte-fill n i x (omega arith)
 
 -- the header sector is blank
-pub laid-blank : (lo hi wr fl : ℕ) (tail d b : List ℕ) → Laid lo hi wr fl tail d b → (i : ℕ) → i < 4096 → byte b i ≡ 255
+pub laid-blank : (lo hi wr fl : ℕ) (tail d b : List ℕ) → Laid lo hi wr fl tail d b → (i : ℕ) → i < sectorSize → byte b i ≡ 255
 laid-blank lo hi wr fl tail d b h i l =
-    ap (λ (x : List ℕ). byte x i) (h .lies) ∙ byte-fill 4096 i (h .front ++ (fill 255 (h .gap) ++ h .rest)) l
+    ap (λ (x : List ℕ). byte x i) (h .lies) ∙ byte-fill sectorSize i (h .front ++ (fill 255 (h .gap) ++ h .rest)) l
 
 -- and stays without its mark under an operation at a later place, however far that is done
 pub later-unmarked : (lo hi wr fl : ℕ) (tail d b : List ℕ) → Laid lo hi wr fl tail d b → (j : ℕ) (op : Op) → 0 < place op → place op ≤ length b → marked (done j op b) ≡ false
@@ -50,15 +50,15 @@ head-unmarked lo hi wr fl tail d b h j k ss =
     (write-leaves-255 j 0 47 (headerBytes k ss blankWord) b zero-le (blank-47 k ss) (laid-blank lo hi wr fl tail d b h 47 (omega arith)))
 
 -- the header sector's erase
-pub bare-erase : (t : Taken) (tail d b : List ℕ) → Bare (t .written) (t .fill) tail d → length b ≡ bankSize → Laid 0 4096 (t .written) (t .fill) tail d (done sectorSize (erase 0) b)
+pub bare-erase : (t : Taken) (tail d b : List ℕ) → Bare (t .written) (t .fill) tail d → length b ≡ bankSize → Laid 0 sectorSize (t .written) (t .fill) tail d (done sectorSize (erase 0) b)
 bare-erase t tail d b f l =
-    let e : done sectorSize (erase 0) b ≡ fill 255 sectorSize ++ drop 4096 b =
-    ap (λ (x : List ℕ). done sectorSize (erase 0) x) (sym (take-append-drop 4096 b)) ∙ erase-over [] (take 4096 b) (drop 4096 b) 0 refl (length-take-le 4096 b (omega arith)) in
+    let e : done sectorSize (erase 0) b ≡ fill 255 sectorSize ++ drop sectorSize b =
+    ap (λ (x : List ℕ). done sectorSize (erase 0) x) (sym (take-append-drop sectorSize b)) ∙ erase-over [] (take sectorSize b) (drop sectorSize b) 0 refl (length-take-le sectorSize b (omega arith)) in
     record {
       front = [];
-      rest = drop 4096 b;
+      rest = drop sectorSize b;
       gap = 0;
-      lies = e ∙ ap (λ (x : List ℕ). fill 255 sectorSize ++ (x ++ drop 4096 b)) (sym fill-none);
+      lies = e ∙ ap (λ (x : List ℕ). fill 255 sectorSize ++ (x ++ drop sectorSize b)) (sym fill-none);
       count = sym (f .written);
       all = f .all;
       ends = rw (f .written);
@@ -68,16 +68,16 @@ bare-erase t tail d b f l =
 
 module _ (t : Taken) (tail d b : List ℕ) (l : length b ≡ bankSize) where
   -- a data sector's erase
-  module _ (h : Laid 0 4096 (t .written) (t .fill) tail d b) (z : t .written % 4096 ≡ 0) (f : t .written + t .fill ≤ 487424) (p : 0 < t .fill) where
+  module _ (h : Laid 0 sectorSize (t .written) (t .fill) tail d b) (z : t .written % sectorSize ≡ 0) (f : t .written + t .fill ≤ capacity) (p : 0 < t .fill) where
     pre : List ℕ
     pre = fill 255 sectorSize ++ h .front
 
     no-gap : h .gap ≡ 0
     no-gap = omega (arith, h .ends, h .most)
 
-    length-pre : length pre ≡ 4096 + t .written
+    length-pre : length pre ≡ sectorSize + t .written
     unfolding pre
-    length-pre = length-append (fill 255 sectorSize) (h .front) ∙ omega (arith, length-fill {A = ℕ} 255 4096, h .count)
+    length-pre = length-append (fill 255 sectorSize) (h .front) ∙ omega (arith, length-fill {A = ℕ} 255 sectorSize, h .count)
 
     lies-pre : b ≡ pre ++ h .rest
     unfolding pre
@@ -87,21 +87,21 @@ module _ (t : Taken) (tail d b : List ℕ) (l : length b ≡ bankSize) where
         ∙ ap (λ (x : List ℕ). fill 255 sectorSize ++ (h .front ++ (x ++ h .rest))) fill-none
         ∙ sym (append-assoc (fill 255 sectorSize) (h .front) (h .rest))
 
-    rest-long : 4096 ≤ length (h .rest)
+    rest-long : sectorSize ≤ length (h .rest)
     rest-long = omega (arith, length-pre, ap length lies-pre, length-append pre (h .rest))
 
-    pub laid-erase : (at : ℕ) → at ≡ 4096 + t .written → Laid 256 4097 (t .written) (t .fill) tail d (done sectorSize (erase at) b)
+    pub laid-erase : (at : ℕ) → at ≡ sectorSize + t .written → Laid 256 4097 (t .written) (t .fill) tail d (done sectorSize (erase at) b)
     unfolding pre
     laid-erase at e =
         let r = h .rest in
-        let g : done sectorSize (erase at) b ≡ pre ++ (fill 255 sectorSize ++ drop 4096 r) =
-        ap (λ (x : List ℕ). done sectorSize (erase at) x) (lies-pre ∙ ap (λ (x : List ℕ). pre ++ x) (sym (take-append-drop 4096 r)))
-        ∙ erase-over pre (take 4096 r) (drop 4096 r) at (length-pre ∙ sym e) (length-take-le 4096 r rest-long) in
+        let g : done sectorSize (erase at) b ≡ pre ++ (fill 255 sectorSize ++ drop sectorSize r) =
+        ap (λ (x : List ℕ). done sectorSize (erase at) x) (lies-pre ∙ ap (λ (x : List ℕ). pre ++ x) (sym (take-append-drop sectorSize r)))
+        ∙ erase-over pre (take sectorSize r) (drop sectorSize r) at (length-pre ∙ sym e) (length-take-le sectorSize r rest-long) in
         record {
           front = h .front;
-          rest = drop 4096 r;
-          gap = 4096;
-          lies = g ∙ append-assoc (fill 255 sectorSize) (h .front) (fill 255 sectorSize ++ drop 4096 r);
+          rest = drop sectorSize r;
+          gap = sectorSize;
+          lies = g ∙ append-assoc (fill 255 sectorSize) (h .front) (fill 255 sectorSize ++ drop sectorSize r);
           count = h .count;
           all = h .all;
           ends = omega arith;
@@ -149,9 +149,9 @@ module _ (t : Taken) (tail d b : List ℕ) (l : length b ≡ bankSize) where
     front-of : List ℕ
     front-of = fill 255 sectorSize ++ h .front
 
-    length-front : length front-of ≡ 4096 + t .written
+    length-front : length front-of ≡ sectorSize + t .written
     unfolding front-of
-    length-front = length-append (fill 255 sectorSize) (h .front) ∙ omega (arith, length-fill {A = ℕ} 255 4096, h .count)
+    length-front = length-append (fill 255 sectorSize) (h .front) ∙ omega (arith, length-fill {A = ℕ} 255 sectorSize, h .count)
 
     lies-front : b ≡ front-of ++ (fill 255 (length (padded part)) ++ (fill 255 left ++ h .rest))
     unfolding front-of left
@@ -163,11 +163,11 @@ module _ (t : Taken) (tail d b : List ℕ) (l : length b ≡ bankSize) where
         ∙ ap (λ (x : List ℕ). fill 255 sectorSize ++ (h .front ++ x)) (append-assoc (fill 255 (length (padded part))) (fill 255 left) (h .rest))
         ∙ sym (append-assoc (fill 255 sectorSize) (h .front) (fill 255 (length (padded part)) ++ (fill 255 left ++ h .rest)))
 
-    after-write : done (length (padded part)) (write (4096 + t .written) (padded part)) b ≡ fill 255 sectorSize ++ ((h .front ++ part) ++ (fill 255 (pads + left) ++ h .rest))
+    after-write : done (length (padded part)) (write (sectorSize + t .written) (padded part)) b ≡ fill 255 sectorSize ++ ((h .front ++ part) ++ (fill 255 (pads + left) ++ h .rest))
     unfolding front-of
     after-write =
-        ap (λ (x : List ℕ). done (length (padded part)) (write (4096 + t .written) (padded part)) x) lies-front
-        ∙ write-over front-of (padded part) (fill 255 left ++ h .rest) (4096 + t .written) length-front bytes-padded
+        ap (λ (x : List ℕ). done (length (padded part)) (write (sectorSize + t .written) (padded part)) x) lies-front
+        ∙ write-over front-of (padded part) (fill 255 left ++ h .rest) (sectorSize + t .written) length-front bytes-padded
         ∙ ap (λ (x : List ℕ). front-of ++ (x ++ (fill 255 left ++ h .rest))) padded-is
         ∙ ap (λ (x : List ℕ). front-of ++ x) (append-assoc part (fill 255 pads) (fill 255 left ++ h .rest))
         ∙ ap (λ (x : List ℕ). front-of ++ (part ++ x)) (sym (append-assoc (fill 255 pads) (fill 255 left) (h .rest)))
@@ -179,7 +179,7 @@ module _ (t : Taken) (tail d b : List ℕ) (l : length b ≡ bankSize) where
     unfolding part
     laid-all = h .all ∙ sym (append-nil (h .front ++ part))
 
-    pub laid-write : Laid 0 4096 (t .written + t .fill) 0 tail d (done (length (padded (take (t .fill) tail))) (write (4096 + t .written) (padded (take (t .fill) tail))) b)
+    pub laid-write : Laid 0 sectorSize (t .written + t .fill) 0 tail d (done (length (padded (take (t .fill) tail))) (write (sectorSize + t .written) (padded (take (t .fill) tail))) b)
     unfolding left part
     laid-write =
         record {
@@ -197,7 +197,7 @@ module _ (t : Taken) (tail d b : List ℕ) (l : length b ≡ bankSize) where
 -- ---- the header
 
 module _ (k : Bank) (ss : List Source) (ps : All Proper ss) (n : length ss ≤ 3) where
-  pub header-write : (t : Taken) (tail d b : List ℕ) → Laid 0 4096 (t .written) (t .fill) tail d b → t .fill ≡ 0 → (rest : List ℕ)
+  pub header-write : (t : Taken) (tail d b : List ℕ) → Laid 0 sectorSize (t .written) (t .fill) tail d b → t .fill ≡ 0 → (rest : List ℕ)
       × (done (length (headerBytes k ss blankWord)) (write 0 (headerBytes k ss blankWord)) b ≡ headerBytes k ss blankWord ++ (fill 255 2896 ++ (d ++ rest)))
   header-write t tail d b h z =
       let hw = headerBytes k ss blankWord in
@@ -236,8 +236,8 @@ module _ (k : Bank) (ss : List Source) (ps : All Proper ss) (n : length ss ≤ 3
   unfolding dataOf
   header-data d rest =
       let hw = headerBytes k ss commitBytes in
-      let l : length (hw ++ fill 255 2896) ≡ 4096 =
+      let l : length (hw ++ fill 255 2896) ≡ sectorSize =
       length-append hw (fill 255 2896) ∙ omega (arith, length-header k ss commitBytes ps n length-commit-bytes, length-fill {A = ℕ} 255 2896) in
-      ap (λ (x : List ℕ). take (length d) (drop 4096 x)) (sym (append-assoc hw (fill 255 2896) (d ++ rest)))
-      ∙ ap (take (length d)) (drop-at (hw ++ fill 255 2896) (d ++ rest) 4096 l)
+      ap (λ (x : List ℕ). take (length d) (drop sectorSize x)) (sym (append-assoc hw (fill 255 2896) (d ++ rest)))
+      ∙ ap (take (length d)) (drop-at (hw ++ fill 255 2896) (d ++ rest) sectorSize l)
       ∙ take-at d rest (length d) refl

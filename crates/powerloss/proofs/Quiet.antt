@@ -20,7 +20,7 @@ use Rattle.record.specs.Record.{noBlock}
 use Rattle.base.specs.Lists.{fill}
 use Rattle.record.specs.Types.{All, Block32}
 use Rattle.base.proofs.Lists.{length-fill}
-use Rattle.region.specs.Region.{regionSize}
+use Rattle.region.specs.Region.{regionSize, sectorSize}
 use Rattle.base.proofs.Bools.{and-left, and-right}
 use Rattle.header.specs.Types.{Proper}
 use Rattle.bank.specs.declared.Loaded.{Loaded}
@@ -116,10 +116,10 @@ only-idle c t Committed k e d = true-false (t .closed) (committed-end c t k .clo
 
 -- what is due then, where nothing was due
 module _ (t : Taken) (tail : List ℕ) (u : Update) (b : List ℕ) (m : t .written % 256 ≡ 0) where
-  pub data-lies : Laid 0 4096 (t .written) (t .fill) tail (u .data·) b → (z : Bool) → eqb (t .written % 4096) 0 ≡ z → Lies (Due (pick z (Erase (t .written / 4096 + 1)) (writeDue t))) t tail u b
-  data-lies h true e = subst (λ (k : ℕ). Lies (Due (Erase k)) t tail u b) (sym (add-one (t .written / 4096))) h
+  pub data-lies : Laid 0 sectorSize (t .written) (t .fill) tail (u .data·) b → (z : Bool) → eqb (t .written % sectorSize) 0 ≡ z → Lies (Due (pick z (Erase (t .written / sectorSize + 1)) (writeDue t))) t tail u b
+  data-lies h true e = subst (λ (k : ℕ). Lies (Due (Erase k)) t tail u b) (sym (add-one (t .written / sectorSize))) h
   data-lies h false e =
-      let ne : t .written % 4096 ≡ 0 → ⊥ = eqb-false (t .written % 4096) 0 e in
+      let ne : t .written % sectorSize ≡ 0 → ⊥ = eqb-false (t .written % sectorSize) 0 e in
       record {
         front = h .front;
         rest = h .rest;
@@ -137,7 +137,7 @@ module _ (t : Taken) (tail : List ℕ) (u : Update) (b : List ℕ) (m : t .writt
   first-lies (inl f) true e = f
   first-lies (inl f) false e = absurd (eqb-false (t .written) 0 e (f .written))
   first-lies (inr h) true e = absurd (omega (arith, eqb-true (t .written) 0 e, h .1))
-  first-lies (inr h) false e = data-lies (h .0) (eqb (t .written % 4096) 0) refl
+  first-lies (inr h) false e = data-lies (h .0) (eqb (t .written % sectorSize) 0) refl
 
   stage-lies : (region : List ℕ) (hd active : Loaded) → Live region hd active → Lies Idle t tail u b → (d : Bool)
       → LiveAt (pick d (Due (firstDue false t)) Idle) region hd active × Lies (pick d (Due (firstDue false t)) Idle) t tail u b

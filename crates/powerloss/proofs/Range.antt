@@ -19,6 +19,7 @@ use Rattle.writer.specs.State.{position, isDue, writeDue, dataDue, firstDue, st
 use Rattle.writer.proofs.Laws.{fill-fits, position-fits}
 use Rattle.lower.specs.Lower.{closedTaken}
 use Rattle.due.specs.Due.{emptied}
+use Rattle.region.specs.Region.{capacity, sectorSize}
 
 pub range-of : (w : Writer) → activeOk (w .beginning .active) ≡ true → takenOk (w .taken) ≡ true → tablesOk (position (w .taken)) (w .tables) ≡ true
     → stageOk (w .beginning .comparing) (w .taken) (w .stage) ≡ true → inRange w ≡ true
@@ -49,7 +50,7 @@ true-false a e f = absurd (false≢true (sym f ∙ e))
 pub open-aligned : (t : Taken) → takenOk t ≡ true → t .closed ≡ false → t .written % 256 ≡ 0
 unfolding takenOk
 open-aligned t e c =
-    let a = and-right (leb (position t) 487424) (aligned t) (and-right (leb (t .fill) 256) (leb (position t) 487424 && aligned t) e) in
+    let a = and-right (leb (position t) capacity) (aligned t) (and-right (leb (t .fill) 256) (leb (position t) capacity && aligned t) e) in
     let f : (eqb (t .written % 256) 0 || false) ≡ true = ap (λ (x : Bool). eqb (t .written % 256) 0 || (x && eqb (t .fill) 0)) (sym c) ∙ a in
     eqb-true (t .written % 256) 0 (or-left (eqb (t .written % 256) 0) f)
 
@@ -57,7 +58,7 @@ open-aligned t e c =
 pub tail-aligned : (t : Taken) → takenOk t ≡ true → 0 < t .fill → t .written % 256 ≡ 0
 unfolding takenOk
 tail-aligned t e p =
-    let a = and-right (leb (position t) 487424) (aligned t) (and-right (leb (t .fill) 256) (leb (position t) 487424 && aligned t) e) in
+    let a = and-right (leb (position t) capacity) (aligned t) (and-right (leb (t .fill) 256) (leb (position t) capacity && aligned t) e) in
     let z : eqb (t .fill) 0 ≡ false = ne-eqb (t .fill) 0 (λ h. omega arith) in
     let f : (eqb (t .written % 256) 0 || false) ≡ true = ap (λ (x : Bool). eqb (t .written % 256) 0 || x) (sym (and-false (t .closed)) ∙ ap (λ (x : Bool). t .closed && x) (sym z)) ∙ a in
     eqb-true (t .written % 256) 0 (or-left (eqb (t .written % 256) 0) f)
@@ -70,9 +71,9 @@ due-fill t e = due-by (or-either (eqb (t .fill) 256) (t .closed && ltb 0 (t .fil
     due-by (inl h) = omega (arith, eqb-true (t .fill) 256 h)
     due-by (inr h) = ltb-true 0 (t .fill) (and-right (t .closed) (ltb 0 (t .fill)) h)
 
-pub taken-of : (t : Taken) → t .fill ≤ 256 → position t ≤ 487424 → aligned t ≡ true → takenOk t ≡ true
+pub taken-of : (t : Taken) → t .fill ≤ 256 → position t ≤ capacity → aligned t ≡ true → takenOk t ≡ true
 unfolding takenOk
-taken-of t a b c = rw (le-leb (t .fill) 256 a, le-leb (position t) 487424 b, c)
+taken-of t a b c = rw (le-leb (t .fill) 256 a, le-leb (position t) capacity b, c)
 
 pub aligned-of : (t : Taken) → t .written % 256 ≡ 0 → aligned t ≡ true
 aligned-of t e = rw (eq-eqb (t .written % 256) 0 e)
@@ -100,14 +101,14 @@ pub write-ok : (t : Taken) → operationOk false t (writeDue t) ≡ true
 unfolding operationOk
 write-ok t = rw (eq-eqb (t .written) (t .written) refl, eq-eqb (t .fill) (t .fill) refl)
 
-data-by : (t : Taken) (z : Bool) → eqb (t .written % 4096) 0 ≡ z → operationOk false t (pick z (Erase (t .written / 4096 + 1)) (writeDue t)) ≡ true
+data-by : (t : Taken) (z : Bool) → eqb (t .written % sectorSize) 0 ≡ z → operationOk false t (pick z (Erase (t .written / sectorSize + 1)) (writeDue t)) ≡ true
 unfolding operationOk
-data-by t true e = rw (e, eq-eqb (t .written / 4096 + 1) (t .written / 4096 + 1) refl) (or-true (eqb (t .written) 0 && eqb (t .written / 4096 + 1) 0))
+data-by t true e = rw (e, eq-eqb (t .written / sectorSize + 1) (t .written / sectorSize + 1) refl) (or-true (eqb (t .written) 0 && eqb (t .written / sectorSize + 1) 0))
 data-by t false e = rw (eq-eqb (t .written) (t .written) refl, eq-eqb (t .fill) (t .fill) refl)
 
 pub data-ok : (t : Taken) → operationOk false t (dataDue t) ≡ true
 unfolding dataDue
-data-ok t = data-by t (eqb (t .written % 4096) 0) refl
+data-ok t = data-by t (eqb (t .written % sectorSize) 0) refl
 
 first-by : (t : Taken) (c z : Bool) → eqb (t .written) 0 ≡ z → operationOk c t (pick c (Compare (t .written) (t .fill)) (pick z (Erase 0) (dataDue t))) ≡ true
 unfolding operationOk
@@ -144,25 +145,25 @@ write-at t a n e = (eqb-true a (t .written) (and-left (eqb a (t .written)) (eqb 
 
 pub erase-zero : (t : Taken) → operationOk false t (Erase 0) ≡ true → t .written ≡ 0
 unfolding operationOk
-erase-zero t e = zero-by (or-either (eqb (t .written) 0 && eqb 0 0) (eqb (t .written % 4096) 0 && eqb 0 (t .written / 4096 + 1)) e)
+erase-zero t e = zero-by (or-either (eqb (t .written) 0 && eqb 0 0) (eqb (t .written % sectorSize) 0 && eqb 0 (t .written / sectorSize + 1)) e)
   where
-    zero-by : ((eqb (t .written) 0 && eqb 0 0) ≡ true) ⊎ ((eqb (t .written % 4096) 0 && eqb 0 (t .written / 4096 + 1)) ≡ true) → t .written ≡ 0
+    zero-by : ((eqb (t .written) 0 && eqb 0 0) ≡ true) ⊎ ((eqb (t .written % sectorSize) 0 && eqb 0 (t .written / sectorSize + 1)) ≡ true) → t .written ≡ 0
     zero-by (inl h) = eqb-true (t .written) 0 (and-left (eqb (t .written) 0) (eqb 0 0) h)
     zero-by (inr h) =
-        let q = eqb-true 0 (t .written / 4096 + 1) (and-right (eqb (t .written % 4096) 0) (eqb 0 (t .written / 4096 + 1)) h) in
+        let q = eqb-true 0 (t .written / sectorSize + 1) (and-right (eqb (t .written % sectorSize) 0) (eqb 0 (t .written / sectorSize + 1)) h) in
         absurd (omega arith)
 
-pub erase-data : (t : Taken) (k : ℕ) → operationOk false t (Erase (suc k)) ≡ true → (t .written % 4096 ≡ 0) × (suc k ≡ t .written / 4096 + 1)
+pub erase-data : (t : Taken) (k : ℕ) → operationOk false t (Erase (suc k)) ≡ true → (t .written % sectorSize ≡ 0) × (suc k ≡ t .written / sectorSize + 1)
 unfolding operationOk
-erase-data t k e = data-of (or-either (eqb (t .written) 0 && eqb (suc k) 0) (eqb (t .written % 4096) 0 && eqb (suc k) (t .written / 4096 + 1)) e)
+erase-data t k e = data-of (or-either (eqb (t .written) 0 && eqb (suc k) 0) (eqb (t .written % sectorSize) 0 && eqb (suc k) (t .written / sectorSize + 1)) e)
   where
-    data-of : ((eqb (t .written) 0 && eqb (suc k) 0) ≡ true) ⊎ ((eqb (t .written % 4096) 0 && eqb (suc k) (t .written / 4096 + 1)) ≡ true) → (t .written % 4096 ≡ 0) × (suc k ≡ t .written / 4096 + 1)
+    data-of : ((eqb (t .written) 0 && eqb (suc k) 0) ≡ true) ⊎ ((eqb (t .written % sectorSize) 0 && eqb (suc k) (t .written / sectorSize + 1)) ≡ true) → (t .written % sectorSize ≡ 0) × (suc k ≡ t .written / sectorSize + 1)
     data-of (inl h) =
         let q = eqb-true (suc k) 0 (and-right (eqb (t .written) 0) (eqb (suc k) 0) h) in
         absurd (omega arith)
     data-of (inr h) = (
-      eqb-true (t .written % 4096) 0 (and-left (eqb (t .written % 4096) 0) (eqb (suc k) (t .written / 4096 + 1)) h),
-      eqb-true (suc k) (t .written / 4096 + 1) (and-right (eqb (t .written % 4096) 0) (eqb (suc k) (t .written / 4096 + 1)) h),
+      eqb-true (t .written % sectorSize) 0 (and-left (eqb (t .written % sectorSize) 0) (eqb (suc k) (t .written / sectorSize + 1)) h),
+      eqb-true (suc k) (t .written / sectorSize + 1) (and-right (eqb (t .written % sectorSize) 0) (eqb (suc k) (t .written / sectorSize + 1)) h),
     )
 
 pub headed-of : (c : Bool) (t : Taken) → c ≡ false → t .closed ≡ true → t .fill ≡ 0 → stageOk c t Headed ≡ true

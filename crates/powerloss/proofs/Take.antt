@@ -98,7 +98,7 @@ module _ (region : List ℕ) (hd : Loaded) (w : Writer) (u : Update) (o : Open r
 
   -- ---- bytes
 
-  pub with-bytes : (ys : List ℕ) → Bytes ys → w .taken .closed ≡ false → isDue (w .taken) ≡ false → w .taken .fill + length ys ≤ 256 → position (w .taken) + length ys ≤ 487424
+  pub with-bytes : (ys : List ℕ) → Bytes ys → w .taken .closed ≡ false → isDue (w .taken) ≡ false → w .taken .fill + length ys ≤ 256 → position (w .taken) + length ys ≤ capacity
       → Open region hd (withBytes w ys) (takes ys u)
   unfolding withBytes
   with-bytes ys b e d f p =
@@ -151,7 +151,7 @@ module _ (region : List ℕ) (hd : Loaded) (w : Writer) (u : Update) (o : Open r
   none-taken : Open region hd w (takes [] u)
   none-taken = subst (Open region hd w) (sym (takes-nil u)) o
 
-  took-by : (xs : List ℕ) → Bytes xs → w .taken .closed ≡ false → position (w .taken) + length xs ≤ 487424 → (n : ℕ) → n ≡ room (w .taken) (length xs) → (d : Bool) → isDue (w .taken) ≡ d
+  took-by : (xs : List ℕ) → Bytes xs → w .taken .closed ≡ false → position (w .taken) + length xs ≤ capacity → (n : ℕ) → n ≡ room (w .taken) (length xs) → (d : Bool) → isDue (w .taken) ≡ d
       → Open region hd (pick {A = Step} d (record { answer = Took 0; writer = w }) (record { answer = Took n; writer = withBytes w (take n xs) }) .writer)
       (updateAfter (bytes xs) (pick {A = Step} d (record { answer = Took 0; writer = w }) (record { answer = Took n; writer = withBytes w (take n xs) }) .answer) u)
   unfolding updateAfter
@@ -165,7 +165,7 @@ module _ (region : List ℕ) (hd : Loaded) (w : Writer) (u : Update) (o : Open r
       → Open region hd (pick a (pick f (took w xs) (stays w Full)) (stays w Turn) .writer) (updateAfter (bytes xs) (pick a (pick f (took w xs) (stays w Full)) (stays w Turn) .answer) u)
   unfolding updateAfter took
   bytes-by xs b true true e f =
-      took-by xs b (may-open e) (leb-true (position (w .taken) + length xs) 487424 f) (room (w .taken) (length xs)) refl (isDue (w .taken)) refl
+      took-by xs b (may-open e) (leb-true (position (w .taken) + length xs) capacity f) (room (w .taken) (length xs)) refl (isDue (w .taken)) refl
   bytes-by xs b true false e f = o
   bytes-by xs b false f′ e f = o
 

@@ -18,7 +18,7 @@ use Rattle.refusal.specs.declared.Refusal.the-variants.{Region, Argument, Ident
 use Rattle.key.specs.Layout as Key
 use Rattle.key.proofs.Longest.{longest}
 use Rattle.record.specs.declared.Source.{Source}
-use Rattle.region.specs.Region.{regionSize, capacity, bankOf}
+use Rattle.region.specs.Region.{regionSize, capacity, bankOf, bankSize}
 use Rattle.base.proofs.Bools.{and-left, and-right}
 use Rattle.header.specs.Types.{Bytes, Proper}
 use Rattle.bank.specs.declared.Loaded.{Loaded}
@@ -106,14 +106,14 @@ module _ (hd : Loaded) (rs : List Source) (im : Image) (region : List ℕ) (w : 
     may : mayTake w ≡ true
     may = may-take hd region w u (h .open·) e
 
-    source-run : (s : Source) (xs : List ℕ) → Proper s → not (isOpen (w .tables)) ≡ true → w .tables .count < 3 → position (w .taken) + length xs ≤ 487424 → Bytes xs
+    source-run : (s : Source) (xs : List ℕ) → Proper s → not (isOpen (w .tables)) ≡ true → w .tables .count < 3 → position (w .taken) + length xs ≤ capacity → Bytes xs
         → ranUpdate region w (source s ∷ (dues ++ feed xs)) u ≡ takes xs (notesOf (sourceNote s) u)
     unfolding withSource
     source-run s xs p n c f b =
         source-update s (dues ++ feed xs) (source-done w s (rw may n) c)
         ∙ dues-feed hd rs im xs region (withSource w s) (notesOf (sourceNote s) u) (record { kept = h .kept; open· = with-source region hd w u (h .open·) s p e c }) e f b
 
-    table-run : (t : ℕ) (xs : List ℕ) → t ≤ 7 → mayBegin (w .tables) t ≡ true → position (w .taken) + length xs ≤ 487424 → Bytes xs
+    table-run : (t : ℕ) (xs : List ℕ) → t ≤ 7 → mayBegin (w .tables) t ≡ true → position (w .taken) + length xs ≤ capacity → Bytes xs
         → ranUpdate region w (table t ∷ (dues ++ feed xs)) u ≡ takes xs (notesOf (tableNote t (length (u .data·))) u)
     unfolding withTable
     table-run t xs l m f b =
@@ -128,7 +128,7 @@ module _ (hd : Loaded) (rs : List Source) (im : Image) (region : List ℕ) (w : 
         ∙ dues-feed hd rs im [] region (withEnd w) (notesOf (endNote (length (u .data·))) u) (record { kept = h .kept; open· = with-end region hd w u (h .open·) e m }) e
         (omega (arith, position-most)) bytes-nil
       where
-        position-most : position (w .taken) ≤ 487424
+        position-most : position (w .taken) ≤ capacity
         position-most = position-fits (w .taken) (ranged w (h .open· .tied .range) .taken)
 
     close-run : not (isOpen (w .tables)) ≡ true → ranUpdate region w (close ∷ (dues ++ feed [])) u ≡ takes [] u
@@ -175,7 +175,7 @@ module _ (hd : Loaded) (rs : List Source) (im : Image) (region : List ℕ) (w : 
   open-of : mayTake w ≡ true → w .taken .closed ≡ false
   open-of m = not-true (w .taken .closed) (and-right (inRange w) (not (w .taken .closed)) m)
 
-  fits-of : (c : Upper) → allFits w c ≡ true → position (writerThree region w .taken) + length (taken c) ≤ 487424
+  fits-of : (c : Upper) → allFits w c ≡ true → position (writerThree region w .taken) + length (taken c) ≤ capacity
   fits-of c e = omega (arith, t3 .position·, leb-true (position (w .taken) + length (taken c)) capacity (and-right (sourceFits w c) (leb (position (w .taken) + length (taken c)) capacity) e))
 
   run-update : (c : Upper) → UpperTyped c → Accepted w c → ranUpdate region w (runOf c) u ≡ takes (taken c) (upperNoted c u)
@@ -272,7 +272,7 @@ module _ (comparing : Bool) (now : ℤ) (identity texts lengths : List ℕ) (f :
   unfolding key
   bytes-of-key = bytes-key identity texts lengths bi bt
 
-  key-fits : (region : List ℕ) → beginRefusal region identity texts lengths ≡ none → length key ≤ 487424
+  key-fits : (region : List ℕ) → beginRefusal region identity texts lengths ≡ none → length key ≤ capacity
   unfolding key beginRefusal
   key-fits region e =
       let z = pick-none (eqb (length region) regionSize) (pick (Key.fit texts lengths) (pick (leb (length identity) 65535) none (some Identity)) (some Argument)) Region e in
@@ -347,7 +347,7 @@ small-by region (Found b) l y e =
     let o = load-own region b l e in
     let n = b .number in
     subst (λ (x : ℕ). x < 2 ^ 32) (sym (valid-generation region n b l (o .number) (o .valid)))
-    (word-lt (take 491520 (drop (n * 491520) region)) 8 (bytes-take 491520 (drop (n * 491520) region) (bytes-drop (n * 491520) region y)))
+    (word-lt (take bankSize (drop (n * bankSize) region)) 8 (bytes-take bankSize (drop (n * bankSize) region) (bytes-drop (n * bankSize) region y)))
 small-by region Nothing l y e = tt
 small-by region (NotRead r) l y e = tt
 

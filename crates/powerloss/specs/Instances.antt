@@ -12,7 +12,7 @@ use Rattle.record.specs.declared.Source.{Source}
 use Rattle.record.specs.Record.{noBlock}
 use Rattle.base.specs.Lists.{fill}
 use Rattle.header.specs.declared.Bank.{Bank}
-use Rattle.region.specs.Region.{regionSize, bankOf, dataOf}
+use Rattle.region.specs.Region.{regionSize, bankOf, dataOf, sectorSize}
 use Rattle.header.specs.WriteHeader.{headerBytes, commitBytes}
 use Rattle.header.specs.Types.{Bytes}
 use Rattle.bank.specs.declared.Loaded.{Loaded}
@@ -199,8 +199,8 @@ FiveOperations =
     (region : List ℕ) → length region ≡ regionSize
     → ranOps region (begun region false (pos 0) .writer) (callsBefore ++ (word ∷ []))
     ≡ erase 0
-    ∷ erase 4096
-    ∷ write 4096 data·
+    ∷ erase sectorSize
+    ∷ write sectorSize data·
     ∷ write 0 (headerBytes (updated (loaded region)) (written ∷ []) (255 ∷ 255 ∷ 255 ∷ 255 ∷ []))
     ∷ write 44 (84 ∷ 77 ∷ 79 ∷ 67 ∷ [])
     ∷ []

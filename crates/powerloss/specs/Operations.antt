@@ -10,7 +10,7 @@ use lib.IntN.{ℤ}
 use lib.ListN.{length}
 use mir.Syntax.{w64}
 use mir.Val.{SFits}
-use Rattle.region.specs.Region.{regionSize}
+use Rattle.region.specs.Region.{regionSize, capacity, sectorSize}
 use Rattle.header.specs.Types.{Bytes}
 use Rattle.flash.specs.Flash.{Op}
 use Rattle.writer.specs.declared.Stage.the-variants.{Committed}
@@ -62,7 +62,7 @@ BeginSettled =
 
 -- the sectors that n bytes need, and the writes of the tail
 abbrev pub sectors : ℕ → ℕ
-sectors n = (n + 4095) / 4096
+sectors n = (n + 4095) / sectorSize
 
 abbrev pub writes : ℕ → ℕ
 writes n = (n + 255) / 256
@@ -134,7 +134,7 @@ LowerOperations =
 
 -- 255, 257 and 487,424 bytes
 abbrev pub ThreeLengths : Type 0
-ThreeLengths = (operationsOf 255 ≡ 5) × (operationsOf 257 ≡ 6) × (operationsOf 487424 ≡ 2026)
+ThreeLengths = (operationsOf 255 ≡ 5) × (operationsOf 257 ≡ 6) × (operationsOf capacity ≡ 2026)
 
 -- all of them: what `operations_hold` promises
 pub record Operations : Type 0 where

@@ -11,10 +11,12 @@ pub const BANK_SIZE: usize = SECTOR_SIZE + CAPACITY;
 
 pub const REGION_SIZE: usize = 2 * BANK_SIZE;
 
-// The same as 32-bit numbers.
+// The same in other widths.
 pub const SECTOR_SIZE_32: u32 = SECTOR_SIZE as u32;
 
 pub const CAPACITY_32: u32 = CAPACITY as u32;
+
+pub const CAPACITY_64: u64 = CAPACITY as u64;
 
 // A bank's bytes.
 pub fn bank_of(region: &[u8], number: u32) -> &[u8]

@@ -12,6 +12,7 @@ ghost use Prim.Native.Nat.{_<_};
 ghost use mathlib.Core.Path.{_≡_};
 ghost use lib.ListN.{length};
 use libc::STDOUT_FILENO;
+use region::REGION_SIZE;
 
 // How many lines of each kind there were, and how many came out alike.
 struct Counts {
@@ -146,7 +147,7 @@ fn room() -> [u8; 524288]
     [0; 524288]
 }
 
-fn replay(s: &[u8], memory: &mut [u8; 983040]) {
+fn replay(s: &[u8], memory: &mut [u8; REGION_SIZE]) {
     report(replayed(s, memory));
 }
 

@@ -4,11 +4,12 @@ use crate::text::place;
 use crate::text::starts;
 use crate::text::unhex;
 use crate::text::word;
+use region::REGION_SIZE;
 use std::num::wrapping_add_usize;
 
 // Zeros for a region.
-pub fn room() -> [u8; 983040] {
-    [0; 983040]
+pub fn room() -> [u8; REGION_SIZE] {
+    [0; REGION_SIZE]
 }
 
 // A byte at a place, where it fits.

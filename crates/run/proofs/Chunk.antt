@@ -30,6 +30,7 @@ use Rattle.run.specs.Feed.{dues, feed}
 use Rattle.run.specs.Parts.{Ran, Fed}
 use Rattle.flash.specs.Flash.{performed}
 use Rattle.run.proofs.Laws.{quiet, quiet-settled, quiet-dues-writer, quiet-dues-ran, then-writer, then-region, fed-all-writer, fed-all-region}
+use Rattle.region.specs.Region.{capacity}
 
 pub is-false : (b : Bool) → not b ≡ true → b ≡ false
 is-false true e = absurd (false≢true e)
@@ -67,11 +68,11 @@ grow false q a b x y e f = e
 or-true : (a b : Bool) → a ≡ true → (a || b) ≡ true
 or-true a b e = rw e
 
-module _ (t : Taken) (y : ℕ) (c : t .closed ≡ false) (h : t .fill + 1 < 256) (k : position t + 1 ≤ 487424) where
+module _ (t : Taken) (y : ℕ) (c : t .closed ≡ false) (h : t .fill + 1 < 256) (k : position t + 1 ≤ capacity) where
   multiple : takenOk t ≡ true → eqb (t .written % 256) 0 ≡ true
   unfolding takenOk
   multiple e =
-      let p = leb (position t) 487424 in
+      let p = leb (position t) capacity in
       let f = leb (t .fill) 256 in
       or-left (eqb (t .written % 256) 0) (eqb (t .fill) 0) (rw c at (and-right p (aligned t) (and-right f (p && aligned t) e)))
 
@@ -79,7 +80,7 @@ module _ (t : Taken) (y : ℕ) (c : t .closed ≡ false) (h : t .fill + 1 < 256)
   unfolding takenOk
   taken-more e =
       let f = le-leb (t .fill + length (y ∷ [])) 256 (omega arith) in
-      let p = le-leb (t .written + (t .fill + length (y ∷ []))) 487424 (omega arith) in
+      let p = le-leb (t .written + (t .fill + length (y ∷ []))) capacity (omega arith) in
       let a = or-true (eqb (t .written % 256) 0) (t .closed && eqb (t .fill + length (y ∷ [])) 0) (multiple e) in
       λ i. f i && (p i && a i)
 
@@ -90,7 +91,7 @@ tables-more : (n m : ℕ) (s : Tables) → n ≤ m → tablesOk n s ≡ true →
 unfolding tablesOk
 tables-more n m s h e = grow (leb (s .count) 3) (eqb (s .table) 8) (leb (s .table) 7) (leb 1 (s .count)) (leb (s .start) n) (leb (s .start) m) e (λ x. le-leb (s .start) m (omega (arith, leb-true (s .start) n x)))
 
-module _ (w : Writer) (y : ℕ) (m : mayTake w ≡ true) (h : w .taken .fill + 1 < 256) (k : position (w .taken) + 1 ≤ 487424) where
+module _ (w : Writer) (y : ℕ) (m : mayTake w ≡ true) (h : w .taken .fill + 1 < 256) (k : position (w .taken) + 1 ≤ capacity) where
   abbrev next : Taken
   next = takenMore (w .taken) (y ∷ [])
 
@@ -143,16 +144,16 @@ module _ (w : Writer) (y : ℕ) (xs : List ℕ) where
 
 -- ---- one call
 
-module _ (w : Writer) (xs : List ℕ) (m : mayTake w ≡ true) (d : isDue (w .taken) ≡ false) (k : position (w .taken) + length xs ≤ 487424) where
+module _ (w : Writer) (xs : List ℕ) (m : mayTake w ≡ true) (d : isDue (w .taken) ≡ false) (k : position (w .taken) + length xs ≤ capacity) where
   pub all-taken : (n : ℕ) → n ≡ room (w .taken) (length xs) → bytesStep w xs .writer ≡ withBytes w (take n xs)
   all-taken n e = sym (ap (λ (s : Step). s .writer) (took-some w xs n (withBytes w (take n xs)) d e refl ∙ bytes-took w xs m k))
 
-byte-taken : (w : Writer) (y : ℕ) → mayTake w ≡ true → isDue (w .taken) ≡ false → w .taken .fill + 1 ≤ 256 → position (w .taken) + 1 ≤ 487424 → bytesStep w (y ∷ []) .writer ≡ withBytes w (y ∷ [])
+byte-taken : (w : Writer) (y : ℕ) → mayTake w ≡ true → isDue (w .taken) ≡ false → w .taken .fill + 1 ≤ 256 → position (w .taken) + 1 ≤ capacity → bytesStep w (y ∷ []) .writer ≡ withBytes w (y ∷ [])
 byte-taken w y m d h k = let e : 1 ≡ min 1 (256 - w .taken .fill) = omega arith in all-taken w (y ∷ []) m d (omega arith) 1 e
 
 -- ---- the run of a chunk
 
-due-after : (w : Writer) (y : ℕ) (m : mayTake w ≡ true) → w .taken .fill + 1 < 256 → position (w .taken) + 1 ≤ 487424 → isDue (withBytes w (y ∷ []) .taken) ≡ false
+due-after : (w : Writer) (y : ℕ) (m : mayTake w ≡ true) → w .taken .fill + 1 < 256 → position (w .taken) + 1 ≤ capacity → isDue (withBytes w (y ∷ []) .taken) ≡ false
 unfolding withBytes
 due-after w y m h k = next-none w y m h k
 
@@ -160,36 +161,36 @@ fill-after : (w : Writer) (y : ℕ) (ys : List ℕ) → w .taken .fill + suc (su
 unfolding withBytes
 fill-after w y ys h = omega arith
 
-place-after : (w : Writer) (y : ℕ) (ys : List ℕ) → position (w .taken) + suc (suc (length ys)) ≤ 487424 → position (withBytes w (y ∷ []) .taken) + suc (length ys) ≤ 487424
+place-after : (w : Writer) (y : ℕ) (ys : List ℕ) → position (w .taken) + suc (suc (length ys)) ≤ capacity → position (withBytes w (y ∷ []) .taken) + suc (length ys) ≤ capacity
 unfolding withBytes
 place-after w y ys h = omega arith
 
 module _ (region : List ℕ) (zs : List ℕ) where
-  chunk-writer : (ys : List ℕ) (y : ℕ) (w : Writer) → mayTake w ≡ true → isDue (w .taken) ≡ false → w .taken .fill + suc (length ys) ≤ 256 → position (w .taken) + suc (length ys) ≤ 487424
+  chunk-writer : (ys : List ℕ) (y : ℕ) (w : Writer) → mayTake w ≡ true → isDue (w .taken) ≡ false → w .taken .fill + suc (length ys) ≤ 256 → position (w .taken) + suc (length ys) ≤ capacity
       → ranWriter region w (feed (y ∷ (ys ++ zs))) ≡ ranWriter region (withBytes w (y ∷ ys)) (dues ++ feed zs)
   unfolding feed ranWriter lowerStep lowerOps performed
   chunk-writer [] y w m d h k = ap (λ (v : Writer). ranWriter region v (dues ++ feed zs)) (byte-taken w y m d (omega arith) (omega arith))
   chunk-writer (x ∷ ys) y w m d h k =
       let f : w .taken .fill + 1 < 256 = omega arith in
-      let p : position (w .taken) + 1 ≤ 487424 = omega arith in
+      let p : position (w .taken) + 1 ≤ capacity = omega arith in
       ap (λ (v : Writer). ranWriter region v (dues ++ feed (x ∷ (ys ++ zs)))) (byte-taken w y m d (omega arith) p)
       ∙ quiet-dues-writer region (withBytes w (y ∷ [])) (feed (x ∷ (ys ++ zs))) (next-quiet w y m f p)
       ∙ chunk-writer ys x (withBytes w (y ∷ [])) (next-takes w y m f p) (due-after w y m f p) (fill-after w y ys h) (place-after w y ys k)
       ∙ ap (λ (v : Writer). ranWriter region v (dues ++ feed zs)) (both-bytes w y (x ∷ ys))
 
-  chunk-region : (ys : List ℕ) (y : ℕ) (w : Writer) → mayTake w ≡ true → isDue (w .taken) ≡ false → w .taken .fill + suc (length ys) ≤ 256 → position (w .taken) + suc (length ys) ≤ 487424
+  chunk-region : (ys : List ℕ) (y : ℕ) (w : Writer) → mayTake w ≡ true → isDue (w .taken) ≡ false → w .taken .fill + suc (length ys) ≤ 256 → position (w .taken) + suc (length ys) ≤ capacity
       → ranRegion region w (feed (y ∷ (ys ++ zs))) ≡ ranRegion region (withBytes w (y ∷ ys)) (dues ++ feed zs)
   unfolding feed ranRegion lowerStep lowerOps performed
   chunk-region [] y w m d h k = ap (λ (v : Writer). ranRegion region v (dues ++ feed zs)) (byte-taken w y m d (omega arith) (omega arith))
   chunk-region (x ∷ ys) y w m d h k =
       let f : w .taken .fill + 1 < 256 = omega arith in
-      let p : position (w .taken) + 1 ≤ 487424 = omega arith in
+      let p : position (w .taken) + 1 ≤ capacity = omega arith in
       ap (λ (v : Writer). ranRegion region v (dues ++ feed (x ∷ (ys ++ zs)))) (byte-taken w y m d (omega arith) p)
       ∙ quiet-dues-ran region (withBytes w (y ∷ [])) (feed (x ∷ (ys ++ zs))) (next-quiet w y m f p)
       ∙ chunk-region ys x (withBytes w (y ∷ [])) (next-takes w y m f p) (due-after w y m f p) (fill-after w y ys h) (place-after w y ys k)
       ∙ ap (λ (v : Writer). ranRegion region v (dues ++ feed zs)) (both-bytes w y (x ∷ ys))
 
-split : (region : List ℕ) (w : Writer) (bs : List ℕ) (n : ℕ) → mayTake w ≡ true → isDue (w .taken) ≡ false → 1 ≤ n → n ≤ length bs → w .taken .fill + n ≤ 256 → position (w .taken) + n ≤ 487424
+split : (region : List ℕ) (w : Writer) (bs : List ℕ) (n : ℕ) → mayTake w ≡ true → isDue (w .taken) ≡ false → 1 ≤ n → n ≤ length bs → w .taken .fill + n ≤ 256 → position (w .taken) + n ≤ capacity
     → (ranWriter region w (feed bs) ≡ ranWriter region (withBytes w (take n bs)) (dues ++ feed (drop n bs))) × (ranRegion region w (feed bs) ≡ ranRegion region (withBytes w (take n bs)) (dues ++ feed (drop n bs)))
 split region w bs zero m d h i f k = absurd (omega arith)
 split region w [] (suc n) m d h i f k = absurd (omega arith)
@@ -209,7 +210,7 @@ some-by fill n l e h k f = some-of (decLt fill 256)
     some-of (no x) = absurd (f (omega arith))
 
 -- a call that takes n of the bytes, then what is due
-module _ (region : List ℕ) (w : Writer) (bs : List ℕ) (m : mayTake w ≡ true) (d : isDue (w .taken) ≡ false) (k : position (w .taken) + length bs ≤ 487424) (l : 1 ≤ length bs) where
+module _ (region : List ℕ) (w : Writer) (bs : List ℕ) (m : mayTake w ≡ true) (d : isDue (w .taken) ≡ false) (k : position (w .taken) + length bs ≤ capacity) (l : 1 ≤ length bs) where
   full-not : w .taken .fill ≡ 256 → ⊥
   full-not e = false≢true (sym d ∙ due-full (w .taken) e)
 
@@ -231,7 +232,7 @@ module _ (region : List ℕ) (w : Writer) (bs : List ℕ) (m : mayTake w ≡ tru
           )
 
 -- the same on parts
-pub chunk-parts : (region : List ℕ) (p : Parts) (bs : List ℕ) → ((ss : List Source) → mayTake (withSources p ss) ≡ true) → isDue (p .taken) ≡ false → position (p .taken) + length bs ≤ 487424 → 1 ≤ length bs
+pub chunk-parts : (region : List ℕ) (p : Parts) (bs : List ℕ) → ((ss : List Source) → mayTake (withSources p ss) ≡ true) → isDue (p .taken) ≡ false → position (p .taken) + length bs ≤ capacity → 1 ≤ length bs
     → (n : ℕ) → n ≡ min (length bs) (256 - p .taken .fill) → (s : PartsStep) → ((ss : List Source) → stepWith s ss ≡ bytesStep (withSources p ss) bs) → (q : Parts) (r : List ℕ) → Ran region (s .parts) dues q r → Fed region p bs n q r
 chunk-parts region p bs m d k l n e s f q r g = (at [] .0, at [] .1, λ ss. (at ss .2, at ss .3))
   where
@@ -248,7 +249,7 @@ module _ (w : Writer) (d : isDue (w .taken) ≡ false) where
   quiet-by Headed e = refl
   quiet-by Committed e = refl
 
-module _ (region : List ℕ) (w : Writer) (bs : List ℕ) (m : mayTake w ≡ true) (d : isDue (w .taken) ≡ false) (k : position (w .taken) + length bs ≤ 487424) (l : 1 ≤ length bs) (h : w .taken .fill + length bs < 256) where
+module _ (region : List ℕ) (w : Writer) (bs : List ℕ) (m : mayTake w ≡ true) (d : isDue (w .taken) ≡ false) (k : position (w .taken) + length bs ≤ capacity) (l : 1 ≤ length bs) (h : w .taken .fill + length bs < 256) where
   quiet-before : quiet (w .stage) ≡ true
   quiet-before = quiet-by w d (w .stage) (ranged w (in-range w m) .stage)
 

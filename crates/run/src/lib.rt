@@ -12,10 +12,12 @@ ghost use Rattle.run.specs.Run as Run;
 ghost use Rattle.run.specs.Run.{ranWriter, ranRegion};
 ghost use Rattle.run.specs.Feed as Feed;
 ghost use Rattle.run.specs.Parts as Partly;
+ghost use Rattle.region.specs.Region.{capacity};
 use due::due_parts;
 use lower::append::take_parts;
 use lower::may_take_parts;
 use lower::room;
+use region::CAPACITY;
 use writer::Parts;
 use writer::Stage;
 use writer::Writer;
@@ -94,7 +96,7 @@ fn feed_one(p: Parts, region: &mut [u8], bytes: &[u8]) -> Fed
 
 // Feeds as many bytes as the tail has room for.
 fn feed_chunk(p: Parts, region: &mut [u8], bytes: &[u8]) -> Fed
-    requires { ⌜ ((ss : List Source) → Lower.mayTake (withSources p ss) ≡ true) × (State.isDue (p .taken) ≡ false) × (State.position (p .taken) + length (now bytes) ≤ 487424) × (1 ≤ length (now bytes)) ⌝ }
+    requires { ⌜ ((ss : List Source) → Lower.mayTake (withSources p ss) ≡ true) × (State.isDue (p .taken) ≡ false) × (State.position (p .taken) + length (now bytes) ≤ capacity) × (1 ≤ length (now bytes)) ⌝ }
     ensures { λ r. ⌜ Partly.Fed (now (region .entry)) p (now (bytes .entry)) (r .n) (r .parts) (now (region .exit)) ⌝ }
 {
     let n = room(p.taken, bytes.len());
@@ -110,7 +112,7 @@ fn feed_some(p: Parts, region: &mut [u8], bytes: &[u8]) -> Fed
 {
     let t = p.taken;
     if may_take_parts(p) & !is_due(t) {
-        if bytes.len() <= 487424 - (t.written + t.fill) as usize {
+        if bytes.len() <= CAPACITY - (t.written + t.fill) as usize {
             return feed_chunk(p, region, bytes);
         }
     }
@@ -160,12 +162,12 @@ pub fn settle_feed(w: Writer, region: &mut [u8], bytes: &[u8]) -> Writer
 
 // Whether n bytes, some, leave room in the tail, and nothing is due before them.
 fn is_short(p: Parts, n: usize) -> bool
-    ensures { λ r. ⌜ (r ≡ true → ((ss : List Source) → Lower.mayTake (withSources p ss) ≡ true) × (State.isDue (p .taken) ≡ false) × (State.position (p .taken) + n ≤ 487424) × (1 ≤ n) × (p .taken .fill + n < 256)) ⌝ }
+    ensures { λ r. ⌜ (r ≡ true → ((ss : List Source) → Lower.mayTake (withSources p ss) ≡ true) × (State.isDue (p .taken) ≡ false) × (State.position (p .taken) + n ≤ capacity) × (1 ≤ n) × (p .taken .fill + n < 256)) ⌝ }
 {
     let t = p.taken;
     if may_take_parts(p) & !is_due(t) {
         if n < (256 - t.fill) as usize {
-            return (0 < n) & (n <= 487424 - (t.written + t.fill) as usize);
+            return (0 < n) & (n <= CAPACITY - (t.written + t.fill) as usize);
         }
     }
     false

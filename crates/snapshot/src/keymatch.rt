@@ -7,6 +7,7 @@ use header::Bank;
 use header::Validated;
 use key::SameKey;
 use key::picks_fit;
+use region::SECTOR_SIZE;
 use region::bank_of;
 
 // A bank's key: the first bytes of its data.
@@ -14,7 +15,7 @@ fn key_in(region: &[u8], b: Bank) -> &[u8]
     ensures { λ r. ⌜ now r ≡ Keys.keyIn (now (region .entry)) b ⌝ }
 {
     let l = bank_of(region, b.number);
-    part(l, 4096, b.key as usize)
+    part(l, SECTOR_SIZE, b.key as usize)
 }
 
 // Whether a bank's key is the key of an identity and picks.

@@ -9,6 +9,7 @@ ghost use mathlib.Core.Path.{_≡_};
 ghost use Rattle.snapshot.specs.Freshness as Fresh;
 use bank::header;
 use header::Validated;
+use region::REGION_SIZE;
 
 pub enum Outcome {
     Done,
@@ -22,7 +23,7 @@ fn header_if(fits: bool, region: &[u8], number: u32) -> Validated
     if fits {
         return header(region, number);
     }
-    if region.len() != 983040 {
+    if region.len() != REGION_SIZE {
         return Validated::Refused(Refusal::Region);
     }
     Validated::Refused(Refusal::Argument)

@@ -10,6 +10,8 @@ use base::slice::part;
 use record::Block;
 use record::Source;
 use refusal::Refusal;
+use region::REGION_SIZE;
+use region::SECTOR_SIZE;
 use region::bank_of;
 use row::column_count;
 use rowread::ReadAnswer;
@@ -30,7 +32,7 @@ fn bytes_of(region: &[u8], number: u32, b: Block) -> &[u8]
     ensures { λ r. ⌜ now r ≡ bytesOf (now (region .entry)) number b ⌝ }
 {
     let l = bank_of(region, number);
-    let at = 4096 + b.offset as usize;
+    let at = SECTOR_SIZE + b.offset as usize;
     part(l, at, b.length as usize)
 }
 
@@ -47,7 +49,7 @@ pub fn bank_row(
     ensures { λ r. ⌜ (r ≡ askedRow (now (region .entry)) number source table place (length (now (out .entry))) (length (now (ends .entry)))) × (now (out .exit) ≡ after r (joined (valuesIn (now (region .entry)) number source table place)) (now (out .entry))) × (now (ends .exit) ≡ after r (endsOf 0 (valuesIn (now (region .entry)) number source table place)) (now (ends .entry))) ⌝ }
 {
     if 7 < table {
-        if region.len() != 983040 {
+        if region.len() != REGION_SIZE {
             return ReadAnswer::Refused(Refusal::Region);
         }
         return ReadAnswer::Refused(Refusal::Argument);

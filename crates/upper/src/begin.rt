@@ -10,12 +10,14 @@ ghost use Rattle.lower.specs.Lower as Lower;
 ghost use Rattle.run.specs.Run.{ranWriter, ranRegion};
 ghost use Rattle.run.specs.Feed as Feed;
 ghost use Rattle.upper.specs.Upper as Upper;
+ghost use Rattle.region.specs.Region.{regionSize};
 use bank::Loaded;
 use key::KeyAnswer;
 use lower::begin::started;
 use lower::is_open;
 use lower::may_take;
 use refusal::Refusal;
+use region::REGION_SIZE;
 use run::feed;
 use run::settle;
 use writer::Answer;
@@ -67,7 +69,7 @@ fn begin_in(
     texts: &[u8],
     lengths: &[u32],
 ) -> Step
-    requires { ⌜ length (now region) ≡ 983040 ⌝ }
+    requires { ⌜ length (now region) ≡ regionSize ⌝ }
     ensures { λ r. ⌜ (r ≡ Upper.beginStep (now (region .entry)) comparing at (now (identity .entry)) (now (texts .entry)) (now (lengths .entry))) × (now (region .exit) ≡ Upper.beginRegion (now (region .entry)) comparing at (now (identity .entry)) (now (texts .entry)) (now (lengths .entry))) ⌝ }
 {
     let none = &identity[0..0];
@@ -95,7 +97,7 @@ pub fn begin(
 ) -> Step
     ensures { λ r. ⌜ (r ≡ Upper.beginStep (now (region .entry)) comparing at (now (identity .entry)) (now (texts .entry)) (now (lengths .entry))) × (now (region .exit) ≡ Upper.beginRegion (now (region .entry)) comparing at (now (identity .entry)) (now (texts .entry)) (now (lengths .entry))) ⌝ }
 {
-    if region.len() == 983040 {
+    if region.len() == REGION_SIZE {
         return begin_in(region, comparing, at, identity, texts, lengths);
     }
     refuse(comparing, at, Refusal::Region)
@@ -114,7 +116,7 @@ fn run_close(w: Writer, region: &mut [u8]) -> Writer
 pub fn close(w: Writer, region: &mut [u8]) -> Step
     ensures { λ r. ⌜ (r ≡ Upper.upperStep (now (region .entry)) w Upper.closing) × (now (region .exit) ≡ Upper.upperRegion (now (region .entry)) w Upper.closing) ⌝ }
 {
-    if region.len() == 983040 {
+    if region.len() == REGION_SIZE {
         if may_take(w) & !is_open(w.tables) {
             let v = run_close(w, region);
             return did(v);

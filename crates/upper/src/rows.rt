@@ -9,10 +9,12 @@ ghost use Rattle.writer.specs.Parts.{withSources, stepWith};
 ghost use Rattle.run.specs.Feed as Feed;
 ghost use Rattle.run.specs.Parts as Partly;
 ghost use Rattle.upper.specs.Upper as Upper;
+ghost use Rattle.region.specs.Region.{regionSize};
 use crate::fits;
 use lower::is_open;
 use lower::may_take_parts;
 use refusal::Refusal;
+use region::REGION_SIZE;
 use row::RowAnswer;
 use run::feed_line_parts;
 use writer::Parts;
@@ -35,7 +37,7 @@ fn run_row(p: Parts, region: &mut [u8], bytes: &[u8], n: usize) -> Parts
 
 // Feeds a row of the open table, where it is one and fits, of up to 8,192 bytes.
 fn long_row(p: Parts, region: &mut [u8], texts: &[u8], lengths: &[u32]) -> PartsStep
-    requires { ⌜ (length (now region) ≡ 983040) × ((ss : List Source) → Upper.orderOk (withSources p ss) (Upper.row (now texts) (now lengths)) ≡ true) × (p .tables .table ≤ 7) ⌝ }
+    requires { ⌜ (length (now region) ≡ regionSize) × ((ss : List Source) → Upper.orderOk (withSources p ss) (Upper.row (now texts) (now lengths)) ≡ true) × (p .tables .table ≤ 7) ⌝ }
     ensures { λ r. ⌜ ((ss : List Source) → (stepWith r ss ≡ Upper.upperStep (now (region .entry)) (withSources p ss) (Upper.row (now (texts .entry)) (now (lengths .entry)))) × (now (region .exit) ≡ Upper.upperRegion (now (region .entry)) (withSources p ss) (Upper.row (now (texts .entry)) (now (lengths .entry))))) ⌝ }
 {
     let x = p.tables;
@@ -53,7 +55,7 @@ fn long_row(p: Parts, region: &mut [u8], texts: &[u8], lengths: &[u32]) -> Parts
 
 // Feeds a row of the open table, where it is one and fits; first tried in few bytes, which are quickly made.
 fn row_in(p: Parts, region: &mut [u8], texts: &[u8], lengths: &[u32]) -> PartsStep
-    requires { ⌜ (length (now region) ≡ 983040) × ((ss : List Source) → Upper.orderOk (withSources p ss) (Upper.row (now texts) (now lengths)) ≡ true) × (p .tables .table ≤ 7) ⌝ }
+    requires { ⌜ (length (now region) ≡ regionSize) × ((ss : List Source) → Upper.orderOk (withSources p ss) (Upper.row (now texts) (now lengths)) ≡ true) × (p .tables .table ≤ 7) ⌝ }
     ensures { λ r. ⌜ ((ss : List Source) → (stepWith r ss ≡ Upper.upperStep (now (region .entry)) (withSources p ss) (Upper.row (now (texts .entry)) (now (lengths .entry)))) × (now (region .exit) ≡ Upper.upperRegion (now (region .entry)) (withSources p ss) (Upper.row (now (texts .entry)) (now (lengths .entry))))) ⌝ }
 {
     let x = p.tables;
@@ -73,7 +75,7 @@ fn row_in(p: Parts, region: &mut [u8], texts: &[u8], lengths: &[u32]) -> PartsSt
 pub fn row_parts(p: Parts, region: &mut [u8], texts: &[u8], lengths: &[u32]) -> PartsStep
     ensures { λ r. ⌜ ((ss : List Source) → (stepWith r ss ≡ Upper.upperStep (now (region .entry)) (withSources p ss) (Upper.row (now (texts .entry)) (now (lengths .entry)))) × (now (region .exit) ≡ Upper.upperRegion (now (region .entry)) (withSources p ss) (Upper.row (now (texts .entry)) (now (lengths .entry))))) ⌝ }
 {
-    if region.len() == 983040 {
+    if region.len() == REGION_SIZE {
         if may_take_parts(p) & is_open(p.tables) {
             return row_in(p, region, texts, lengths);
         }

@@ -10,6 +10,7 @@ use lower::is_open;
 use lower::may_take;
 use record::Source;
 use refusal::Refusal;
+use region::REGION_SIZE;
 use run::settle;
 use run::settle_feed;
 use writer::Step;
@@ -42,7 +43,7 @@ pub fn source(w: Writer, region: &mut [u8], s: Source) -> Step
     ensures { λ r. ⌜ (r ≡ Upper.upperStep (now (region .entry)) w (Upper.sourceWithDates s)) × (now (region .exit) ≡ Upper.upperRegion (now (region .entry)) w (Upper.sourceWithDates s)) ⌝ }
 {
     let x = w.tables;
-    if region.len() == 983040 {
+    if region.len() == REGION_SIZE {
         if may_take(w) & !is_open(x) {
             if (x.count < 3) & fits(w.taken, 8) {
                 let v = run_source(w, region, s);

@@ -20,6 +20,7 @@ ghost use Rattle.row.specs.Columns.{namesLine};
 ghost use Rattle.run.specs.Run as Run;
 ghost use Rattle.run.specs.Feed as Feed;
 use lower::may_begin;
+use region::REGION_SIZE;
 use row::RowAnswer;
 
 // The run of a table's end.
@@ -35,7 +36,7 @@ fn run_end(w: Writer, region: &mut [u8]) -> Writer
 pub fn end(w: Writer, region: &mut [u8]) -> Step
     ensures { λ r. ⌜ (r ≡ Upper.upperStep (now (region .entry)) w Upper.tableEnd) × (now (region .exit) ≡ Upper.upperRegion (now (region .entry)) w Upper.tableEnd) ⌝ }
 {
-    if region.len() == 983040 {
+    if region.len() == REGION_SIZE {
         if may_take(w) & is_open(w.tables) {
             let v = run_end(w, region);
             return did(v);
@@ -78,7 +79,7 @@ fn run_table(w: Writer, region: &mut [u8], table: u32, names: [u8; 128], n: usiz
 pub fn table(w: Writer, region: &mut [u8], table: u32) -> Step
     ensures { λ r. ⌜ (r ≡ Upper.upperStep (now (region .entry)) w (Upper.tableWithNames table)) × (now (region .exit) ≡ Upper.upperRegion (now (region .entry)) w (Upper.tableWithNames table)) ⌝ }
 {
-    if region.len() == 983040 {
+    if region.len() == REGION_SIZE {
         if table <= 7 {
             if may_take(w) & may_begin(w.tables, table) {
                 let l = names(table);

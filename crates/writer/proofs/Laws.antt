@@ -9,6 +9,7 @@ use Rattle.writer.specs.declared.Tables.{Tables}
 use Rattle.writer.specs.declared.Writer.{Writer}
 use Rattle.base.proofs.Bools.{and-left, and-right}
 use Rattle.writer.specs.State.{position, aligned, openOk, isOpen, inRange, activeOk, takenOk, tablesOk, stageOk}
+use Rattle.region.specs.Region.{capacity}
 
 -- what a state within its ranges has
 pub record Ranged (w : Writer) : Type 0 where
@@ -32,11 +33,11 @@ module _ (w : Writer) where
 module _ (t : Taken) where
   pub fill-fits : takenOk t ≡ true → t .fill ≤ 256
   unfolding takenOk
-  fill-fits e = leb-true (t .fill) 256 (and-left (leb (t .fill) 256) (leb (position t) 487424 && aligned t) e)
+  fill-fits e = leb-true (t .fill) 256 (and-left (leb (t .fill) 256) (leb (position t) capacity && aligned t) e)
 
-  pub position-fits : takenOk t ≡ true → position t ≤ 487424
+  pub position-fits : takenOk t ≡ true → position t ≤ capacity
   unfolding takenOk
-  position-fits e = leb-true (position t) 487424 (and-left (leb (position t) 487424) (aligned t) (and-right (leb (t .fill) 256) (leb (position t) 487424 && aligned t) e))
+  position-fits e = leb-true (position t) capacity (and-left (leb (position t) capacity) (aligned t) (and-right (leb (t .fill) 256) (leb (position t) capacity && aligned t) e))
 
 module _ (n : ℕ) (s : Tables) where
   pub count-fits : tablesOk n s ≡ true → s .count ≤ 3

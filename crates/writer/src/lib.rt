@@ -6,6 +6,8 @@ ghost use Rattle.writer.specs.Parts.{partsOf, withSources, stepWith, par
 use bank::Loaded;
 use record::Source;
 use refusal::Refusal;
+use region::CAPACITY_64;
+use region::SECTOR_SIZE_32;
 
 // What is due: an erase of a sector of the bank (0 is the header's), a write of the tail into the data, or its comparison.
 pub enum Operation {
@@ -97,9 +99,9 @@ pub fn is_due(t: Taken) -> bool
 pub fn data_due(t: Taken) -> Operation
     ensures { λ r. ⌜ r ≡ State.dataDue t ⌝ }
 {
-    if t.written % 4096 == 0 {
+    if t.written % SECTOR_SIZE_32 == 0 {
         return Operation::Erase {
-            sector: t.written / 4096 + 1,
+            sector: t.written / SECTOR_SIZE_32 + 1,
         };
     }
     Operation::Write {
@@ -164,7 +166,7 @@ fn taken_ok(t: Taken) -> bool
     ensures { λ r. ⌜ r ≡ State.takenOk t ⌝ }
 {
     (t.fill <= 256)
-        & ((position(t) <= 487424) & ((t.written % 256 == 0) | (t.closed & (t.fill == 0))))
+        & ((position(t) <= CAPACITY_64) & ((t.written % 256 == 0) | (t.closed & (t.fill == 0))))
 }
 
 fn tables_ok(n: u64, s: Tables) -> bool
@@ -180,7 +182,8 @@ fn operation_ok(comparing: bool, t: Taken, o: Operation) -> bool
         Operation::Erase { sector } => {
             !comparing
                 & (((t.written == 0) & (sector == 0))
-                    | ((t.written % 4096 == 0) & (sector == t.written / 4096 + 1)))
+                    | ((t.written % SECTOR_SIZE_32 == 0)
+                        & (sector == t.written / SECTOR_SIZE_32 + 1)))
         }
         Operation::Write { offset, length } => {
             !comparing & ((offset == t.written) & (length == t.fill))

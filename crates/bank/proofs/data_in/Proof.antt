@@ -1,5 +1,5 @@
 use mathlib.Core.List.{List}
-use Rattle.region.specs.Region.{dataOf}
+use Rattle.region.specs.Region.{dataOf, sectorSize}
 use lib.ListN.{length, take, drop}
 use Prim.Native.Nat.{ℕ}
 use mathlib.Core.Path.{ap, _∙_}
@@ -21,7 +21,7 @@ unfolding dataOf
 returns c =
     let b = c .before .before in
     let a = b .before .before .args in
-    c .part .ensures ∙ ap (λ (l : List ℕ). take (a .b .length) (drop 4096 l)) (b .bank-of .ensures)
+    c .part .ensures ∙ ap (λ (l : List ℕ). take (a .b .length) (drop sectorSize l)) (b .bank-of .ensures)
 
 pub data-in-spec : {M : Type 1} → statement M
 data-in-spec = tie.close (tie.spec bank-of-requires cast-part part-requires returns)

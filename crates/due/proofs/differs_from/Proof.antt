@@ -10,6 +10,7 @@ use Rattle.due.specs.Due.{differs}
 use borrow.Author.Needs.{needs}
 use Rattle.due.proofs.differs_from.Statement.{statement}
 use Rattle.due.proofs.differs_from.Tie as tie
+use Rattle.region.specs.Region.{sectorSize}
 
 cast-n : tie.Need-cast-n
 cast-n c = search needs
@@ -56,7 +57,7 @@ returns c =
     let p = c .before .before .before .before .before .before in
     let b = p .before .before in
     let a = b .before .before .before .args in
-    let x = p .part .ensures ∙ ap (λ (l : List ℕ). take (a .t .fill) (drop (4096 + a .t .written) l)) (b .bank-of .ensures) in
+    let x = p .part .ensures ∙ ap (λ (l : List ℕ). take (a .t .fill) (drop (sectorSize + a .t .written) l)) (b .bank-of .ensures) in
     let y = ap (λ (n : ℕ). take n (a .t4)) (sub-zero (a .t .fill)) in
     ap (λ (t : Bool). not (leb (a .t .written + a .t .fill) (a .b .length)) || not t) (c .same-bytes .ensures ∙ (λ i. same (x i) (y i)))
 

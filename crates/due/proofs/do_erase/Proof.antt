@@ -9,6 +9,7 @@ use Rattle.due.proofs.Laws.{erased, target-fits, one-op}
 use borrow.Author.Needs.{needs}
 use Rattle.due.proofs.do_erase.Statement.{statement}
 use Rattle.due.proofs.do_erase.Tie as tie
+use Rattle.region.specs.Region.{sectorSize}
 
 target-requires : tie.Need-target-requires
 target-requires c κs = search needs
@@ -36,7 +37,7 @@ returns c =
     let a = s .args in
     let l = a .p .beginning .active in (
       λ ss. ap (λ (s : PartsStep). stepWith s ss) (c .parts-did .ensures) ∙ ap did (c .before .after-erase .ensures ss ∙ erased (a .region .now) (withSources (a .p) ss) (a .sector)),
-      e .erase .ensures ∙ ap (λ (n : ℕ). erasedIn (a .region .now) n (a .sector * 4096)) (t .target .ensures) ∙ one-op (a .region .now) (target l) (erase (a .sector * 4096)) (s .pre .0) (target-fits l) (omega (arith, s .pre .1)),
+      e .erase .ensures ∙ ap (λ (n : ℕ). erasedIn (a .region .now) n (a .sector * sectorSize)) (t .target .ensures) ∙ one-op (a .region .now) (target l) (erase (a .sector * sectorSize)) (s .pre .0) (target-fits l) (omega (arith, s .pre .1)),
     )
 
 pub do-erase-spec : {M : Type 1} → statement M

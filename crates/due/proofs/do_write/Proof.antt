@@ -11,6 +11,7 @@ use Rattle.due.proofs.Laws.{written-tail, target-fits, one-op, length-p
 use borrow.Author.Needs.{needs}
 use Rattle.due.proofs.do_write.Statement.{statement}
 use Rattle.due.proofs.do_write.Tie as tie
+use Rattle.region.specs.Region.{sectorSize}
 
 target-requires : tie.Need-target-requires
 target-requires c κs = search needs
@@ -36,7 +37,7 @@ returns c =
     let l = a .p .beginning .active in
     let y = length-padded (take (a .n) (a .p .tail)) (omega (arith, length-take (a .n) (a .p .tail), s .pre .1)) in (
       λ ss. ap (λ (s : PartsStep). stepWith s ss) (c .parts-did .ensures) ∙ ap did (c .before .with-emptied .ensures ss ∙ written-tail (a .region .now) (withSources (a .p) ss) (a .offset) (a .n)),
-      v .write-tail .ensures ∙ ap (λ (n : ℕ). writtenIn (a .region .now) n (4096 + a .offset) (padded (take (a .n) (a .p .tail)))) (t .target .ensures) ∙ one-op (a .region .now) (target l) (write (4096 + a .offset) (padded (take (a .n) (a .p .tail)))) (s .pre .0) (target-fits l) (omega (arith, y, s .pre .2)),
+      v .write-tail .ensures ∙ ap (λ (n : ℕ). writtenIn (a .region .now) n (sectorSize + a .offset) (padded (take (a .n) (a .p .tail)))) (t .target .ensures) ∙ one-op (a .region .now) (target l) (write (sectorSize + a .offset) (padded (take (a .n) (a .p .tail)))) (s .pre .0) (target-fits l) (omega (arith, y, s .pre .2)),
     )
 
 pub do-write-spec : {M : Type 1} → statement M

@@ -7,6 +7,7 @@ use Rattle.flash.proofs.Steps.{erased-is}
 use borrow.Author.Needs.{needs}
 use Rattle.flash.proofs.erase.Statement.{statement}
 use Rattle.flash.proofs.erase.Tie as tie
+use Rattle.region.specs.Region.{bankSize, sectorSize}
 
 lies-within-requires : tie.Need-lies-within-requires
 lies-within-requires c κs = search needs
@@ -41,8 +42,8 @@ returns c =
     let l = t .before in
     let a = l .before .before .args in
     let w = l .lies-within .ensures .1 (t .if1 .taken) in
-    let i = a .bank * 491520 + a .at in
-    erased-is (a .region .now) (a .bank) (a .at) (i + 4096 - i) (c .before .before .blank-all .last .0) (w .0) (w .1) (w .2) (omega arith) (c .before .before .blank-all .ensures)
+    let i = a .bank * bankSize + a .at in
+    erased-is (a .region .now) (a .bank) (a .at) (i + sectorSize - i) (c .before .before .blank-all .last .0) (w .0) (w .1) (w .2) (omega arith) (c .before .before .blank-all .ensures)
 
 returns-2 : tie.Need-returns-2
 returns-2 c =

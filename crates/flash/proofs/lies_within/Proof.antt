@@ -5,6 +5,7 @@ use borrow.Author.Tests.{leb-true}
 use Rattle.flash.proofs.Steps.{within-by, not-region, not-bank, too-long}
 use Rattle.flash.proofs.lies_within.Statement.{statement}
 use Rattle.flash.proofs.lies_within.Tie as tie
+use Rattle.region.specs.Region.{bankSize}
 
 returns : tie.Need-returns
 returns c =
@@ -24,7 +25,7 @@ returns-3 c =
 returns-4 : tie.Need-returns-4
 returns-4 c =
     let a = c .before .before .before .args in
-    (within-by (a .len) (a .bank) (a .at) (a .n) (omega arith) (omega arith) (omega arith), λ e. (omega arith, omega arith, omega (arith, leb-true (a .at) (491520 - a .n) e)))
+    (within-by (a .len) (a .bank) (a .at) (a .n) (omega arith) (omega arith) (omega arith), λ e. (omega arith, omega arith, omega (arith, leb-true (a .at) (bankSize - a .n) e)))
 
 pub lies-within-spec : {M : Type 1} → statement M
 lies-within-spec = tie.close (tie.spec returns returns-2 returns-3 returns-4)

@@ -8,6 +8,7 @@ use Rattle.flash.proofs.Steps.{written-is}
 use borrow.Author.Needs.{needs}
 use Rattle.flash.proofs.write.Statement.{statement}
 use Rattle.flash.proofs.write.Tie as tie
+use Rattle.region.specs.Region.{bankSize}
 
 lies-within-requires : tie.Need-lies-within-requires
 lies-within-requires c κs = search needs
@@ -42,7 +43,7 @@ returns c =
     let l = t .before in
     let a = l .before .before .before .args in
     let w = l .lies-within .ensures .1 (t .if1 .taken) in
-    let i = a .bank * 491520 + a .at in
+    let i = a .bank * bankSize + a .at in
     written-is (a .region .now) (a .bank) (a .at) (i + length (a .bytes .now) - i) (a .bytes .now) (c .before .before .clear-bits .last .0) (w .0) (w .1) (w .2) (omega arith) (c .before .before .clear-bits .ensures)
 
 returns-2 : tie.Need-returns-2

@@ -14,6 +14,7 @@ use Rattle.run.proofs.Chunk.{is-false}
 use borrow.Author.Needs.{needs}
 use Rattle.run.proofs.is_short.Statement.{statement}
 use Rattle.run.proofs.is_short.Tie as tie
+use Rattle.region.specs.Region.{capacity}
 
 may-take-parts-requires : tie.Need-may-take-parts-requires
 may-take-parts-requires c κs = search needs
@@ -66,11 +67,11 @@ returns c =
     let h = (λ i. sym (m .may-take-parts .ensures []) i && not (sym (d .is-due .ensures) i)) ∙ t .if1 .taken in
     let k = and-left (mayTake (withSources (a .p) [])) (not (isDue (a .p .taken))) h in
     let x = ltb 0 (a .n) in
-    let y = leb (a .n) (487424 - (a .p .taken .written + a .p .taken .fill)) in
+    let y = leb (a .n) (capacity - (a .p .taken .written + a .p .taken .fill)) in
     λ e. (
       λ ss. sym (m .may-take-parts .ensures ss) ∙ m .may-take-parts .ensures [] ∙ k,
       is-false (isDue (a .p .taken)) (and-right (mayTake (withSources (a .p) [])) (not (isDue (a .p .taken))) h),
-      omega (arith, leb-true (a .n) (487424 - (a .p .taken .written + a .p .taken .fill)) (and-right x y e), takes-fits (withSources (a .p) []) k .1),
+      omega (arith, leb-true (a .n) (capacity - (a .p .taken .written + a .p .taken .fill)) (and-right x y e), takes-fits (withSources (a .p) []) k .1),
       ltb-true 0 (a .n) (and-left x y e),
       omega (arith, c .before .if2 .taken, takes-fits (withSources (a .p) []) k .0),
     )

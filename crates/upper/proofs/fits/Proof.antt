@@ -6,9 +6,10 @@ use Rattle.writer.specs.State.{position}
 use borrow.Author.Needs.{needs}
 use Rattle.upper.proofs.fits.Statement.{statement}
 use Rattle.upper.proofs.fits.Tie as tie
+use Rattle.region.specs.Region.{capacity}
 
 returns : tie.Need-returns
-returns c = let a = c .before .args in sym (lt-leb (position (a .t) + a .n) 487424 (omega arith))
+returns c = let a = c .before .args in sym (lt-leb (position (a .t) + a .n) capacity (omega arith))
 
 cast-result : tie.Need-cast-result
 cast-result c = search needs

@@ -1,5 +1,5 @@
 use Rattle.snapshot.specs.KeyMatch.{keyIn}
-use Rattle.region.specs.Region.{dataOf}
+use Rattle.region.specs.Region.{dataOf, sectorSize}
 use lib.ListN.{take, drop}
 use Prim.Native.Nat.{ℕ}
 use mathlib.Core.List.{List}
@@ -19,7 +19,7 @@ part-requires c κs = search needs
 
 returns : tie.Need-returns
 unfolding keyIn dataOf
-returns c = c .part .ensures ∙ ap (λ (l : List ℕ). take (c .before .before .before .before .args .b .key) (drop 4096 l)) (c .before .before .bank-of .ensures)
+returns c = c .part .ensures ∙ ap (λ (l : List ℕ). take (c .before .before .before .before .args .b .key) (drop sectorSize l)) (c .before .before .bank-of .ensures)
 
 pub key-in-spec : {M : Type 1} → statement M
 key-in-spec = tie.close (tie.spec bank-of-requires cast-part part-requires returns)

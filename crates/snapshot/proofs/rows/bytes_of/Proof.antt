@@ -6,6 +6,7 @@ use mathlib.Core.Path.{ap, _∙_}
 use borrow.Author.Needs.{needs}
 use Rattle.snapshot.proofs.rows.bytes_of.Statement.{statement}
 use Rattle.snapshot.proofs.rows.bytes_of.Tie as tie
+use Rattle.region.specs.Region.{sectorSize}
 
 bank-of-requires : tie.Need-bank-of-requires
 bank-of-requires c κs = search needs
@@ -27,7 +28,7 @@ unfolding bytesOf
 returns c =
     let k = c .before .before .before in
     let b = k .before .before .args .b in
-    c .part .ensures ∙ ap (λ (l : List ℕ). take (b .length) (drop (4096 + b .offset) l)) (k .bank-of .ensures)
+    c .part .ensures ∙ ap (λ (l : List ℕ). take (b .length) (drop (sectorSize + b .offset) l)) (k .bank-of .ensures)
 
 pub bytes-of-spec : {M : Type 1} → statement M
 bytes-of-spec = tie.close (tie.spec bank-of-requires cast-at add-at cast-part part-requires returns)

@@ -14,6 +14,7 @@ use Rattle.upper.proofs.Laws.{row-written, row-length, row-there, upper
 use borrow.Author.Needs.{needs}
 use Rattle.upper.proofs.rows.row_in.Statement.{statement}
 use Rattle.upper.proofs.rows.row_in.Tie as tie
+use Rattle.region.specs.Region.{capacity}
 
 slice-aggregate-row : tie.Need-slice-aggregate-row
 slice-aggregate-row c = search needs
@@ -75,7 +76,7 @@ returns-2 c = λ ss.
     let b = row-there (y .p .tables .table) (y .texts .now) (y .lengths .now) (replicate 512 0) (r .row .last .1 .1 .1 .0) (r .row .result) (s .pre .2) (r .row .ensures .0) (r .row .ensures .1) (n .0 .0) (n .1) in
     let d =
     upper-done (y .region .now) (withSources (y .p) ss) (row (y .texts .now) (y .lengths .now)) (s .pre .0) refl (s .pre .1 ss) (w .0)
-    (ap (λ (k : ℕ). leb (position (y .p .taken) + k) 487424) (sym (w .1)) ∙ sym (f .fits2 .ensures) ∙ t .if1 .taken)
+    (ap (λ (k : ℕ). leb (position (y .p .taken) + k) capacity) (sym (w .1)) ∙ sym (f .fits2 .ensures) ∙ t .if1 .taken)
     (withSources (x .run-row .result) ss)
     (x .run-row .last .1 .0)
     (x .run-row .ensures ss .0 ∙ ap (λ (l : List ℕ). ranWriter (y .region .now) (withSources (y .p) ss) (dues ++ (dues ++ feed l))) b)
@@ -95,7 +96,7 @@ returns-3 c = λ ss.
     let f = t .before in
     let n = f .before .before .a .given in
     let w = row-written (y .p .tables .table) (y .texts .now) (y .lengths .now) (replicate 512 0) (r .row .last .1 .1 .1 .0) (r .row .result) (s .pre .2) (r .row .ensures .0) (r .row .ensures .1) (n .0 .0) (n .1) in
-    let d = upper-full (y .region .now) (withSources (y .p) ss) (row (y .texts .now) (y .lengths .now)) (s .pre .0) refl (s .pre .1 ss) (w .0) (ap (λ (k : ℕ). leb (position (y .p .taken) + k) 487424) (sym (w .1)) ∙ sym (f .fits2 .ensures) ∙ t .if1 .left) in
+    let d = upper-full (y .region .now) (withSources (y .p) ss) (row (y .texts .now) (y .lengths .now)) (s .pre .0) refl (s .pre .1 ss) (w .0) (ap (λ (k : ℕ). leb (position (y .p .taken) + k) capacity) (sym (w .1)) ∙ sym (f .fits2 .ensures) ∙ t .if1 .left) in
     (ap (λ (z : PartsStep). stepWith z ss) (c .parts-stay .ensures) ∙ d .0, d .1)
 
 pub row-in-spec : {M : Type 1} → statement M

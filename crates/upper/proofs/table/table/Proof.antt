@@ -13,6 +13,7 @@ use Rattle.upper.proofs.Laws.{upper-done, upper-full, upper-turn, upper
 use borrow.Author.Needs.{needs}
 use Rattle.upper.proofs.table.table.Statement.{statement}
 use Rattle.upper.proofs.table.table.Tie as tie
+use Rattle.region.specs.Region.{capacity}
 
 may-take-requires : tie.Need-may-take-requires
 may-take-requires c κs = search needs
@@ -52,7 +53,7 @@ returns c =
     upper-done (a .region .now) (a .w) (tableWithNames (a .table)) (omega arith) h
     ((λ i. sym (m .may-take .ensures) i && sym (o .may-begin .ensures) i) ∙ g .if3 .taken)
     refl
-    (ap (λ (k : ℕ). leb (position (a .w .taken) + k) 487424) (sym (e .1)) ∙ sym (f .fits2 .ensures) ∙ t .if4 .taken)
+    (ap (λ (k : ℕ). leb (position (a .w .taken) + k) capacity) (sym (e .1)) ∙ sym (f .fits2 .ensures) ∙ t .if4 .taken)
     (x .run-table .result)
     (x .run-table .last .1 .0)
     (x .run-table .ensures .0 ∙ ap (λ (l : List ℕ). ranWriter (a .region .now) (a .w) (dues ++ (table (a .table) ∷ (dues ++ feed l)))) (e .2))
@@ -73,7 +74,7 @@ returns-2 c =
     let m = o .before in
     let a = m .before .before .before .before .args in
     let h = le-leb (a .table) 7 (omega arith) in
-    let d = upper-full (a .region .now) (a .w) (tableWithNames (a .table)) (omega arith) h ((λ i. sym (m .may-take .ensures) i && sym (o .may-begin .ensures) i) ∙ g .if3 .taken) refl (ap (λ (k : ℕ). leb (position (a .w .taken) + k) 487424) (sym (n .names .ensures .1)) ∙ sym (f .fits2 .ensures) ∙ t .if4 .left) in
+    let d = upper-full (a .region .now) (a .w) (tableWithNames (a .table)) (omega arith) h ((λ i. sym (m .may-take .ensures) i && sym (o .may-begin .ensures) i) ∙ g .if3 .taken) refl (ap (λ (k : ℕ). leb (position (a .w .taken) + k) capacity) (sym (n .names .ensures .1)) ∙ sym (f .fits2 .ensures) ∙ t .if4 .left) in
     (c .stays .ensures ∙ d .0, d .1)
 
 stays-requires-2 : tie.Need-stays-requires-2
