@@ -9,7 +9,7 @@ use lib.Signed.{leZ}
 use Rattle.base.specs.Number.{pick}
 use Rattle.refusal.specs.declared.Refusal.the-variants.{Region, Turn, Obsolete, Unfit}
 use Rattle.record.specs.declared.Source.{Source}
-use Rattle.record.specs.Record.{noBlock}
+use Rattle.record.specs.Record.{noBlock, currentVersion}
 use Rattle.header.specs.declared.Bank.{Bank}
 use Rattle.region.specs.Region.{regionSize}
 use Rattle.header.specs.WriteHeader.{headerBytes, blankWord, commitBytes, isFit}
@@ -23,6 +23,7 @@ use Rattle.lower.specs.Lower.{pastEnd}
 use Rattle.due.specs.Due.{withStage}
 use Rattle.commit.specs.declared.Stamp.{Stamp}
 use Rattle.commit.specs.declared.Stamp.the-variants.{Given, Missing}
+use Rattle.header.specs.Header.{commitOffset}
 
 -- "the checked time is the host's stamp if at least now, else now"
 abbrev pub checkedTime : Stamp → ℤ → ℤ
@@ -38,7 +39,7 @@ unfoldable pub bankFor : Writer → Stamp → Bank
 bankFor w stamp =
     record {
       number = target (w .beginning .active);
-      version = 3;
+      version = currentVersion;
       generation = nextGeneration (w .beginning .active);
       length = w .taken .written;
       crc = w .taken .crc;
@@ -96,7 +97,7 @@ wordStep region w =
     (stays w Region)
 
 unfoldable pub wordOps : List ℕ → Writer → List Op
-wordOps region w = pick (eqb (length region) regionSize && (inRange w && isHeaded (w .stage))) (write 44 commitBytes ∷ []) []
+wordOps region w = pick (eqb (length region) regionSize && (inRange w && isHeaded (w .stage))) (write commitOffset commitBytes ∷ []) []
 
 unfoldable pub wordRegion : List ℕ → Writer → List ℕ
 wordRegion region w = performed (target (w .beginning .active)) (wordOps region w) region

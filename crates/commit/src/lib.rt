@@ -19,11 +19,14 @@ use bank::Loaded;
 use base::number::le;
 use flash::write;
 use header::Bank;
+use header::COMMIT_OFFSET;
+use header::SOURCES;
 use header::write::commit_bytes;
 use header::write::fit;
 use header::write::header_bytes;
 use leaf::generation::next;
 use record::Source;
+use record::VERSION;
 use refusal::Refusal;
 use region::REGION_SIZE;
 use writer::Stage;
@@ -85,7 +88,7 @@ fn next_generation(l: Loaded) -> u32
     }
 }
 
-pub fn routes_offset(ss: [Source; 3]) -> u32
+pub fn routes_offset(ss: [Source; SOURCES]) -> u32
     ensures { λ r. ⌜ r ≡ Commit.routesOffset ss ⌝ }
 {
     let s = ss[0];
@@ -111,7 +114,7 @@ fn bank_for(w: Writer, stamp: Stamp) -> Bank
     let ss = w.sources;
     Bank {
         number: target(l),
-        version: 3,
+        version: VERSION,
         generation: next_generation(l),
         length: t.written,
         crc: t.crc,
@@ -203,7 +206,7 @@ fn write_word(w: Writer, region: &mut [u8]) -> Step
     let l = b.active;
     let bank = target(l);
     let word = commit_bytes();
-    write(region, bank, 44, &word);
+    write(region, bank, COMMIT_OFFSET, &word);
     let v = committed(w);
     did(v)
 }

@@ -11,9 +11,12 @@ use crate::key_length;
 use crate::routes_offset;
 use bank::Loaded;
 use header::Bank;
+use header::RECORDS_OFFSET;
+use header::SOURCES;
 use header::record_at;
 use record::Block;
 use record::Source;
+use record::TABLES;
 use record::source_size;
 use refusal::Refusal;
 use region::REGION_SIZE;
@@ -30,7 +33,7 @@ fn same_block(a: Block, b: Block) -> bool
     (a.offset == b.offset) & ((a.length == b.length) & (a.crc == b.crc))
 }
 
-fn same_blocks(xs: [Block; 8], ys: [Block; 8]) -> bool
+fn same_blocks(xs: [Block; TABLES], ys: [Block; TABLES]) -> bool
     ensures { λ r. ⌜ r ≡ Unchanged.sameEach Unchanged.sameBlock xs ys ⌝ }
 {
     let mut same = true;
@@ -54,7 +57,7 @@ fn same_source(a: Source, b: Source) -> bool
 }
 
 // The first n sources against the first n records of a bank.
-fn same_sources(ss: [Source; 3], n: usize, l: &[u8], version: u32) -> bool
+fn same_sources(ss: [Source; SOURCES], n: usize, l: &[u8], version: u32) -> bool
     requires { ⌜ n ≤ 3 ⌝ }
     ensures { λ r. ⌜ r ≡ Unchanged.sameEach Unchanged.sameSource (take n ss) (recordsOf version (now (l .entry)) n) ⌝ }
 {
@@ -63,7 +66,7 @@ fn same_sources(ss: [Source; 3], n: usize, l: &[u8], version: u32) -> bool
     let mut i = 0;
     while i < n {
         let a = ss[i];
-        let b = record_at(l, version, 48 + i * size);
+        let b = record_at(l, version, RECORDS_OFFSET + i * size);
         same = same & same_source(a, b);
         i += 1;
     }

@@ -8,6 +8,7 @@ ghost use Rattle.cstate.specs.State as Saved;
 ghost use Rattle.cstate.specs.Answers as Answers;
 use bank::Loaded;
 use header::Bank;
+use header::SOURCES;
 use record::Source;
 use refusal::Refusal;
 use writer::Answer;
@@ -17,6 +18,7 @@ use writer::Parts;
 use writer::PartsStep;
 use writer::Stage;
 use writer::Step;
+use writer::TAIL_SIZE;
 use writer::Tables;
 use writer::Taken;
 use writer::Writer;
@@ -39,8 +41,8 @@ pub struct State {
     pub different: u32,
     pub closed: u32,
     pub tables: Tables,
-    pub sources: [Source; 3],
-    pub tail: [u8; 256],
+    pub sources: [Source; SOURCES],
+    pub tail: [u8; TAIL_SIZE],
 }
 
 fn stage_of(kind: u32, first: u32, second: u32) -> Stage
@@ -221,7 +223,7 @@ fn flag(b: bool) -> u32
 }
 
 // A writer's parts, and its sources, as a state.
-fn state_with(p: Parts, sources: [Source; 3]) -> State
+fn state_with(p: Parts, sources: [Source; SOURCES]) -> State
     ensures { λ r. ⌜ r ≡ Saved.savedOf (withSources p sources) ⌝ }
 {
     let b = p.beginning;

@@ -26,7 +26,7 @@ use Rattle.writer.specs.declared.Stage.the-variants.{Idle, Due, Headed, Committ
 use Rattle.writer.specs.declared.Taken.{Taken}
 use Rattle.writer.specs.declared.Writer.{Writer}
 use Rattle.writer.specs.declared.Step.{Step}
-use Rattle.writer.specs.State.{position, isDue, aligned, takenOk, operationOk, stageOk, inRange, target, dataDue, writeDue, stays}
+use Rattle.writer.specs.State.{position, isDue, aligned, takenOk, operationOk, stageOk, inRange, target, dataDue, writeDue, stays, tailSize}
 use Rattle.writer.proofs.Laws.{ranged, fill-fits, position-fits}
 use Rattle.due.specs.Due.{padded, opsOf, dueOps, dueRegion, differs, withStage, withEmptied, operated, stepOf, dueStep}
 
@@ -37,32 +37,32 @@ take-fill d p k h =
     let e : k ≡ p + (k - p) = omega arith in
     ap (λ (n : ℕ). take p (fill d n)) e ∙ ap (take p) (fill-split d p (k - p)) ∙ take-at (fill d p) (fill d (k - p)) p (length-fill d p)
 
-pub filled-end : (tail : List ℕ) (n : ℕ) → length tail ≡ 256 → n ≤ 256 → sets (replicate 256 255) 0 (take n tail) ≡ take n tail ++ fill 255 (256 - n)
+pub filled-end : (tail : List ℕ) (n : ℕ) → length tail ≡ tailSize → n ≤ tailSize → sets (replicate tailSize 255) 0 (take n tail) ≡ take n tail ++ fill 255 (tailSize - n)
 filled-end tail n l h =
     let x : length (take n tail) ≡ n = length-take-le n tail (omega arith) in
     let e : 0 + length (take n tail) ≡ n = omega (arith, x) in
-    sets-eq (take n tail) (replicate 256 255) 0 (omega (arith, x))
-    ∙ ap (λ (k : ℕ). take n tail ++ drop k (replicate 256 255)) e
-    ∙ ap (λ (r : List ℕ). take n tail ++ r) (drop-new 255 256 n)
+    sets-eq (take n tail) (replicate tailSize 255) 0 (omega (arith, x))
+    ∙ ap (λ (k : ℕ). take n tail ++ drop k (replicate tailSize 255)) e
+    ∙ ap (λ (r : List ℕ). take n tail ++ r) (drop-new 255 tailSize n)
 
-pub padded-is : (tail : List ℕ) (n m : ℕ) → length tail ≡ 256 → n ≤ 256 → m ≡ n + (4 - n % 4) % 4 → m ≤ 256 → take m (take n tail ++ fill 255 (256 - n)) ≡ padded (take n tail)
+pub padded-is : (tail : List ℕ) (n m : ℕ) → length tail ≡ tailSize → n ≤ tailSize → m ≡ n + (4 - n % 4) % 4 → m ≤ tailSize → take m (take n tail ++ fill 255 (tailSize - n)) ≡ padded (take n tail)
 unfolding padded
 padded-is tail n m l h e k =
     let p = (4 - n % 4) % 4 in
     let x : length (take n tail) ≡ n = length-take-le n tail (omega arith) in
-    ap (λ (j : ℕ). take j (take n tail ++ fill 255 (256 - n))) (e ∙ ap (λ (j : ℕ). j + p) (sym x))
-    ∙ take-append-add (take n tail) (fill 255 (256 - n)) p
-    ∙ ap (λ (t : List ℕ). take n tail ++ t) (take-fill 255 p (256 - n) (omega arith))
+    ap (λ (j : ℕ). take j (take n tail ++ fill 255 (tailSize - n))) (e ∙ ap (λ (j : ℕ). j + p) (sym x))
+    ∙ take-append-add (take n tail) (fill 255 (tailSize - n)) p
+    ∙ ap (λ (t : List ℕ). take n tail ++ t) (take-fill 255 p (tailSize - n) (omega arith))
     ∙ ap (λ (j : ℕ). take n tail ++ fill 255 ((4 - j % 4) % 4)) (sym x)
 
 -- nothing is padded where the length is a multiple of 4
-pub padded-whole : (tail : List ℕ) (n : ℕ) → length tail ≡ 256 → n ≤ 256 → n % 4 ≡ 0 → take n tail ≡ padded (take n tail)
+pub padded-whole : (tail : List ℕ) (n : ℕ) → length tail ≡ tailSize → n ≤ tailSize → n % 4 ≡ 0 → take n tail ≡ padded (take n tail)
 unfolding padded fill
 padded-whole tail n l h e =
     let x : length (take n tail) ≡ n = length-take-le n tail (omega arith) in
     sym (ap (λ (j : ℕ). take n tail ++ fill 255 ((4 - j % 4) % 4)) x ∙ ap (λ (j : ℕ). take n tail ++ fill 255 ((4 - j) % 4)) e ∙ append-nil (take n tail))
 
-pub length-padded : (xs : List ℕ) → length xs ≤ 256 → length (padded xs) ≤ 256
+pub length-padded : (xs : List ℕ) → length xs ≤ tailSize → length (padded xs) ≤ tailSize
 unfolding padded
 length-padded xs h = omega (arith, length-append xs (fill 255 ((4 - length xs % 4) % 4)), length-fill {A = ℕ} 255 ((4 - length xs % 4) % 4))
 
@@ -85,25 +85,25 @@ or-cases true b e = inl refl
 or-cases false b e = inr e
 
 module _ (t : Taken) where
-  some-by : (eqb (t .fill) 256 ≡ true) ⊎ ((t .closed && ltb 0 (t .fill)) ≡ true) → 1 ≤ t .fill
-  some-by (inl h) = omega (arith, eqb-true (t .fill) 256 h)
+  some-by : (eqb (t .fill) tailSize ≡ true) ⊎ ((t .closed && ltb 0 (t .fill)) ≡ true) → 1 ≤ t .fill
+  some-by (inl h) = omega (arith, eqb-true (t .fill) tailSize h)
   some-by (inr h) = ltb-true 0 (t .fill) (and-right (t .closed) (ltb 0 (t .fill)) h)
 
   -- the tail holds bytes when something is due
   pub fill-some : isDue t ≡ true → 1 ≤ t .fill
   unfolding isDue
-  fill-some e = some-by (or-cases (eqb (t .fill) 256) (t .closed && ltb 0 (t .fill)) e)
+  fill-some e = some-by (or-cases (eqb (t .fill) tailSize) (t .closed && ltb 0 (t .fill)) e)
 
-  multiple-by : 1 ≤ t .fill → (eqb (t .written % 256) 0 ≡ true) ⊎ ((t .closed && eqb (t .fill) 0) ≡ true) → t .written % 256 ≡ 0
-  multiple-by h (inl e) = eqb-true (t .written % 256) 0 e
+  multiple-by : 1 ≤ t .fill → (eqb (t .written % tailSize) 0 ≡ true) ⊎ ((t .closed && eqb (t .fill) 0) ≡ true) → t .written % tailSize ≡ 0
+  multiple-by h (inl e) = eqb-true (t .written % tailSize) 0 e
   multiple-by h (inr e) = absurd (omega (arith, eqb-true (t .fill) 0 (and-right (t .closed) (eqb (t .fill) 0) e)))
 
-  multiple : takenOk t ≡ true → 1 ≤ t .fill → t .written % 256 ≡ 0
+  multiple : takenOk t ≡ true → 1 ≤ t .fill → t .written % tailSize ≡ 0
   unfolding takenOk
   multiple e h =
       let p = leb (position t) capacity in
       let a = aligned t in
-      multiple-by h (or-cases (eqb (t .written % 256) 0) (t .closed && eqb (t .fill) 0) (and-right p a (and-right (leb (t .fill) 256) (p && a) e)))
+      multiple-by h (or-cases (eqb (t .written % tailSize) 0) (t .closed && eqb (t .fill) 0) (and-right p a (and-right (leb (t .fill) tailSize) (p && a) e)))
 
   -- and a whole tail has its place in the data
   pub tail-fits : takenOk t ≡ true → isDue t ≡ true → t .written ≤ 487168
@@ -121,7 +121,7 @@ module _ (t : Taken) where
         let y = eqb (t .written % sectorSize) 0 && eqb k (t .written / sectorSize + 1) in
         sector-by k (tail-fits e d) (or-cases x y (and-right (not c) (x || y) o))
 
-    pub write-fits : (a n : ℕ) → takenOk t ≡ true → isDue t ≡ true → operationOk c t (Write a n) ≡ true → (n ≤ 256) × (a ≤ 487168)
+    pub write-fits : (a n : ℕ) → takenOk t ≡ true → isDue t ≡ true → operationOk c t (Write a n) ≡ true → (n ≤ tailSize) × (a ≤ 487168)
     unfolding operationOk
     write-fits a n e d o =
         let x = eqb a (t .written) in
@@ -143,7 +143,7 @@ module _ (w : Writer) (o : Operation) (e : inRange w ≡ true) (s : w .stage ≡
 pub erase-ranged : (w : Writer) (k : ℕ) → inRange w ≡ true → w .stage ≡ Due (Erase k) → k ≤ 119
 erase-ranged w k e s = sector-fits (w .taken) (w .beginning .comparing) k (ranged w e .taken) (is-due w (Erase k) e s) (is-ok w (Erase k) e s)
 
-pub write-ranged : (w : Writer) (a n : ℕ) → inRange w ≡ true → w .stage ≡ Due (Write a n) → (n ≤ 256) × (a ≤ 487168)
+pub write-ranged : (w : Writer) (a n : ℕ) → inRange w ≡ true → w .stage ≡ Due (Write a n) → (n ≤ tailSize) × (a ≤ 487168)
 write-ranged w a n e s = write-fits (w .taken) (w .beginning .comparing) a n (ranged w e .taken) (is-due w (Write a n) e s) (is-ok w (Write a n) e s)
 
 -- ---- the state after

@@ -17,6 +17,7 @@ ghost use Rattle.writer.specs.State as State;
 ghost use Rattle.writer.specs.Parts.{withSources, stepWith};
 ghost use Rattle.due.specs.Due as Due;
 ghost use Rattle.region.specs.Region.{regionSize, capacity, sectorSize};
+ghost use Rattle.writer.specs.State.{tailSize};
 use bank::Loaded;
 use base::slice::part;
 use base::slice::same_bytes;
@@ -33,6 +34,7 @@ use writer::Parts;
 use writer::PartsStep;
 use writer::Stage;
 use writer::Step;
+use writer::TAIL_SIZE;
 use writer::Taken;
 use writer::Writer;
 use writer::data_due;
@@ -44,11 +46,11 @@ use writer::step_with;
 use writer::target;
 
 // The tail's first n bytes, and 255 behind them.
-fn filled(tail: [u8; 256], n: usize) -> [u8; 256]
-    requires { ⌜ n ≤ 256 ⌝ }
-    ensures { λ r. ⌜ r ≡ take n tail ++ fill 255 (256 - n) ⌝ }
+fn filled(tail: [u8; TAIL_SIZE], n: usize) -> [u8; TAIL_SIZE]
+    requires { ⌜ n ≤ tailSize ⌝ }
+    ensures { λ r. ⌜ r ≡ take n tail ++ fill 255 (tailSize - n) ⌝ }
 {
-    let mut t = [255u8; 256];
+    let mut t = [255u8; TAIL_SIZE];
     let mut i = 0;
     while i < n {
         t[i] = tail[i];
@@ -59,15 +61,15 @@ fn filled(tail: [u8; 256], n: usize) -> [u8; 256]
 
 // n, made a multiple of 4.
 fn padded_length(n: usize) -> usize
-    requires { ⌜ n ≤ 256 ⌝ }
-    ensures { λ r. ⌜ (r ≡ n + (4 - n % 4) % 4) × (r ≤ 256) ⌝ }
+    requires { ⌜ n ≤ tailSize ⌝ }
+    ensures { λ r. ⌜ (r ≡ n + (4 - n % 4) % 4) × (r ≤ tailSize) ⌝ }
 {
     n + (4 - n % 4) % 4
 }
 
 // Writes the tail's first n bytes, padded, at a place of the data.
-fn write_tail(region: &mut [u8], bank: u32, tail: [u8; 256], a: u32, n: u32)
-    requires { ⌜ n ≤ 256 ⌝ }
+fn write_tail(region: &mut [u8], bank: u32, tail: [u8; TAIL_SIZE], a: u32, n: u32)
+    requires { ⌜ n ≤ tailSize ⌝ }
     ensures { λ _. ⌜ now (region .exit) ≡ writtenIn (now (region .entry)) bank (sectorSize + a) (Due.padded (take n tail)) ⌝ }
 {
     let e = n as usize;
@@ -81,8 +83,8 @@ fn write_tail(region: &mut [u8], bank: u32, tail: [u8; 256], a: u32, n: u32)
     write(region, bank, SECTOR_SIZE + a as usize, bytes);
 }
 
-fn differs_from(region: &[u8], b: Bank, t: Taken, tail: [u8; 256]) -> bool
-    requires { ⌜ t .fill ≤ 256 ⌝ }
+fn differs_from(region: &[u8], b: Bank, t: Taken, tail: [u8; TAIL_SIZE]) -> bool
+    requires { ⌜ t .fill ≤ tailSize ⌝ }
     ensures { λ r. ⌜ r ≡ Due.differs (now (region .entry)) (Loadeds.Found b) t tail ⌝ }
 {
     let n = t.fill as usize;
@@ -92,8 +94,8 @@ fn differs_from(region: &[u8], b: Bank, t: Taken, tail: [u8; 256]) -> bool
     !(t.written as u64 + t.fill as u64 <= b.length as u64) | !same_bytes(stored, held)
 }
 
-fn differs(region: &[u8], l: Loaded, t: Taken, tail: [u8; 256]) -> bool
-    requires { ⌜ t .fill ≤ 256 ⌝ }
+fn differs(region: &[u8], l: Loaded, t: Taken, tail: [u8; TAIL_SIZE]) -> bool
+    requires { ⌜ t .fill ≤ tailSize ⌝ }
     ensures { λ r. ⌜ r ≡ Due.differs (now (region .entry)) l t tail ⌝ }
 {
     match l {
@@ -157,7 +159,7 @@ fn do_erase(p: Parts, region: &mut [u8], sector: u32) -> PartsStep
 }
 
 fn do_write(p: Parts, region: &mut [u8], offset: u32, n: u32) -> PartsStep
-    requires { ⌜ (length (now region) ≡ regionSize) × (n ≤ 256) × (offset ≤ 487168) × (State.position (p .taken) ≤ capacity) ⌝ }
+    requires { ⌜ (length (now region) ≡ regionSize) × (n ≤ tailSize) × (offset ≤ 487168) × (State.position (p .taken) ≤ capacity) ⌝ }
     ensures { λ r. ⌜ ((ss : List Source) → stepWith r ss ≡ State.did (Due.operated (now (region .entry)) (withSources p ss) (Operations.Write offset n))) × (now (region .exit) ≡ performed (State.target (p .beginning .active)) (Due.opsOf (p .tail) (Stages.Due (Operations.Write offset n))) (now (region .entry))) ⌝ }
 {
     let b = p.beginning;
@@ -171,7 +173,7 @@ fn do_write(p: Parts, region: &mut [u8], offset: u32, n: u32) -> PartsStep
 }
 
 fn do_compare(p: Parts, region: &[u8], offset: u32, n: u32) -> PartsStep
-    requires { ⌜ (p .taken .fill ≤ 256) × (State.position (p .taken) ≤ capacity) ⌝ }
+    requires { ⌜ (p .taken .fill ≤ tailSize) × (State.position (p .taken) ≤ capacity) ⌝ }
     ensures { λ r. ⌜ ((ss : List Source) → stepWith r ss ≡ State.did (Due.operated (now (region .entry)) (withSources p ss) (Operations.Compare offset n))) ⌝ }
 {
     let b = p.beginning;

@@ -18,6 +18,7 @@ use cstate::parts_of;
 use cstate::writer_of;
 use due::due_parts;
 use lower::append::take_parts;
+use record::VERSION;
 use record::decode;
 
 // Begins an update: loads the region; in comparing mode nothing is written. It takes no key.
@@ -39,7 +40,7 @@ pub extern "C" fn tt_update_begin(
 pub extern "C" fn tt_update_source(state: State, bytes: &[u8]) -> UpdateStep
     ensures { λ x. ⌜ x ≡ Answers.after (Lower.sourceStep (writerOf state) (decoded 3 (now (bytes .entry)))) state ⌝ }
 {
-    let r = decode(bytes, 3);
+    let r = decode(bytes, VERSION);
     let s = lower::source::source(writer_of(state), r);
     after(s, state)
 }

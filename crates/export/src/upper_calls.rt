@@ -11,6 +11,7 @@ use cstate::after;
 use cstate::after_parts;
 use cstate::parts_of;
 use cstate::writer_of;
+use record::VERSION;
 use record::decode;
 use upper::rows::row_parts;
 
@@ -38,7 +39,7 @@ pub extern "C" fn tt_upper_source(region: &mut [u8], state: State, bytes: &[u8])
     ensures { λ x. ⌜ x ≡ Answers.after (Upper.upperStep (now (region .entry)) (writerOf state) (Upper.sourceWithDates (decoded 3 (now (bytes .entry))))) state ⌝ }
     ensures { λ _. ⌜ now (region .exit) ≡ Upper.upperRegion (now (region .entry)) (writerOf state) (Upper.sourceWithDates (decoded 3 (now (bytes .entry)))) ⌝ }
 {
-    let r = decode(bytes, 3);
+    let r = decode(bytes, VERSION);
     let s = upper::source::source(writer_of(state), region, r);
     after(s, state)
 }

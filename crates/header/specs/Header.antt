@@ -1,7 +1,7 @@
 -- A bank's header, and its tests: refusals 3 to 6.
 use mathlib.Core.Bool.{Bool, false, _&&_, _||_}
 use mathlib.Core.List.{List, [], _∷_, _++_}
-use Prim.Native.Nat.{ℕ, _+_, _*_}
+use Prim.Native.Nat.{ℕ, _+_, _-_, _*_}
 use lib.Dec.{leb, eqb}
 use lib.IntN.{ℤ, pos, negsuc}
 use lib.ListN.{length, take, drop}
@@ -13,7 +13,7 @@ use Rattle.leaf.specs.Date.{validDate}
 use Rattle.refusal.specs.declared.Refusal.the-variants.{Mark, Seal, Span, Source as BadSource}
 use Rattle.record.specs.declared.Block.{Block}
 use Rattle.record.specs.declared.Source.{Source}
-use Rattle.record.specs.Record.{sourceSize, decoded}
+use Rattle.record.specs.Record.{currentVersion, recordSize, sourceSize, decoded}
 use Rattle.base.specs.Lists.{many, fill, each}
 use Rattle.header.specs.declared.Bank.{Bank}
 use Rattle.header.specs.declared.Validated.{Validated}
@@ -34,16 +34,28 @@ numbersOf n l =
       checked = time l 32;
     }
 
--- a header has three records, from byte 48 on
-abbrev pub sources : ℕ
-sources = 3
+-- a header has three records, from byte 48 on; the header CRC and the commit word are just before them
+abbrev pub maxSources : ℕ
+maxSources = 3
+
+abbrev pub crcOffset : ℕ
+crcOffset = 40
+
+abbrev pub commitOffset : ℕ
+commitOffset = 44
+
+abbrev pub recordsOffset : ℕ
+recordsOffset = 48
+
+abbrev pub headerSize : ℕ
+headerSize = recordsOffset + maxSources * recordSize
 
 -- the record of a version at a place, and the first n records
 unfoldable pub recordAt : ℕ → List ℕ → ℕ → Source
 recordAt v l at = decoded v (drop at l)
 
 abbrev pub recordsOf : ℕ → List ℕ → ℕ → List Source
-recordsOf v l n = many (recordAt v) (sourceSize v) l 48 n
+recordsOf v l n = many (recordAt v) (sourceSize v) l recordsOffset n
 
 -- 3: "TTFC", a version from 1 to 3, and the commit word
 abbrev pub magic : ℕ
@@ -53,14 +65,14 @@ abbrev pub commitWord : ℕ
 commitWord = 1129270612
 
 unfoldable pub marked : List ℕ → Bool
-marked l = eqb (word l 0) magic && (leb 1 (word l 4) && (leb (word l 4) 3 && eqb (word l 44) commitWord))
+marked l = eqb (word l 0) magic && (leb 1 (word l 4) && (leb (word l 4) currentVersion && eqb (word l commitOffset) commitWord))
 
 -- 4: the CRC over 48 bytes and all three records, bytes 40 to 47 as zero
 unfoldable pub headerCrc : List ℕ → ℕ → ℕ
-headerCrc l size = crc32 0 (take 40 l ++ (fill 0 8 ++ take (size * sources) (drop 48 l)))
+headerCrc l size = crc32 0 (take crcOffset l ++ (fill 0 (recordsOffset - crcOffset) ++ take (size * maxSources) (drop recordsOffset l)))
 
 unfoldable pub sealed : List ℕ → Bool
-sealed l = eqb (word l 40) (headerCrc l (sourceSize (word l 4)))
+sealed l = eqb (word l crcOffset) (headerCrc l (sourceSize (word l 4)))
 
 -- 5: lengths, count and checked time
 abbrev pub lengthOk : Bank → Bool
@@ -70,7 +82,7 @@ abbrev pub keyOk : Bank → Bool
 keyOk b = leb 1 (b .key) && leb (b .key) (b .length)
 
 abbrev pub countOk : Bank → Bool
-countOk b = leb 1 (b .count) && leb (b .count) sources
+countOk b = leb 1 (b .count) && leb (b .count) maxSources
 
 unfoldable pub spanOk : Bank → Bool
 spanOk b = lengthOk b && (keyOk b && (countOk b && leZ (pos 0) (b .checked)))

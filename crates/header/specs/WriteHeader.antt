@@ -7,12 +7,12 @@ use lib.ListN.{length}
 use Rattle.leaf.specs.Bytes.{le32, le64}
 use Rattle.leaf.specs.Crc.{crc32}
 use Rattle.record.specs.declared.Source.{Source}
-use Rattle.record.specs.Record.{sourceSize, sourceBytes}
+use Rattle.record.specs.Record.{recordSize, idSize, maxValidator, sourceBytes}
 use Rattle.base.specs.Lists.{puts, fill, each, byte}
 use Rattle.header.specs.declared.Bank.{Bank}
 use Rattle.header.specs.declared.Validated.{Validated}
 use Rattle.header.specs.declared.Validated.the-variants.{Good, Refused}
-use Rattle.header.specs.Header.{sources, magic, commitWord, judge}
+use Rattle.header.specs.Header.{maxSources, recordsOffset, crcOffset, magic, commitWord, judge}
 
 -- bytes 0 to 15: "TTFC", version, generation, data length
 unfoldable pub firstBytes : Bank → List ℕ
@@ -27,11 +27,11 @@ numberBytes b = firstBytes b ++ secondBytes b
 
 -- three records of version 3, those past the sources zeros
 unfoldable pub recordBytes : List Source → List ℕ
-recordBytes ss = puts sourceBytes ss ++ fill 0 ((sources - length ss) * sourceSize 3)
+recordBytes ss = puts sourceBytes ss ++ fill 0 ((maxSources - length ss) * recordSize)
 
 -- the header CRC: over 48 bytes and all three records, bytes 40 to 47 as zero
 unfoldable pub crcOf : Bank → List Source → ℕ
-crcOf b ss = crc32 0 (numberBytes b ++ (fill 0 8 ++ recordBytes ss))
+crcOf b ss = crc32 0 (numberBytes b ++ (fill 0 (recordsOffset - crcOffset) ++ recordBytes ss))
 
 -- the header, with four bytes in the commit word's place
 unfoldable pub headerBytes : Bank → List Source → List ℕ → List ℕ
@@ -50,7 +50,7 @@ passes (Good b) = true
 passes (Refused r) = false
 
 abbrev pub textOk : Source → Bool
-textOk s = leb (s .idlen) 80 && leb (byte (s .validator) 0) 64
+textOk s = leb (s .idlen) idSize && leb (byte (s .validator) 0) maxValidator
 
 unfoldable pub isFit : Bank → List Source → Bool
 isFit b ss = passes (judge b ss) && each textOk ss

@@ -27,11 +27,31 @@ use leaf::bytes::get_time;
 use leaf::crc::crc32;
 use leaf::date::valid_date;
 use record::Block;
+use record::RECORD_SIZE;
 use record::Source;
+use record::TABLES;
+use record::VERSION;
 use record::decode;
 use record::source_size;
 use refusal::Refusal;
 use region::CAPACITY_32;
+
+// Three records, from byte 48 on; the header CRC and the commit word just before them.
+pub const SOURCES: usize = 3;
+
+pub const SOURCES_32: u32 = 3;
+
+pub const CRC_OFFSET: usize = 40;
+
+pub const COMMIT_OFFSET: usize = 44;
+
+pub const RECORDS_OFFSET: usize = 48;
+
+pub const HEADER_SIZE: usize = RECORDS_OFFSET + SOURCES * RECORD_SIZE;
+
+const MAGIC: u32 = 0x43465454;
+
+pub const COMMIT_WORD: u32 = 0x434f4d54;
 
 // A bank's numbers; `key` is the key's length.
 #[repr(C)]
@@ -71,7 +91,7 @@ fn is_marked(b: &[u8]) -> bool
     ensures { λ r. ⌜ r ≡ marked (now (b .entry)) ⌝ }
 {
     let v = get(b, 4);
-    (get(b, 0) == 0x43465454) & ((1 <= v) & ((v <= 3) & (get(b, 44) == 0x434f4d54)))
+    (get(b, 0) == MAGIC) & ((1 <= v) & ((v <= VERSION) & (get(b, COMMIT_OFFSET) == COMMIT_WORD)))
 }
 
 fn header_crc(b: &[u8], size: usize) -> u32
@@ -79,10 +99,10 @@ fn header_crc(b: &[u8], size: usize) -> u32
     ensures { λ r. ⌜ r ≡ headerCrc (now (b .entry)) size ⌝ }
 {
     let zeros = [0u8; 8];
-    let front = part(b, 0, 40);
+    let front = part(b, 0, CRC_OFFSET);
     let x = crc32(0, front);
     let y = crc32(x, &zeros);
-    let records = part(b, 48, size * 3);
+    let records = part(b, RECORDS_OFFSET, size * SOURCES);
     crc32(y, records)
 }
 
@@ -90,7 +110,7 @@ fn is_sealed(b: &[u8]) -> bool
     ensures { λ r. ⌜ r ≡ sealed (now (b .entry)) ⌝ }
 {
     let size = source_size(get(b, 4));
-    get(b, 40) == header_crc(b, size)
+    get(b, CRC_OFFSET) == header_crc(b, size)
 }
 
 // Lengths, count and checked time.
@@ -99,7 +119,7 @@ pub fn span_ok(b: Bank) -> bool
 {
     ((1 <= b.length) & (b.length <= CAPACITY_32))
         & (((1 <= b.key) & (b.key <= b.length))
-            & (((1 <= b.count) & (b.count <= 3)) & le(0, b.checked)))
+            & (((1 <= b.count) & (b.count <= SOURCES_32)) & le(0, b.checked)))
 }
 
 fn is_unknown(t: i64) -> bool
@@ -120,7 +140,7 @@ fn block_ok(b: Bank, t: Block) -> bool
     (t.length == 0) | ((b.key <= t.offset) & (wider(t.offset) + wider(t.length) <= wider(b.length)))
 }
 
-fn blocks_ok(b: Bank, ts: [Block; 8]) -> bool
+fn blocks_ok(b: Bank, ts: [Block; TABLES]) -> bool
     ensures { λ r. ⌜ r ≡ each (blockOk b) ts ⌝ }
 {
     let mut ok = true;
@@ -157,7 +177,7 @@ fn records_ok(l: &[u8], b: Bank, n: usize) -> bool
 {
     let size = source_size(b.version);
     let mut ok = true;
-    let mut at = 48;
+    let mut at = RECORDS_OFFSET;
     let mut i = 0;
     while i < n {
         let s = record_at(l, b.version, at);

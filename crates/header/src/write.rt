@@ -16,26 +16,42 @@ ghost use Rattle.header.specs.WriteHeader.{
   isFit,
 };
 use crate::Bank;
+use crate::COMMIT_OFFSET;
+use crate::CRC_OFFSET;
+use crate::HEADER_SIZE;
+use crate::RECORDS_OFFSET;
+use crate::SOURCES;
+use crate::SOURCES_32;
 use crate::source_ok;
 use crate::span_ok;
 use leaf::bytes::put;
 use leaf::bytes::put_time;
 use leaf::crc::crc32;
 use record::Block;
+use record::ID_SIZE;
+use record::ORIGINAL_WORDS;
+use record::RECORD_SIZE;
+use record::STAMP_SIZE;
 use record::Source;
+use record::TABLES;
+use record::VALIDATOR_SIZE;
 use record::encode;
 
 // How many records are written.
 fn records(count: u32) -> usize
     ensures { λ r. ⌜ r ≡ min count 3 ⌝ }
 {
-    if count < 3 { count as usize } else { 3 }
+    if count < SOURCES_32 {
+        count as usize
+    } else {
+        SOURCES
+    }
 }
 
-fn zeros() -> [u8; 1200]
+fn zeros() -> [u8; HEADER_SIZE]
     ensures { λ r. ⌜ r ≡ fill 0 1200 ⌝ }
 {
-    [0u8; 1200]
+    [0u8; HEADER_SIZE]
 }
 
 fn put_first(out: &mut [u8], b: Bank)
@@ -61,11 +77,11 @@ fn put_second(out: &mut [u8], b: Bank)
 
 // The arrays of a record have their lengths.
 fn have_lengths(
-    original: [u32; 16],
-    tables: [Block; 8],
-    stamp: [u8; 12],
-    id: [u8; 80],
-    validator: [u8; 66],
+    original: [u32; ORIGINAL_WORDS],
+    tables: [Block; TABLES],
+    stamp: [u8; STAMP_SIZE],
+    id: [u8; ID_SIZE],
+    validator: [u8; VALIDATOR_SIZE],
 )
     ensures { λ _. ⌜ (length original ≡ 16) × (length tables ≡ 8) × (length stamp ≡ 12) × (length id ≡ 80) × (length validator ≡ 66) ⌝ }
 {}
@@ -82,7 +98,7 @@ fn is_sized(s: Source)
 }
 
 // The first n records, one after the other.
-fn put_records(out: &mut [u8], ss: [Source; 3], n: usize)
+fn put_records(out: &mut [u8], ss: [Source; SOURCES], n: usize)
     requires { ⌜ (n ≤ 3) × (length (now out) ≡ 1200) ⌝ }
     ensures { λ _. ⌜ (now (out .exit) ≡ sets (now (out .entry)) 48 (puts sourceBytes (take n ss))) × (length (puts sourceBytes (take n ss)) ≡ n * 384) × (length ss ≡ 3) ⌝ }
 {
@@ -90,12 +106,12 @@ fn put_records(out: &mut [u8], ss: [Source; 3], n: usize)
     while i < n {
         let s = ss[i];
         is_sized(s);
-        encode(s, out, 48 + i * 384);
+        encode(s, out, RECORDS_OFFSET + i * RECORD_SIZE);
         i += 1;
     }
 }
 
-fn put_header(out: &mut [u8], b: Bank, ss: [Source; 3])
+fn put_header(out: &mut [u8], b: Bank, ss: [Source; SOURCES])
     requires { ⌜ (length (now out) ≡ 1200) × (now out ≡ fill 0 1200) ⌝ }
     ensures { λ _. ⌜ now (out .exit) ≡ headerBytes b (take (b .count) ss) blankWord ⌝ }
 {
@@ -104,12 +120,12 @@ fn put_header(out: &mut [u8], b: Bank, ss: [Source; 3])
     let n = records(b.count);
     put_records(out, ss, n);
     let crc = crc32(0, out);
-    put(out, 40, crc);
-    put(out, 44, 4294967295);
+    put(out, CRC_OFFSET, crc);
+    put(out, COMMIT_OFFSET, 4294967295);
 }
 
 // The header of a bank with the records below its count, 255 in the commit word.
-pub fn header_bytes(b: Bank, ss: [Source; 3]) -> [u8; 1200]
+pub fn header_bytes(b: Bank, ss: [Source; SOURCES]) -> [u8; HEADER_SIZE]
     ensures { λ r. ⌜ r ≡ headerBytes b (take (b .count) ss) blankWord ⌝ }
 {
     let mut out = zeros();
@@ -132,7 +148,7 @@ fn text_ok(s: Source) -> bool
 }
 
 // Whether a bank with the records below its count is fit to be committed.
-pub fn fit(b: Bank, ss: [Source; 3]) -> bool
+pub fn fit(b: Bank, ss: [Source; SOURCES]) -> bool
     ensures { λ r. ⌜ r ≡ isFit b (take (b .count) ss) ⌝ }
 {
     let n = records(b.count);

@@ -12,7 +12,7 @@ use Rattle.refusal.specs.declared.Refusal.the-variants.{Argument, Full, Turn}
 use Rattle.record.specs.declared.Source.{Source}
 use Rattle.writer.specs.declared.Writer.{Writer}
 use Rattle.base.proofs.Bools.{and-left}
-use Rattle.writer.specs.State.{did, stays, position, isOpen, begunIn, isDue, inRange}
+use Rattle.writer.specs.State.{did, stays, position, isOpen, begunIn, isDue, inRange, tailSize}
 use Rattle.writer.proofs.Laws.{ranged, fill-fits, position-fits}
 use Rattle.lower.specs.Lower.{mayTake, mayBegin, withSource, sourceStep, withTable, tableStep, withEnd, endStep, withClosed, closeStep, room, withBytes, took, bytesStep}
 use Rattle.writer.specs.declared.Answer.the-variants.{Took}
@@ -84,7 +84,7 @@ module _ (w : Writer) (xs : List ℕ) where
   took-some n v e h k = rw (e, ← h) (ap (λ (x : Writer). record { answer = Took n; writer = x }) k)
 
 -- the tail and the place of a state that takes bytes
-pub takes-fits : (w : Writer) → mayTake w ≡ true → (w .taken .fill ≤ 256) × (position (w .taken) ≤ capacity)
+pub takes-fits : (w : Writer) → mayTake w ≡ true → (w .taken .fill ≤ tailSize) × (position (w .taken) ≤ capacity)
 takes-fits w m = let t = ranged w (and-left (inRange w) (not (w .taken .closed)) m) .taken in (fill-fits (w .taken) t, position-fits (w .taken) t)
 
 -- a bit by a shift

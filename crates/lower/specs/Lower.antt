@@ -12,7 +12,8 @@ use Rattle.leaf.specs.Crc.{crc32}
 use Rattle.refusal.specs.declared.Refusal.the-variants.{Argument, Full, Turn}
 use Rattle.record.specs.declared.Block.{Block}
 use Rattle.record.specs.declared.Source.{Source}
-use Rattle.record.specs.Record.{noBlock, noSource}
+use Rattle.record.specs.Record.{maxTables, lastTable, noBlock, noSource}
+use Rattle.header.specs.Header.{maxSources}
 use Rattle.base.specs.Lists.{fill}
 use Rattle.region.specs.Region.{capacity}
 use Rattle.bank.specs.declared.Loaded.{Loaded}
@@ -40,7 +41,7 @@ started active comparing now =
       beginning = record { active = active; comparing = comparing; now = now };
       taken = record { written = 0; fill = 0; crc = 0; different = false; closed = false };
       tables = record { count = 0; table = noTable; start = 0; crc = 0; begun = 0 };
-      sources = fill noSource 3;
+      sources = fill noSource maxSources;
       tail = fill 0 tailSize;
     }
 
@@ -59,7 +60,7 @@ emptied s =
       present = s .present;
       updated = s .updated;
       original = s .original;
-      tables = fill noBlock 8;
+      tables = fill noBlock maxTables;
       stamp = s .stamp;
       idlen = s .idlen;
       id = s .id;
@@ -80,7 +81,7 @@ withSource w s =
 unfoldable pub sourceStep : Writer → Source → Step
 sourceStep w s =
     pick (mayTake w && not (isOpen (w .tables)))
-    (pick (ltb (w .tables .count) 3) (did (withSource w s)) (stays w Full))
+    (pick (ltb (w .tables .count) maxSources) (did (withSource w s)) (stays w Full))
     (stays w Turn)
 
 -- Table: 2 above 7. Out of order without a source, another than Routes first in the first source, begun twice in its source, while
@@ -101,7 +102,7 @@ withTable w t =
 
 unfoldable pub tableStep : Writer → ℕ → Step
 tableStep w t =
-    pick (leb t 7)
+    pick (leb t lastTable)
     (pick (mayTake w && mayBegin (w .tables) t) (did (withTable w t)) (stays w Turn))
     (stays w Argument)
 

@@ -9,6 +9,7 @@ ghost use Rattle.writer.specs.Parts.{withSources, stepWith};
 ghost use Rattle.writer.specs.declared.Answer.the-variants as Answers;
 ghost use Rattle.lower.specs.Lower as Lower;
 ghost use Rattle.lower.specs.Took.{partsTook, stepTook};
+ghost use Rattle.writer.specs.State.{tailSize};
 use crate::may_take_parts;
 use crate::room;
 use leaf::crc::crc32_both;
@@ -19,6 +20,7 @@ use writer::Parts;
 use writer::PartsStep;
 use writer::Stage;
 use writer::Step;
+use writer::TAIL_SIZE;
 use writer::Tables;
 use writer::Taken;
 use writer::Writer;
@@ -28,8 +30,8 @@ use writer::stage_of;
 use writer::step_with;
 
 // The tail with bytes behind those that it holds.
-fn tail_with(tail: [u8; 256], at: usize, bytes: &[u8]) -> [u8; 256]
-    requires { ⌜ at + length (now bytes) ≤ 256 ⌝ }
+fn tail_with(tail: [u8; TAIL_SIZE], at: usize, bytes: &[u8]) -> [u8; TAIL_SIZE]
+    requires { ⌜ at + length (now bytes) ≤ tailSize ⌝ }
     ensures { λ r. ⌜ r ≡ sets tail at (now (bytes .entry)) ⌝ }
 {
     let mut t = tail;
@@ -70,8 +72,8 @@ fn none_taken(p: Parts, answer: Answer) -> Took
 
 // The first n bytes are taken.
 fn first_taken(p: Parts, bytes: &[u8], n: usize) -> Took
-    requires { ⌜ (n ≤ length (now bytes)) × (p .taken .fill + n ≤ 256) ⌝ }
-    ensures { λ r. ⌜ (r .answer ≡ Answers.Took n) × (r .n ≡ n) × (r .at + r .n ≤ 256) × ((ss : List Source) → withSources (partsTook p r (now (bytes .entry))) ss ≡ Lower.withBytes (withSources p ss) (take n (now (bytes .entry)))) ⌝ }
+    requires { ⌜ (n ≤ length (now bytes)) × (p .taken .fill + n ≤ tailSize) ⌝ }
+    ensures { λ r. ⌜ (r .answer ≡ Answers.Took n) × (r .n ≡ n) × (r .at + r .n ≤ tailSize) × ((ss : List Source) → withSources (partsTook p r (now (bytes .entry))) ss ≡ Lower.withBytes (withSources p ss) (take n (now (bytes .entry)))) ⌝ }
 {
     let t = p.taken;
     let x = p.tables;
@@ -96,8 +98,8 @@ fn first_taken(p: Parts, bytes: &[u8], n: usize) -> Took
 }
 
 fn take_some(p: Parts, bytes: &[u8]) -> Took
-    requires { ⌜ p .taken .fill ≤ 256 ⌝ }
-    ensures { λ r. ⌜ (r .n ≤ length (now (bytes .entry))) × (r .at + r .n ≤ 256) × ((ss : List Source) → stepWith (stepTook p r (now (bytes .entry))) ss ≡ Lower.took (withSources p ss) (now (bytes .entry))) ⌝ }
+    requires { ⌜ p .taken .fill ≤ tailSize ⌝ }
+    ensures { λ r. ⌜ (r .n ≤ length (now (bytes .entry))) × (r .at + r .n ≤ tailSize) × ((ss : List Source) → stepWith (stepTook p r (now (bytes .entry))) ss ≡ Lower.took (withSources p ss) (now (bytes .entry))) ⌝ }
 {
     if is_due(p.taken) {
         return none_taken(p, Answer::Took(0));
@@ -107,7 +109,7 @@ fn take_some(p: Parts, bytes: &[u8]) -> Took
 }
 
 fn take_any(p: Parts, offered: &[u8]) -> Took
-    ensures { λ r. ⌜ (r .n ≤ length (now (offered .entry))) × (r .at + r .n ≤ 256) × ((ss : List Source) → stepWith (stepTook p r (now (offered .entry))) ss ≡ Lower.bytesStep (withSources p ss) (now (offered .entry))) ⌝ }
+    ensures { λ r. ⌜ (r .n ≤ length (now (offered .entry))) × (r .at + r .n ≤ tailSize) × ((ss : List Source) → stepWith (stepTook p r (now (offered .entry))) ss ≡ Lower.bytesStep (withSources p ss) (now (offered .entry))) ⌝ }
 {
     let t = p.taken;
     if may_take_parts(p) {

@@ -5,12 +5,15 @@ use crate::is_open;
 use crate::may_take;
 use bank::Loaded;
 use bank::load;
+use header::SOURCES;
 use record::no_source;
 use refusal::Refusal;
 use writer::Answer;
 use writer::Beginning;
+use writer::NO_TABLE;
 use writer::Stage;
 use writer::Step;
+use writer::TAIL_SIZE;
 use writer::Tables;
 use writer::Taken;
 use writer::Writer;
@@ -24,8 +27,8 @@ pub fn started(active: Loaded, comparing: bool, now: i64) -> Writer
     ensures { λ r. ⌜ r ≡ Lower.started active comparing now ⌝ }
 {
     let z = no_source();
-    let sources = [z; 3];
-    let tail = [0u8; 256];
+    let sources = [z; SOURCES];
+    let tail = [0u8; TAIL_SIZE];
     Writer {
         stage: Stage::Idle,
         beginning: Beginning {
@@ -42,7 +45,7 @@ pub fn started(active: Loaded, comparing: bool, now: i64) -> Writer
         },
         tables: Tables {
             count: 0,
-            table: 8,
+            table: NO_TABLE,
             start: 0,
             crc: 0,
             begun: 0,

@@ -11,7 +11,9 @@ ghost use Rattle.record.specs.declared.Source.{Source};
 ghost use Rattle.writer.specs.State as State;
 ghost use Rattle.writer.specs.Parts.{withSources};
 ghost use Rattle.lower.specs.Lower as Lower;
+use writer::NO_TABLE;
 use writer::Parts;
+use writer::TAIL_SIZE_32;
 use writer::Tables;
 use writer::Taken;
 use writer::Writer;
@@ -40,7 +42,7 @@ pub fn may_take(w: Writer) -> bool
 pub fn is_open(s: Tables) -> bool
     ensures { λ r. ⌜ r ≡ State.isOpen s ⌝ }
 {
-    !(s.table == 8)
+    !(s.table == NO_TABLE)
 }
 
 fn begun_in(begun: u32, table: u32) -> bool
@@ -65,9 +67,9 @@ pub fn may_begin(s: Tables, table: u32) -> bool
 pub fn room(t: Taken, n: usize) -> usize
     ensures { λ r. ⌜ (r ≡ Lower.room t n) × (r ≤ n) ⌝ }
 {
-    if 256 <= t.fill {
+    if TAIL_SIZE_32 <= t.fill {
         return 0;
     }
-    let free = (256 - t.fill) as usize;
+    let free = (TAIL_SIZE_32 - t.fill) as usize;
     if n < free { n } else { free }
 }

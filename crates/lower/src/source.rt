@@ -4,9 +4,12 @@ ghost use Prim.Native.Nat.{_<_};
 ghost use Rattle.lower.specs.Lower as Lower;
 use crate::is_open;
 use crate::may_take;
+use header::SOURCES_32;
 use record::Block;
 use record::Source;
+use record::TABLES;
 use refusal::Refusal;
+use writer::NO_TABLE;
 use writer::Step;
 use writer::Tables;
 use writer::Writer;
@@ -21,7 +24,7 @@ fn emptied(s: Source) -> Source
         length: 0,
         crc: 0,
     };
-    let tables = [b; 8];
+    let tables = [b; TABLES];
     Source { tables, ..s }
 }
 
@@ -35,7 +38,7 @@ fn with_source(w: Writer, s: Source) -> Writer
     sources[x.count as usize] = e;
     let tables = Tables {
         count: x.count + 1,
-        table: 8,
+        table: NO_TABLE,
         begun: 0,
         ..x
     };
@@ -52,7 +55,7 @@ pub fn source(w: Writer, s: Source) -> Step
 {
     let x = w.tables;
     if may_take(w) & !is_open(x) {
-        if x.count < 3 {
+        if x.count < SOURCES_32 {
             let v = with_source(w, s);
             return did(v);
         }

@@ -16,6 +16,8 @@ use writer::did;
 use writer::stays;
 ghost use Prim.Native.Nat.{_≤_};
 ghost use Rattle.region.specs.Region.{capacity};
+use record::LAST_TABLE;
+use writer::NO_TABLE;
 
 fn with_table(w: Writer, table: u32) -> Writer
     requires { ⌜ (table ≤ 7) × (State.position (w .taken) ≤ capacity) ⌝ }
@@ -37,7 +39,7 @@ fn with_table(w: Writer, table: u32) -> Writer
 pub fn table(w: Writer, table: u32) -> Step
     ensures { λ r. ⌜ r ≡ Lower.tableStep w table ⌝ }
 {
-    if table <= 7 {
+    if table <= LAST_TABLE {
         if may_take(w) & may_begin(w.tables, table) {
             let v = with_table(w, table);
             return did(v);
@@ -72,7 +74,10 @@ fn with_end(w: Writer) -> Writer
     let s = sources[i];
     let e = with_block(s, x.table, b);
     sources[i] = e;
-    let tables = Tables { table: 8, ..x };
+    let tables = Tables {
+        table: NO_TABLE,
+        ..x
+    };
     Writer {
         tables,
         sources,

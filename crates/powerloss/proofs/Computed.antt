@@ -18,12 +18,12 @@ use Rattle.leaf.specs.Date.{leap, monthDays, isDate, validDate}
 use Rattle.leaf.proofs.Checksum.{crc32-append}
 use Rattle.refusal.specs.declared.Refusal.the-variants.{Mark}
 use Rattle.record.specs.declared.Source.{Source}
-use Rattle.record.specs.Record.{noBlock, noSource}
+use Rattle.record.specs.Record.{noBlock, noSource, maxTables}
 use Rattle.base.specs.Lists.{fill, each}
 use Rattle.record.specs.Types.{All, U32, Block32}
 use Rattle.base.proofs.Lists.{drop-fill, length-fill}
 use Rattle.header.specs.declared.Validated.{Validated}
-use Rattle.header.specs.Header.{marked, spanOk, sourceOk, judge}
+use Rattle.header.specs.Header.{marked, spanOk, sourceOk, judge, maxSources}
 use Rattle.region.specs.Region.{regionSize, bankSize, sectorSize}
 use Rattle.region.specs.Region as Region
 use Rattle.header.specs.WriteHeader.{isFit, headerBytes, blankWord, commitBytes}
@@ -41,7 +41,7 @@ use Rattle.writer.specs.declared.Tables.{Tables}
 use Rattle.writer.specs.declared.Answer.{Answer}
 use Rattle.writer.specs.declared.Answer.the-variants.{Done, Took}
 use Rattle.writer.specs.declared.Writer.{Writer}
-use Rattle.writer.specs.State.{isDue, dataDue, firstDue, stageOf, target, nextGeneration, begunIn, activeOk, takenOk, tablesOk, operationOk, stageOk, inRange}
+use Rattle.writer.specs.State.{isDue, dataDue, firstDue, stageOf, target, nextGeneration, begunIn, activeOk, takenOk, tablesOk, operationOk, stageOk, inRange, tailSize}
 use Rattle.lower.specs.Lower.{answerOf, started, begun, withSource, sourceStep, withTable, tableStep, withBytes, took, bytesStep, withEnd, endStep, withClosed, closeStep, emptied, withBlock, pastEnd}
 use Rattle.due.specs.Due.{padded, dueOps, operated, dueStep}
 use Rattle.commit.specs.declared.Stamp.the-variants.{Missing}
@@ -134,7 +134,7 @@ module _ (hd : Loaded) (ok : activeOk hd ≡ true) (region : List ℕ) (ss : Lis
 
 -- the sources at the commit: the record with its block, b the CRC of its Routes
 abbrev sources1 : List Source
-sources1 = set (fill noSource 3) 0 (emptied theSource)
+sources1 = set (fill noSource maxSources) 0 (emptied theSource)
 
 abbrev sources2 : ℕ → List Source
 sources2 b = set sources1 0 (withBlock (getD sources1 0 pastEnd) 0 (record { offset = 9; length = 3; crc = b }))
@@ -199,7 +199,7 @@ abbrev crcRoutes : ℕ
 crcRoutes = crc32 0 routes
 
 abbrev tail1 : List ℕ
-tail1 = sets (fill 0 256) 0 key
+tail1 = sets (fill 0 tailSize) 0 key
 
 abbrev tail2 : List ℕ
 tail2 = sets tail1 1 dates
@@ -208,7 +208,7 @@ abbrev tail3 : List ℕ
 tail3 = sets tail2 9 routes
 
 abbrev first : Loaded → Writer
-first hd = st hd Idle (tk 0 0 0 false) (tb 0 8 0 0 0) (fill noSource 3) (fill 0 256)
+first hd = st hd Idle (tk 0 0 0 false) (tb 0 8 0 0 0) (fill noSource maxSources) (fill 0 tailSize)
 
 abbrev dueFirst : Loaded → Writer
 dueFirst hd = st hd (Due (Erase 0)) (tk 0 12 crcData true) (tb 1 8 9 crcRoutes 1) (sources2 crcRoutes) tail3
@@ -268,8 +268,8 @@ module _ (hd : Loaded) (ok : activeOk hd ≡ true) (r : Run) (e : loaded (r .reg
       let rs = r .history .records in
       let im = r .image in
       begins _
-      ∙ called hd rs im (bytes key) g _ _ _ _ _ _ _ _ (upd hd [] []) _ refl (does-key hd ok g (fill noSource 3) (fill 0 256) 0 0)
-      ∙ called hd rs im (source theSource) g _ _ _ _ _ _ _ _ (upd hd key []) _ refl (does-source hd ok g (fill noSource 3) tail1 crc1 crc1)
+      ∙ called hd rs im (bytes key) g _ _ _ _ _ _ _ _ (upd hd [] []) _ refl (does-key hd ok g (fill noSource maxSources) (fill 0 tailSize) 0 0)
+      ∙ called hd rs im (source theSource) g _ _ _ _ _ _ _ _ (upd hd key []) _ refl (does-source hd ok g (fill noSource maxSources) tail1 crc1 crc1)
       ∙ called hd rs im (bytes dates) g _ _ _ _ _ _ _ _ (upd hd key notes1) _ refl (does-dates hd ok g sources1 tail1 crc1 crc1)
       ∙ called hd rs im (table 0) g _ _ _ _ _ _ _ _ (upd hd (key ++ dates) notes1) _ refl (does-table hd ok g sources1 tail2 crc2 crc2)
       ∙ called hd rs im (bytes routes) g _ _ _ _ _ _ _ _ (upd hd (key ++ dates) notes2) _ refl (does-routes hd ok g sources1 tail2 crc2 0)
@@ -421,7 +421,7 @@ proper =
       sized =
           record {
             original = length-fill {A = ℕ} 0 16;
-            tables = length-fill noBlock 8;
+            tables = length-fill noBlock maxTables;
             stamp = length-fill {A = ℕ} 0 12;
             id = length-fill {A = ℕ} 0 80;
             validator = length-fill {A = ℕ} 0 66;
@@ -609,8 +609,8 @@ unfolding performed begun started
 fiveOperations region l =
     let hd = loaded region in
     let ok = active-ok region hd l refl in
-    ran hd (bytes key) region _ _ _ _ _ _ _ _ _ (does-key hd ok region (fill noSource 3) (fill 0 256) 0 0)
-    ∙ ran hd (source theSource) region _ _ _ _ _ _ _ _ _ (does-source hd ok region (fill noSource 3) tail1 crc1 crc1)
+    ran hd (bytes key) region _ _ _ _ _ _ _ _ _ (does-key hd ok region (fill noSource maxSources) (fill 0 tailSize) 0 0)
+    ∙ ran hd (source theSource) region _ _ _ _ _ _ _ _ _ (does-source hd ok region (fill noSource maxSources) tail1 crc1 crc1)
     ∙ ran hd (bytes dates) region _ _ _ _ _ _ _ _ _ (does-dates hd ok region sources1 tail1 crc1 crc1)
     ∙ ran hd (table 0) region _ _ _ _ _ _ _ _ _ (does-table hd ok region sources1 tail2 crc2 crc2)
     ∙ ran hd (bytes routes) region _ _ _ _ _ _ _ _ _ (does-routes hd ok region sources1 tail2 crc2 0)

@@ -23,7 +23,7 @@ use Rattle.writer.specs.declared.Taken.{Taken}
 use Rattle.writer.specs.declared.Beginning.{Beginning}
 use Rattle.writer.specs.declared.Writer.{Writer}
 use Rattle.writer.specs.declared.Step.{Step}
-use Rattle.writer.specs.State.{isDue, writeDue, dataDue, firstDue, stageOf, isOpen, operationOk, inRange, takenOk, stageOk, did, stays}
+use Rattle.writer.specs.State.{isDue, writeDue, dataDue, firstDue, stageOf, isOpen, operationOk, inRange, takenOk, stageOk, did, stays, tailSize}
 use Rattle.writer.proofs.Laws.{Ranged, ranged, fill-fits}
 use Rattle.lower.specs.Lower.{mayTake, mayBegin, withSource, sourceStep, withTable, tableStep, room, takenMore, withBytes, took, bytesStep, withEnd, endStep, closedTaken, withClosed, closeStep}
 use Rattle.due.specs.Due.{opsOf, operated, withStage, stepOf, dueStep}
@@ -96,10 +96,10 @@ stage-tally false t ops h = due-tally t ops h (isDue t)
 one-more : (n k : ℕ) → 0 < k → min (n + k) 1 ≡ 1
 one-more n k h = omega arith
 
-sector-more : (n k : ℕ) → n % 256 ≡ 0 → 0 < k → k ≤ 256 → sectors (n + k) ≡ n / sectorSize + 1
+sector-more : (n k : ℕ) → n % tailSize ≡ 0 → 0 < k → k ≤ tailSize → sectors (n + k) ≡ n / sectorSize + 1
 sector-more n k a h f = omega arith
 
-write-more : (n k : ℕ) → n % 256 ≡ 0 → 0 < k → k ≤ 256 → writes (n + k) ≡ writes n + 1
+write-more : (n k : ℕ) → n % tailSize ≡ 0 → 0 < k → k ≤ tailSize → writes (n + k) ≡ writes n + 1
 write-more n k a h f = omega arith
 
 rearranged : (m a b : ℕ) → m ≡ 2 + a + b + 1 → m ≡ 1 + (a + 1) + (b + 1)

@@ -26,7 +26,7 @@ use Rattle.writer.specs.declared.Answer.the-variants.{Done, Took, NoneDue, Same
 use Rattle.writer.specs.declared.Taken.{Taken}
 use Rattle.writer.specs.declared.Writer.{Writer}
 use Rattle.writer.specs.declared.Step.{Step}
-use Rattle.writer.specs.State.{position, isDue, writeDue, dataDue, target, operationOk, stageOk}
+use Rattle.writer.specs.State.{position, isDue, writeDue, dataDue, target, operationOk, stageOk, tailSize}
 use Rattle.writer.proofs.Laws.{Ranged, ranged, fill-fits, position-fits}
 use Rattle.due.specs.Due.{padded, opsOf, dueOps, differs, emptied, withStage, withEmptied, operated, stepOf, dueStep}
 use Rattle.run.specs.Run.{due}
@@ -175,7 +175,7 @@ module _ (region : List ℕ) (hd : Loaded) (rs : List Source) (im : Image) (w : 
       (later-unmarked 0 sectorSize (t .written) (t .fill) (w .tail) (u .data·) b (m .1) i op (omega arith) (omega (arith, length-at region hd a rs im k (m .0) op, e .0, e .1, position-fits t (own .taken), due-fill t (d .0)))))
       (restage r′ (Due (writeDue t)) c (due-of false t (writeDue t) (d .0) (write-ok t)) (
         live-at region hd a rs im k (m .0) op,
-        subst (Laid 256 4097 (t .written) (t .fill) (w .tail) (u .data·)) (sym (bank-at region hd a rs im k (m .0) op)) h,
+        subst (Laid tailSize 4097 (t .written) (t .fill) (w .tail) (u .data·)) (sym (bank-at region hd a rs im k (m .0) op)) h,
       ))
 
   write-tail : w .beginning .comparing ≡ false → w .stage ≡ Due (Write (w .taken .written) (w .taken .fill))
@@ -194,7 +194,7 @@ module _ (region : List ℕ) (hd : Loaded) (rs : List Source) (im : Image) (w : 
       let r′ = applied (target a) op region in
       one-op (target a) region hd rs im (withEmptied w (t .different)) u k op
       (λ i. kept-unmarked-at region hd a rs im k (m .0) op i
-      (later-unmarked 256 4097 (t .written) (t .fill) (w .tail) (u .data·) b (m .1) i op (omega arith) (omega (arith, length-at region hd a rs im k (m .0) op, position-fits t (own .taken)))))
+      (later-unmarked tailSize 4097 (t .written) (t .fill) (w .tail) (u .data·) b (m .1) i op (omega arith) (omega (arith, length-at region hd a rs im k (m .0) op, position-fits t (own .taken)))))
       (empty r′ (t .different) (d .0)
       (subst (λ (x : Bool). Mode x Idle r′ hd a (emptied t (t .different)) (w .tail) u) (sym c) (
         live-at region hd a rs im k (m .0) op,

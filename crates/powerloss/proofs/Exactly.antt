@@ -17,7 +17,7 @@ use Rattle.writer.specs.declared.Stage.the-variants.{Idle, Due, Headed, Committ
 use Rattle.writer.specs.declared.Answer.the-variants.{Done, NoneDue}
 use Rattle.writer.specs.declared.Taken.{Taken}
 use Rattle.writer.specs.declared.Writer.{Writer}
-use Rattle.writer.specs.State.{isDue, operationOk, inRange, stageOk}
+use Rattle.writer.specs.State.{isDue, operationOk, inRange, stageOk, tailSize}
 use Rattle.writer.proofs.Laws.{ranged}
 use Rattle.due.specs.Due.{opsOf, dueOps, stepOf, dueStep}
 use Rattle.powerloss.specs.History.{isDone}
@@ -32,16 +32,16 @@ use Rattle.powerloss.specs.Operations.{Unwritten, Exactly, DueExactly}
 
 unwritten-due : (t : Taken) → Unwritten t → isDue t ≡ true
 unfolding isDue
-unwritten-due t (inl e) = rw (eq-eqb (t .fill) 256 (omega arith))
-unwritten-due t (inr h) = rw (h .0, lt-ltb 0 (t .fill) (omega (arith, h .1))) (or-true (eqb (t .fill) 256))
+unwritten-due t (inl e) = rw (eq-eqb (t .fill) tailSize (omega arith))
+unwritten-due t (inr h) = rw (h .0, lt-ltb 0 (t .fill) (omega (arith, h .1))) (or-true (eqb (t .fill) tailSize))
 
-unwritten-by : (t : Taken) (z : Bool) → eqb (t .fill) 256 ≡ z → (z || (t .closed && ltb 0 (t .fill))) ≡ true → Unwritten t
-unwritten-by t true f e = inl (omega (arith, eqb-true (t .fill) 256 f))
+unwritten-by : (t : Taken) (z : Bool) → eqb (t .fill) tailSize ≡ z → (z || (t .closed && ltb 0 (t .fill))) ≡ true → Unwritten t
+unwritten-by t true f e = inl (omega (arith, eqb-true (t .fill) tailSize f))
 unwritten-by t false f e = inr (and-left (t .closed) (ltb 0 (t .fill)) e, omega (arith, ltb-true 0 (t .fill) (and-right (t .closed) (ltb 0 (t .fill)) e)))
 
 due-unwritten : (t : Taken) → isDue t ≡ true → Unwritten t
 unfolding isDue
-due-unwritten t e = unwritten-by t (eqb (t .fill) 256) refl e
+due-unwritten t e = unwritten-by t (eqb (t .fill) tailSize) refl e
 
 not-due : (t : Taken) (d : Bool) → isDue t ≡ d → (Unwritten t → ⊥) → isDue t ≡ false
 not-due t true e n = absurd (n (due-unwritten t e))

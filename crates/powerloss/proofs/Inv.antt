@@ -32,7 +32,7 @@ use Rattle.writer.specs.declared.Beginning.{Beginning}
 use Rattle.writer.specs.declared.Taken.{Taken}
 use Rattle.writer.specs.declared.Tables.{Tables}
 use Rattle.writer.specs.declared.Writer.{Writer}
-use Rattle.writer.specs.State.{position, target, nextGeneration, isOpen, inRange}
+use Rattle.writer.specs.State.{position, target, nextGeneration, isOpen, inRange, tailSize}
 use Rattle.powerloss.specs.History.{Note, Update, bankOf as bankOfUpdate, recordsOf, recordsAfter}
 use Rattle.powerloss.specs.Machine.{Image, bankIn, recordsIn}
 use Rattle.powerloss.specs.Claim.{Holds}
@@ -83,7 +83,7 @@ pub record Noted (s : Tables) (ss : List Source) (d : List ℕ) (ns : List Note)
   pub table : isOpen s ≡ true → OpenTable s d ns
 
 pub record Tailed (tail : List ℕ) : Type 0 where
-  pub length· : length tail ≡ 256
+  pub length· : length tail ≡ tailSize
   pub bytes : Bytes tail
 
 pub record Tied (w : Writer) (u : Update) : Type 0 where
@@ -124,7 +124,7 @@ abbrev pub Lies : Stage → Taken → List ℕ → Update → List ℕ → Type 
 Lies Idle t tail u b = Bare (t .written) (t .fill) tail (u .data·) ⊎ (Laid 0 sectorSize (t .written) (t .fill) tail (u .data·) b × (0 < t .written))
 Lies (Due (Erase zero)) t tail u b = Bare (t .written) (t .fill) tail (u .data·)
 Lies (Due (Erase (suc k))) t tail u b = Laid 0 sectorSize (t .written) (t .fill) tail (u .data·) b
-Lies (Due (Write a n)) t tail u b = Laid 256 4097 (t .written) (t .fill) tail (u .data·) b
+Lies (Due (Write a n)) t tail u b = Laid tailSize 4097 (t .written) (t .fill) tail (u .data·) b
 Lies (Due (Compare a n)) t tail u b = ⊥
 Lies Headed t tail u b = HeaderLies u b
 Lies Committed t tail u b = Unit {0}

@@ -22,6 +22,7 @@ use Rattle.writer.specs.declared.Taken.{Taken}
 use Rattle.due.specs.Due.{padded}
 use Rattle.powerloss.proofs.Bytes.{bytes-take, bytes-fill}
 use Rattle.powerloss.proofs.Inv.{Bare, Laid}
+use Rattle.writer.specs.State.{tailSize}
 
 fill-none : fill {A = ℕ} 255 0 ≡ []
 unfolding fill
@@ -90,7 +91,7 @@ module _ (t : Taken) (tail d b : List ℕ) (l : length b ≡ bankSize) where
     rest-long : sectorSize ≤ length (h .rest)
     rest-long = omega (arith, length-pre, ap length lies-pre, length-append pre (h .rest))
 
-    pub laid-erase : (at : ℕ) → at ≡ sectorSize + t .written → Laid 256 4097 (t .written) (t .fill) tail d (done sectorSize (erase at) b)
+    pub laid-erase : (at : ℕ) → at ≡ sectorSize + t .written → Laid tailSize 4097 (t .written) (t .fill) tail d (done sectorSize (erase at) b)
     unfolding pre
     laid-erase at e =
         let r = h .rest in
@@ -110,7 +111,7 @@ module _ (t : Taken) (tail d b : List ℕ) (l : length b ≡ bankSize) where
         }
 
   -- the tail's write
-  module _ (h : Laid 256 4097 (t .written) (t .fill) tail d b) (k : Bytes tail) (lt : length tail ≡ 256) (s : t .fill ≤ 256) (p : 0 < t .fill) where
+  module _ (h : Laid tailSize 4097 (t .written) (t .fill) tail d b) (k : Bytes tail) (lt : length tail ≡ tailSize) (s : t .fill ≤ tailSize) (p : 0 < t .fill) where
     part : List ℕ
     part = take (t .fill) tail
 

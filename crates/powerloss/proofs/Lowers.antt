@@ -31,7 +31,7 @@ use Rattle.writer.specs.declared.Stage.the-variants.{Committed}
 use Rattle.writer.specs.declared.Answer.{Answer}
 use Rattle.writer.specs.declared.Answer.the-variants.{Done, Took, NoneDue, Same, Different, Refused}
 use Rattle.writer.specs.declared.Writer.{Writer}
-use Rattle.writer.specs.State.{isDue, target, activeOk, takenOk, stageOk, did, stays}
+use Rattle.writer.specs.State.{isDue, target, activeOk, takenOk, stageOk, did, stays, tailSize}
 use Rattle.lower.specs.Lower.{started, begun, answerOf}
 use Rattle.due.specs.Due.{withStage}
 use Rattle.commit.specs.Commit.{isHeaded, wordStep, wordOps}
@@ -48,6 +48,7 @@ use Rattle.powerloss.proofs.Quiet.{on-source, on-table, on-end, on-unch
 use Rattle.powerloss.proofs.Take.{on-bytes, on-close}
 use Rattle.powerloss.proofs.Dues.{Carried, no-ops, on-due}
 use Rattle.powerloss.proofs.Commits.{is-headed, on-commit, word-kept, word-torn, word-open}
+use Rattle.header.specs.Header.{maxSources}
 
 -- a lower call that isn't the commit word
 abbrev pub Plain : Lower → Type 0
@@ -223,10 +224,10 @@ begin-open region hd c now f l e ok =
                 record {
                   records = λ ys. refl;
                   proper = tt;
-                  sources = length-fill noSource 3;
+                  sources = length-fill noSource maxSources;
                   table = λ g. absurd (false≢true g);
                 };
-            tailed = record { length· = length-fill {A = ℕ} 0 256; bytes = bytes-fill 0 256 (omega arith) };
+            tailed = record { length· = length-fill {A = ℕ} 0 tailSize; bytes = bytes-fill 0 tailSize (omega arith) };
           };
       mode = begin-mode c region hd now l e;
     }

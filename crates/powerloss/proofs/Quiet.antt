@@ -16,7 +16,7 @@ use Rattle.leaf.proofs.Checksum.{crc32-nil, crc32-lt}
 use Rattle.refusal.specs.declared.Refusal.the-variants.{Region, Argument, Full, Turn}
 use Rattle.record.specs.declared.Block.{Block}
 use Rattle.record.specs.declared.Source.{Source}
-use Rattle.record.specs.Record.{noBlock}
+use Rattle.record.specs.Record.{noBlock, maxTables}
 use Rattle.base.specs.Lists.{fill}
 use Rattle.record.specs.Types.{All, Block32}
 use Rattle.base.proofs.Lists.{length-fill}
@@ -30,7 +30,7 @@ use Rattle.writer.specs.declared.Stage.the-variants.{Idle, Due, Headed, Committ
 use Rattle.writer.specs.declared.Answer.the-variants.{Same, Different}
 use Rattle.writer.specs.declared.Taken.{Taken}
 use Rattle.writer.specs.declared.Writer.{Writer}
-use Rattle.writer.specs.State.{position, isDue, writeDue, dataDue, firstDue, stageOf, isOpen, noTable, inRange, stageOk, did, stays}
+use Rattle.writer.specs.State.{position, isDue, writeDue, dataDue, firstDue, stageOf, isOpen, noTable, inRange, stageOk, did, stays, tailSize}
 use Rattle.writer.proofs.Laws.{Ranged, ranged, position-fits, count-fits, open-table}
 use Rattle.lower.specs.Lower.{mayTake, mayBegin, emptied, pastEnd, withBlock, blockOf, withSource, sourceStep, withTable, tableStep, withEnd, endStep}
 use Rattle.commit.specs.Unchanged.{unchangedStep, mayAsk, isUnchanged}
@@ -57,7 +57,7 @@ no-block = record { offset = omega arith; length = omega arith; crc = omega arit
 proper-emptied : (s : Source) → Proper s → Proper (emptied s)
 proper-emptied s p =
     record {
-      sized = record { original = p .sized .original; tables = length-fill noBlock 8; stamp = p .sized .stamp; id = p .sized .id; validator = p .sized .validator };
+      sized = record { original = p .sized .original; tables = length-fill noBlock maxTables; stamp = p .sized .stamp; id = p .sized .id; validator = p .sized .validator };
       ranged =
           record {
             start = p .ranged .start;
@@ -115,7 +115,7 @@ only-idle c t Headed k e d = true-false (t .closed) (headed-end c t k .closed) e
 only-idle c t Committed k e d = true-false (t .closed) (committed-end c t k .closed) e
 
 -- what is due then, where nothing was due
-module _ (t : Taken) (tail : List ℕ) (u : Update) (b : List ℕ) (m : t .written % 256 ≡ 0) where
+module _ (t : Taken) (tail : List ℕ) (u : Update) (b : List ℕ) (m : t .written % tailSize ≡ 0) where
   pub data-lies : Laid 0 sectorSize (t .written) (t .fill) tail (u .data·) b → (z : Bool) → eqb (t .written % sectorSize) 0 ≡ z → Lies (Due (pick z (Erase (t .written / sectorSize + 1)) (writeDue t))) t tail u b
   data-lies h true e = subst (λ (k : ℕ). Lies (Due (Erase k)) t tail u b) (sym (add-one (t .written / sectorSize))) h
   data-lies h false e =
@@ -145,7 +145,7 @@ module _ (t : Taken) (tail : List ℕ) (u : Update) (b : List ℕ) (m : t .writt
   stage-lies region hd active v h true = (v, first-lies h (eqb (t .written) 0) refl)
   stage-lies region hd active v h false = (v, h)
 
-pub mode-stage : (c : Bool) (region : List ℕ) (hd active : Loaded) (t : Taken) (tail : List ℕ) (u : Update) → t .written % 256 ≡ 0 → Mode c Idle region hd active t tail u
+pub mode-stage : (c : Bool) (region : List ℕ) (hd active : Loaded) (t : Taken) (tail : List ℕ) (u : Update) → t .written % tailSize ≡ 0 → Mode c Idle region hd active t tail u
     → Mode c (stageOf c t) region hd active t tail u
 unfolding stageOf
 mode-stage true region hd active t tail u m h = tt

@@ -15,7 +15,7 @@ use Rattle.writer.specs.declared.Stage.the-variants.{Idle, Due, Headed, Committ
 use Rattle.writer.specs.declared.Taken.{Taken}
 use Rattle.writer.specs.declared.Tables.{Tables}
 use Rattle.writer.specs.declared.Writer.{Writer}
-use Rattle.writer.specs.State.{position, isDue, writeDue, dataDue, firstDue, stageOf, aligned, openOk, inRange, activeOk, takenOk, tablesOk, operationOk, stageOk}
+use Rattle.writer.specs.State.{position, isDue, writeDue, dataDue, firstDue, stageOf, aligned, openOk, inRange, activeOk, takenOk, tablesOk, operationOk, stageOk, tailSize}
 use Rattle.writer.proofs.Laws.{fill-fits, position-fits}
 use Rattle.lower.specs.Lower.{closedTaken}
 use Rattle.due.specs.Due.{emptied}
@@ -47,49 +47,49 @@ true-false a e f = absurd (false≢true (sym f ∙ e))
 
 -- ---- what was taken
 
-pub open-aligned : (t : Taken) → takenOk t ≡ true → t .closed ≡ false → t .written % 256 ≡ 0
+pub open-aligned : (t : Taken) → takenOk t ≡ true → t .closed ≡ false → t .written % tailSize ≡ 0
 unfolding takenOk
 open-aligned t e c =
-    let a = and-right (leb (position t) capacity) (aligned t) (and-right (leb (t .fill) 256) (leb (position t) capacity && aligned t) e) in
-    let f : (eqb (t .written % 256) 0 || false) ≡ true = ap (λ (x : Bool). eqb (t .written % 256) 0 || (x && eqb (t .fill) 0)) (sym c) ∙ a in
-    eqb-true (t .written % 256) 0 (or-left (eqb (t .written % 256) 0) f)
+    let a = and-right (leb (position t) capacity) (aligned t) (and-right (leb (t .fill) tailSize) (leb (position t) capacity && aligned t) e) in
+    let f : (eqb (t .written % tailSize) 0 || false) ≡ true = ap (λ (x : Bool). eqb (t .written % tailSize) 0 || (x && eqb (t .fill) 0)) (sym c) ∙ a in
+    eqb-true (t .written % tailSize) 0 (or-left (eqb (t .written % tailSize) 0) f)
 
 -- while the tail holds bytes the count is a multiple of 256
-pub tail-aligned : (t : Taken) → takenOk t ≡ true → 0 < t .fill → t .written % 256 ≡ 0
+pub tail-aligned : (t : Taken) → takenOk t ≡ true → 0 < t .fill → t .written % tailSize ≡ 0
 unfolding takenOk
 tail-aligned t e p =
-    let a = and-right (leb (position t) capacity) (aligned t) (and-right (leb (t .fill) 256) (leb (position t) capacity && aligned t) e) in
+    let a = and-right (leb (position t) capacity) (aligned t) (and-right (leb (t .fill) tailSize) (leb (position t) capacity && aligned t) e) in
     let z : eqb (t .fill) 0 ≡ false = ne-eqb (t .fill) 0 (λ h. omega arith) in
-    let f : (eqb (t .written % 256) 0 || false) ≡ true = ap (λ (x : Bool). eqb (t .written % 256) 0 || x) (sym (and-false (t .closed)) ∙ ap (λ (x : Bool). t .closed && x) (sym z)) ∙ a in
-    eqb-true (t .written % 256) 0 (or-left (eqb (t .written % 256) 0) f)
+    let f : (eqb (t .written % tailSize) 0 || false) ≡ true = ap (λ (x : Bool). eqb (t .written % tailSize) 0 || x) (sym (and-false (t .closed)) ∙ ap (λ (x : Bool). t .closed && x) (sym z)) ∙ a in
+    eqb-true (t .written % tailSize) 0 (or-left (eqb (t .written % tailSize) 0) f)
 
 pub due-fill : (t : Taken) → isDue t ≡ true → 0 < t .fill
 unfolding isDue
-due-fill t e = due-by (or-either (eqb (t .fill) 256) (t .closed && ltb 0 (t .fill)) e)
+due-fill t e = due-by (or-either (eqb (t .fill) tailSize) (t .closed && ltb 0 (t .fill)) e)
   where
-    due-by : (eqb (t .fill) 256 ≡ true) ⊎ ((t .closed && ltb 0 (t .fill)) ≡ true) → 0 < t .fill
-    due-by (inl h) = omega (arith, eqb-true (t .fill) 256 h)
+    due-by : (eqb (t .fill) tailSize ≡ true) ⊎ ((t .closed && ltb 0 (t .fill)) ≡ true) → 0 < t .fill
+    due-by (inl h) = omega (arith, eqb-true (t .fill) tailSize h)
     due-by (inr h) = ltb-true 0 (t .fill) (and-right (t .closed) (ltb 0 (t .fill)) h)
 
-pub taken-of : (t : Taken) → t .fill ≤ 256 → position t ≤ capacity → aligned t ≡ true → takenOk t ≡ true
+pub taken-of : (t : Taken) → t .fill ≤ tailSize → position t ≤ capacity → aligned t ≡ true → takenOk t ≡ true
 unfolding takenOk
-taken-of t a b c = rw (le-leb (t .fill) 256 a, le-leb (position t) capacity b, c)
+taken-of t a b c = rw (le-leb (t .fill) tailSize a, le-leb (position t) capacity b, c)
 
-pub aligned-of : (t : Taken) → t .written % 256 ≡ 0 → aligned t ≡ true
-aligned-of t e = rw (eq-eqb (t .written % 256) 0 e)
+pub aligned-of : (t : Taken) → t .written % tailSize ≡ 0 → aligned t ≡ true
+aligned-of t e = rw (eq-eqb (t .written % tailSize) 0 e)
 
 -- the tail was written or compared
 pub empty-taken : (t : Taken) (d : Bool) → takenOk t ≡ true → isDue t ≡ true → takenOk (emptied t d) ≡ true
 unfolding isDue
 empty-taken t d e f =
-    taken-of (emptied t d) (omega arith) (omega (arith, position-fits t e)) (empty-by (or-either (eqb (t .fill) 256) (t .closed && ltb 0 (t .fill)) f))
+    taken-of (emptied t d) (omega arith) (omega (arith, position-fits t e)) (empty-by (or-either (eqb (t .fill) tailSize) (t .closed && ltb 0 (t .fill)) f))
   where
-    empty-by : (eqb (t .fill) 256 ≡ true) ⊎ ((t .closed && ltb 0 (t .fill)) ≡ true) → aligned (emptied t d) ≡ true
+    empty-by : (eqb (t .fill) tailSize ≡ true) ⊎ ((t .closed && ltb 0 (t .fill)) ≡ true) → aligned (emptied t d) ≡ true
     empty-by (inl h) =
-        let q = eqb-true (t .fill) 256 h in
+        let q = eqb-true (t .fill) tailSize h in
         let m = tail-aligned t e (omega arith) in
         aligned-of (emptied t d) (omega arith)
-    empty-by (inr h) = rw (and-left (t .closed) (ltb 0 (t .fill)) h) (or-true (eqb ((t .written + t .fill) % 256) 0))
+    empty-by (inr h) = rw (and-left (t .closed) (ltb 0 (t .fill)) h) (or-true (eqb ((t .written + t .fill) % tailSize) 0))
 
 pub empty-idle : (t : Taken) (d c : Bool) → stageOk c (emptied t d) Idle ≡ true
 unfolding stageOk isDue
@@ -204,14 +204,14 @@ idle-due c t e = not-true (isDue t) e
 pub closed-empty : (t : Taken) → t .closed ≡ true → isDue t ≡ false → t .fill ≡ 0
 unfolding isDue
 closed-empty t c e =
-    let f : ltb 0 (t .fill) ≡ false = ap (λ (x : Bool). x && ltb 0 (t .fill)) (sym c) ∙ or-both (eqb (t .fill) 256) (t .closed && ltb 0 (t .fill)) e .1 in
+    let f : ltb 0 (t .fill) ≡ false = ap (λ (x : Bool). x && ltb 0 (t .fill)) (sym c) ∙ or-both (eqb (t .fill) tailSize) (t .closed && ltb 0 (t .fill)) e .1 in
     omega (arith, ltb-false 0 (t .fill) f)
 
 -- nothing is due: the tail has room
-pub idle-room : (t : Taken) → isDue t ≡ false → takenOk t ≡ true → t .fill < 256
+pub idle-room : (t : Taken) → isDue t ≡ false → takenOk t ≡ true → t .fill < tailSize
 unfolding isDue
 idle-room t e k =
-    let ne : t .fill ≡ 256 → ⊥ = eqb-false (t .fill) 256 (or-both (eqb (t .fill) 256) (t .closed && ltb 0 (t .fill)) e .0) in
+    let ne : t .fill ≡ tailSize → ⊥ = eqb-false (t .fill) tailSize (or-both (eqb (t .fill) tailSize) (t .closed && ltb 0 (t .fill)) e .0) in
     omega (arith, fill-fits t k)
 
 -- ---- closing
@@ -224,7 +224,7 @@ close-operation c t (Compare a n) e = e
 
 close-due : (t : Taken) → isDue t ≡ true → isDue (closedTaken t) ≡ true
 unfolding isDue
-close-due t e = rw (lt-ltb 0 (t .fill) (due-fill t e)) (or-true (eqb (t .fill) 256))
+close-due t e = rw (lt-ltb 0 (t .fill) (due-fill t e)) (or-true (eqb (t .fill) tailSize))
 
 pub close-stage : (c : Bool) (t : Taken) (st : Stage) → t .closed ≡ false → stageOk c t st ≡ true → isDue t ≡ true → stageOk c (closedTaken t) st ≡ true
 close-stage c t Idle n e d = true-false (isDue t) d (idle-due c t e)

@@ -25,7 +25,7 @@ use Rattle.writer.specs.declared.Taken.{Taken}
 use Rattle.writer.specs.declared.Tables.{Tables}
 use Rattle.writer.specs.declared.Writer.{Writer}
 use Rattle.writer.specs.declared.Step.{Step}
-use Rattle.writer.specs.State.{position, isDue, stageOf, isOpen, inRange, tablesOk, stageOk, did, stays}
+use Rattle.writer.specs.State.{position, isDue, stageOf, isOpen, inRange, tablesOk, stageOk, did, stays, tailSize}
 use Rattle.writer.proofs.Laws.{Ranged, ranged, fill-fits, open-table}
 use Rattle.lower.specs.Lower.{mayTake, room, takenMore, withBytes, took, bytesStep, closedTaken, withClosed, closeStep}
 use Rattle.run.specs.Run.{bytes, close}
@@ -98,7 +98,7 @@ module _ (region : List ℕ) (hd : Loaded) (w : Writer) (u : Update) (o : Open r
 
   -- ---- bytes
 
-  pub with-bytes : (ys : List ℕ) → Bytes ys → w .taken .closed ≡ false → isDue (w .taken) ≡ false → w .taken .fill + length ys ≤ 256 → position (w .taken) + length ys ≤ capacity
+  pub with-bytes : (ys : List ℕ) → Bytes ys → w .taken .closed ≡ false → isDue (w .taken) ≡ false → w .taken .fill + length ys ≤ tailSize → position (w .taken) + length ys ≤ capacity
       → Open region hd (withBytes w ys) (takes ys u)
   unfolding withBytes
   with-bytes ys b e d f p =

@@ -19,6 +19,7 @@ use Rattle.lower.specs.Lower.{emptied, pastEnd, withBlock}
 use Rattle.commit.specs.Commit.{checkedTime, routesOffset}
 use Rattle.run.specs.Run.{Lower, source, table, bytes, end, close, due, unchanged, commit, word}
 use Rattle.upper.specs.Upper.{Upper, sourceWithDates, tableWithNames, row, tableEnd, closing, taken}
+use Rattle.record.specs.Record.{currentVersion}
 
 -- "Source, table and table end calls note their arguments and the count of bytes before any of their own."
 pub data Note : Type 0 where
@@ -69,7 +70,7 @@ unfoldable pub bankOf : Update → Bank
 bankOf u =
     record {
       number = u .number;
-      version = 3;
+      version = currentVersion;
       generation = u .generation;
       length = length (u .data·);
       crc = crc32 0 (u .data·);

@@ -9,7 +9,7 @@ use lib.IntN.{pos}
 use lib.ListN.{length, drop}
 use Rattle.leaf.specs.Crc.{crc32}
 use Rattle.record.specs.declared.Source.{Source}
-use Rattle.record.specs.Record.{noBlock}
+use Rattle.record.specs.Record.{noBlock, maxTables, stampSize, idSize, validatorSize, currentVersion}
 use Rattle.base.specs.Lists.{fill}
 use Rattle.header.specs.declared.Bank.{Bank}
 use Rattle.region.specs.Region.{regionSize, bankOf, dataOf, sectorSize}
@@ -24,6 +24,7 @@ use Rattle.lower.specs.Lower.{begun, emptied, withBlock}
 use Rattle.commit.specs.declared.Stamp.the-variants.{Missing}
 use Rattle.run.specs.Run.{Lower, source, table, bytes, end, close, due, commit, word, ranOps}
 use Rattle.powerloss.specs.Machine.{Event, begin, call, cut, found, nextAll}
+use Rattle.header.specs.Header.{commitOffset}
 
 -- the key: one byte
 abbrev pub key : List ℕ
@@ -49,12 +50,12 @@ theSource =
       end = 20241231;
       present = 1;
       updated = pos 0;
-      original = fill 0 16;
-      tables = fill noBlock 8;
-      stamp = fill 0 12;
+      original = fill 0 (maxTables * 2);
+      tables = fill noBlock maxTables;
+      stamp = fill 0 stampSize;
       idlen = 0;
-      id = fill 0 80;
-      validator = fill 0 66;
+      id = fill 0 idSize;
+      validator = fill 0 validatorSize;
     }
 
 -- the calls up to the closing, with it; the header sector's erase is due then
@@ -83,7 +84,7 @@ abbrev pub updated : Loaded → Bank
 updated l =
     record {
       number = target l;
-      version = 3;
+      version = currentVersion;
       generation = nextGeneration l;
       length = 12;
       crc = crc32 0 data·;
@@ -126,7 +127,7 @@ beforeTheWord = begin false (pos 0) ∷ map call callsBefore
 abbrev pub ThreeBytesWritten : Type 0
 ThreeBytesWritten =
     (region : List ℕ) → length region ≡ regionSize
-    → nextAll (found region) (updateWith (cut word 0 3)) .region ≡ torn (target (loaded region)) 3 (write 44 commitBytes) (nextAll (found region) beforeTheWord .region)
+    → nextAll (found region) (updateWith (cut word 0 3)) .region ≡ torn (target (loaded region)) 3 (write commitOffset commitBytes) (nextAll (found region) beforeTheWord .region)
 
 abbrev pub CutAtTheWordsEnd : Type 0
 CutAtTheWordsEnd = Gives (cut word 0 4) theNew
@@ -202,7 +203,7 @@ FiveOperations =
     ∷ erase sectorSize
     ∷ write sectorSize data·
     ∷ write 0 (headerBytes (updated (loaded region)) (written ∷ []) (255 ∷ 255 ∷ 255 ∷ 255 ∷ []))
-    ∷ write 44 (84 ∷ 77 ∷ 79 ∷ 67 ∷ [])
+    ∷ write commitOffset (84 ∷ 77 ∷ 79 ∷ 67 ∷ [])
     ∷ []
 
 -- Load finds no bank on an erased region.

@@ -65,7 +65,7 @@ abbrev pub sectors : ℕ → ℕ
 sectors n = (n + 4095) / sectorSize
 
 abbrev pub writes : ℕ → ℕ
-writes n = (n + 255) / 256
+writes n = (n + (tailSize - 1)) / tailSize
 
 -- an update of n bytes: the header sector's erase, those of the data's sectors, the data's writes, commit's two
 abbrev pub operationsOf : ℕ → ℕ

@@ -4,24 +4,24 @@ use mathlib.Core.List.{List, _++_}
 use Prim.Native.Nat.{ℕ}
 use lib.ListN.{getD}
 use Rattle.record.specs.declared.Source.{Source}
-use Rattle.record.specs.Record.{decoded, sourceBytes, noBlock}
+use Rattle.record.specs.Record.{decoded, sourceBytes, noBlock, stampSize, idSize, validatorSize, currentVersion, lastTable}
 use Rattle.base.specs.Lists.{fill}
 use Rattle.record.specs.Types.{Sized, Ranged}
 
 -- a record that was written reads back, whatever follows it
 abbrev pub ReadsBack : Type 0
-ReadsBack = (s : Source) → Sized s → Ranged s → (rest : List ℕ) → decoded 3 (sourceBytes s ++ rest) ≡ s
+ReadsBack = (s : Source) → Sized s → Ranged s → (rest : List ℕ) → decoded currentVersion (sourceBytes s ++ rest) ≡ s
 
 -- version 1 has no stamp, id and validator: they read as zeros
 pub record NoTexts (s : Source) : Type 0 where
-  pub stamp : s .stamp ≡ fill 0 12
+  pub stamp : s .stamp ≡ fill 0 stampSize
   pub idlen : s .idlen ≡ 0
-  pub id : s .id ≡ fill 0 80
-  pub validator : s .validator ≡ fill 0 66
+  pub id : s .id ≡ fill 0 idSize
+  pub validator : s .validator ≡ fill 0 validatorSize
 
 abbrev pub Version1 : Type 0
 Version1 = (l : List ℕ) → NoTexts (decoded 1 l)
 
 -- versions 1 and 2 have seven tables: table 7, Transfers, is absent
 abbrev pub SevenTables : Type 0
-SevenTables = (l : List ℕ) → (getD (decoded 1 l .tables) 7 noBlock ≡ noBlock) × (getD (decoded 2 l .tables) 7 noBlock ≡ noBlock)
+SevenTables = (l : List ℕ) → (getD (decoded 1 l .tables) lastTable noBlock ≡ noBlock) × (getD (decoded 2 l .tables) lastTable noBlock ≡ noBlock)

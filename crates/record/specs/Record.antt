@@ -10,12 +10,38 @@ use Rattle.base.specs.Lists.{many, puts, fill, byte}
 use Rattle.record.specs.declared.Block.{Block}
 use Rattle.record.specs.declared.Source.{Source}
 
+-- the version that is written, the size of its record, and how many tables it has, numbered from 0
+abbrev pub currentVersion : ℕ
+currentVersion = 3
+
+abbrev pub recordSize : ℕ
+recordSize = 384
+
+abbrev pub maxTables : ℕ
+maxTables = 8
+
+abbrev pub lastTable : ℕ
+lastTable = 7
+
+-- bytes of the fields that are carried raw; a validator is a length byte, at most 64 bytes and one more
+abbrev pub stampSize : ℕ
+stampSize = 12
+
+abbrev pub idSize : ℕ
+idSize = 80
+
+abbrev pub validatorSize : ℕ
+validatorSize = 66
+
+abbrev pub maxValidator : ℕ
+maxValidator = 64
+
 -- the table of versions: bytes of a record, and tables
 abbrev pub sourceSize : ℕ → ℕ
-sourceSize v = pick (ltb v 2) 160 (pick (ltb v 3) 352 384)
+sourceSize v = pick (ltb v 2) 160 (pick (ltb v 3) 352 recordSize)
 
 abbrev pub tableCount : ℕ → ℕ
-tableCount v = pick (ltb v 3) 7 8
+tableCount v = pick (ltb v 3) 7 maxTables
 
 -- a table's block: offset, length, CRC
 abbrev pub blockAt : List ℕ → ℕ → Block
@@ -33,12 +59,12 @@ noSource =
       end = 0;
       present = 0;
       updated = pos 0;
-      original = fill 0 16;
-      tables = fill noBlock 8;
-      stamp = fill 0 12;
+      original = fill 0 (maxTables * 2);
+      tables = fill noBlock maxTables;
+      stamp = fill 0 stampSize;
       idlen = 0;
-      id = fill 0 80;
-      validator = fill 0 66;
+      id = fill 0 idSize;
+      validator = fill 0 validatorSize;
     }
 
 -- The record l with n tables. l is the record alone: version 1 ends before the stamp, and a byte past the end reads 0.
@@ -49,12 +75,12 @@ sourceOf n l =
       end = word l 4;
       present = word l 8;
       updated = time l 12;
-      original = many word 4 l 20 (n * 2) ++ fill 0 (16 - n * 2);
-      tables = many blockAt 12 l (n * 8 + 20) n ++ fill noBlock (8 - n);
-      stamp = many byte 1 l (n * 20 + 20) 12;
+      original = many word 4 l 20 (n * 2) ++ fill 0 (maxTables * 2 - n * 2);
+      tables = many blockAt 12 l (n * 8 + 20) n ++ fill noBlock (maxTables - n);
+      stamp = many byte 1 l (n * 20 + 20) stampSize;
       idlen = byte l (n * 20 + 32);
-      id = many byte 1 l (n * 20 + 33) 80;
-      validator = many byte 1 l (n * 20 + 113) 66;
+      id = many byte 1 l (n * 20 + 33) idSize;
+      validator = many byte 1 l (n * 20 + 113) validatorSize;
     }
 
 -- the record of a version that stands first in l

@@ -27,7 +27,24 @@ use leaf::bytes::get8;
 use leaf::bytes::put;
 use leaf::bytes::put_time;
 
-// Where a table's bytes stand in the data, and their CRC.
+// A record has eight tables, numbered from 0, and carries an id and a validator raw.
+pub const TABLES: usize = 8;
+
+pub const LAST_TABLE: u32 = 7;
+
+pub const ORIGINAL_WORDS: usize = 2 * TABLES;
+
+pub const STAMP_SIZE: usize = 12;
+
+pub const ID_SIZE: usize = 80;
+
+pub const VALIDATOR_SIZE: usize = 66;
+// A record of the version that is written, and that version.
+pub const RECORD_SIZE: usize = 384;
+
+pub const VERSION: u32 = 3;
+
+// Where a table's bytes are in the data, and their CRC.
 #[repr(C)]
 pub struct Block {
     pub offset: u32,
@@ -42,12 +59,12 @@ pub struct Source {
     pub end: u32,
     pub present: u32,
     pub updated: i64,
-    pub original: [u32; 16],
-    pub tables: [Block; 8],
-    pub stamp: [u8; 12],
+    pub original: [u32; ORIGINAL_WORDS],
+    pub tables: [Block; TABLES],
+    pub stamp: [u8; STAMP_SIZE],
     pub idlen: u8,
-    pub id: [u8; 80],
-    pub validator: [u8; 66],
+    pub id: [u8; ID_SIZE],
+    pub validator: [u8; VALIDATOR_SIZE],
 }
 
 // A record of zeros.
@@ -59,11 +76,11 @@ pub fn no_source() -> Source
         length: 0,
         crc: 0,
     };
-    let original = [0u32; 16];
-    let tables = [b; 8];
-    let stamp = [0u8; 12];
-    let id = [0u8; 80];
-    let validator = [0u8; 66];
+    let original = [0u32; ORIGINAL_WORDS];
+    let tables = [b; TABLES];
+    let stamp = [0u8; STAMP_SIZE];
+    let id = [0u8; ID_SIZE];
+    let validator = [0u8; VALIDATOR_SIZE];
     Source {
         start: 0,
         end: 0,
@@ -132,11 +149,11 @@ fn block_at(r: &[u8], at: usize) -> Block
     }
 }
 
-fn words_at(r: &[u8], at: usize, n: usize) -> [u32; 16]
+fn words_at(r: &[u8], at: usize, n: usize) -> [u32; ORIGINAL_WORDS]
     requires { ⌜ (n ≤ 16) × (at ≤ 1000) ⌝ }
     ensures { λ x. ⌜ x ≡ many word 4 (now (r .entry)) at n ++ fill 0 (16 - n) ⌝ }
 {
-    let mut t = [0u32; 16];
+    let mut t = [0u32; ORIGINAL_WORDS];
     let mut j = 0;
     while j < n {
         let x = word_at(r, at + j * 4);
@@ -146,7 +163,7 @@ fn words_at(r: &[u8], at: usize, n: usize) -> [u32; 16]
     t
 }
 
-fn blocks_at(r: &[u8], at: usize, n: usize) -> [Block; 8]
+fn blocks_at(r: &[u8], at: usize, n: usize) -> [Block; TABLES]
     requires { ⌜ (n ≤ 8) × (at ≤ 1000) ⌝ }
     ensures { λ x. ⌜ x ≡ many blockAt 12 (now (r .entry)) at n ++ fill noBlock (8 - n) ⌝ }
 {
@@ -155,7 +172,7 @@ fn blocks_at(r: &[u8], at: usize, n: usize) -> [Block; 8]
         length: 0,
         crc: 0,
     };
-    let mut t = [b; 8];
+    let mut t = [b; TABLES];
     let mut j = 0;
     while j < n {
         let x = block_at(r, at + j * 12);
@@ -209,12 +226,12 @@ fn read(r: &[u8], n: usize) -> Source
 {
     let original = words_at(r, 20, n * 2);
     let tables = blocks_at(r, n * 8 + 20, n);
-    let mut stamp = [0u8; 12];
+    let mut stamp = [0u8; STAMP_SIZE];
     copy_in(&mut stamp, r, n * 20 + 20, 12);
-    let mut id = [0u8; 80];
-    copy_in(&mut id, r, n * 20 + 33, 80);
-    let mut validator = [0u8; 66];
-    copy_in(&mut validator, r, n * 20 + 113, 66);
+    let mut id = [0u8; ID_SIZE];
+    copy_in(&mut id, r, n * 20 + 33, ID_SIZE);
+    let mut validator = [0u8; VALIDATOR_SIZE];
+    copy_in(&mut validator, r, n * 20 + 113, VALIDATOR_SIZE);
     Source {
         start: word_at(r, 0),
         end: word_at(r, 4),
@@ -280,18 +297,18 @@ fn put_block(out: &mut [u8], at: usize, b: Block)
     put32(out, at + 8, b.crc);
 }
 
-fn put_words(out: &mut [u8], at: usize, ws: [u32; 16])
+fn put_words(out: &mut [u8], at: usize, ws: [u32; ORIGINAL_WORDS])
     requires { ⌜ at + 64 ≤ length (now out) ⌝ }
     ensures { λ _. ⌜ (now (out .exit) ≡ sets (now (out .entry)) at (puts le32 ws)) × (length ws ≡ 16) ⌝ }
 {
     let mut j = 0;
-    while j < 16 {
+    while j < ORIGINAL_WORDS {
         put32(out, at + j * 4, ws[j]);
         j += 1;
     }
 }
 
-fn put_blocks(out: &mut [u8], at: usize, bs: [Block; 8])
+fn put_blocks(out: &mut [u8], at: usize, bs: [Block; TABLES])
     requires { ⌜ at + 96 ≤ length (now out) ⌝ }
     ensures { λ _. ⌜ (now (out .exit) ≡ sets (now (out .entry)) at (puts blockBytes bs)) × (length bs ≡ 8) ⌝ }
 {
@@ -322,21 +339,21 @@ fn put_tables(out: &mut [u8], at: usize, s: Source)
     put_blocks(out, at + 64, bs);
 }
 
-fn put_stamp(out: &mut [u8], at: usize, x: [u8; 12])
+fn put_stamp(out: &mut [u8], at: usize, x: [u8; STAMP_SIZE])
     requires { ⌜ at + 12 ≤ length (now out) ⌝ }
     ensures { λ _. ⌜ (now (out .exit) ≡ sets (now (out .entry)) at x) × (length x ≡ 12) ⌝ }
 {
     put_bytes(out, at, &x);
 }
 
-fn put_id(out: &mut [u8], at: usize, x: [u8; 80])
+fn put_id(out: &mut [u8], at: usize, x: [u8; ID_SIZE])
     requires { ⌜ at + 80 ≤ length (now out) ⌝ }
     ensures { λ _. ⌜ (now (out .exit) ≡ sets (now (out .entry)) at x) × (length x ≡ 80) ⌝ }
 {
     put_bytes(out, at, &x);
 }
 
-fn put_validator(out: &mut [u8], at: usize, x: [u8; 66])
+fn put_validator(out: &mut [u8], at: usize, x: [u8; VALIDATOR_SIZE])
     requires { ⌜ at + 66 ≤ length (now out) ⌝ }
     ensures { λ _. ⌜ (now (out .exit) ≡ sets (now (out .entry)) at x) × (length x ≡ 66) ⌝ }
 {
@@ -369,23 +386,23 @@ fn put_source(out: &mut [u8], at: usize, s: Source)
 }
 
 // The arrays of a record have their lengths.
-fn has_words(ws: [u32; 16])
+fn has_words(ws: [u32; ORIGINAL_WORDS])
     ensures { λ _. ⌜ length ws ≡ 16 ⌝ }
 {}
 
-fn has_blocks(bs: [Block; 8])
+fn has_blocks(bs: [Block; TABLES])
     ensures { λ _. ⌜ length bs ≡ 8 ⌝ }
 {}
 
-fn has_stamp(x: [u8; 12])
+fn has_stamp(x: [u8; STAMP_SIZE])
     ensures { λ _. ⌜ length x ≡ 12 ⌝ }
 {}
 
-fn has_id(x: [u8; 80])
+fn has_id(x: [u8; ID_SIZE])
     ensures { λ _. ⌜ length x ≡ 80 ⌝ }
 {}
 
-fn has_validator(x: [u8; 66])
+fn has_validator(x: [u8; VALIDATOR_SIZE])
     ensures { λ _. ⌜ length x ≡ 66 ⌝ }
 {}
 

@@ -21,7 +21,7 @@ use Rattle.writer.specs.declared.PartsStep.{PartsStep}
 use Rattle.writer.specs.Parts.{withSources, stepWith}
 use Rattle.writer.specs.declared.Writer.{Writer}
 use Rattle.writer.specs.declared.Step.{Step}
-use Rattle.writer.specs.State.{position, isDue, stageOf, aligned, takenOk, tablesOk, operationOk, stageOk, inRange}
+use Rattle.writer.specs.State.{position, isDue, stageOf, aligned, takenOk, tablesOk, operationOk, stageOk, inRange, tailSize}
 use Rattle.writer.proofs.Laws.{ranged}
 use Rattle.lower.specs.Lower.{mayTake, room, takenMore, withBytes, bytesStep}
 use Rattle.lower.proofs.Laws.{bytes-took, took-some, takes-fits}
@@ -44,11 +44,11 @@ module _ (w : Writer) (m : mayTake w ≡ true) where
   open-yet = is-false (w .taken .closed) (and-right (inRange w) (not (w .taken .closed)) m)
 
 -- a tail that is not full
-none-due : (t : Taken) → t .closed ≡ false → t .fill < 256 → isDue t ≡ false
+none-due : (t : Taken) → t .closed ≡ false → t .fill < tailSize → isDue t ≡ false
 unfolding isDue
-none-due t c h = rw (ne-eqb (t .fill) 256 (λ e. omega arith), c)
+none-due t c h = rw (ne-eqb (t .fill) tailSize (λ e. omega arith), c)
 
-due-full : (t : Taken) → t .fill ≡ 256 → isDue t ≡ true
+due-full : (t : Taken) → t .fill ≡ tailSize → isDue t ≡ true
 unfolding isDue
 due-full t h = rw h
 
@@ -68,20 +68,20 @@ grow false q a b x y e f = e
 or-true : (a b : Bool) → a ≡ true → (a || b) ≡ true
 or-true a b e = rw e
 
-module _ (t : Taken) (y : ℕ) (c : t .closed ≡ false) (h : t .fill + 1 < 256) (k : position t + 1 ≤ capacity) where
-  multiple : takenOk t ≡ true → eqb (t .written % 256) 0 ≡ true
+module _ (t : Taken) (y : ℕ) (c : t .closed ≡ false) (h : t .fill + 1 < tailSize) (k : position t + 1 ≤ capacity) where
+  multiple : takenOk t ≡ true → eqb (t .written % tailSize) 0 ≡ true
   unfolding takenOk
   multiple e =
       let p = leb (position t) capacity in
-      let f = leb (t .fill) 256 in
-      or-left (eqb (t .written % 256) 0) (eqb (t .fill) 0) (rw c at (and-right p (aligned t) (and-right f (p && aligned t) e)))
+      let f = leb (t .fill) tailSize in
+      or-left (eqb (t .written % tailSize) 0) (eqb (t .fill) 0) (rw c at (and-right p (aligned t) (and-right f (p && aligned t) e)))
 
   taken-more : takenOk t ≡ true → takenOk (takenMore t (y ∷ [])) ≡ true
   unfolding takenOk
   taken-more e =
-      let f = le-leb (t .fill + length (y ∷ [])) 256 (omega arith) in
+      let f = le-leb (t .fill + length (y ∷ [])) tailSize (omega arith) in
       let p = le-leb (t .written + (t .fill + length (y ∷ []))) capacity (omega arith) in
-      let a = or-true (eqb (t .written % 256) 0) (t .closed && eqb (t .fill + length (y ∷ [])) 0) (multiple e) in
+      let a = or-true (eqb (t .written % tailSize) 0) (t .closed && eqb (t .fill + length (y ∷ [])) 0) (multiple e) in
       λ i. f i && (p i && a i)
 
   idle-more : isDue (takenMore t (y ∷ [])) ≡ false
@@ -91,7 +91,7 @@ tables-more : (n m : ℕ) (s : Tables) → n ≤ m → tablesOk n s ≡ true →
 unfolding tablesOk
 tables-more n m s h e = grow (leb (s .count) 3) (eqb (s .table) 8) (leb (s .table) 7) (leb 1 (s .count)) (leb (s .start) n) (leb (s .start) m) e (λ x. le-leb (s .start) m (omega (arith, leb-true (s .start) n x)))
 
-module _ (w : Writer) (y : ℕ) (m : mayTake w ≡ true) (h : w .taken .fill + 1 < 256) (k : position (w .taken) + 1 ≤ capacity) where
+module _ (w : Writer) (y : ℕ) (m : mayTake w ≡ true) (h : w .taken .fill + 1 < tailSize) (k : position (w .taken) + 1 ≤ capacity) where
   abbrev next : Taken
   next = takenMore (w .taken) (y ∷ [])
 
@@ -148,16 +148,16 @@ module _ (w : Writer) (xs : List ℕ) (m : mayTake w ≡ true) (d : isDue (w .ta
   pub all-taken : (n : ℕ) → n ≡ room (w .taken) (length xs) → bytesStep w xs .writer ≡ withBytes w (take n xs)
   all-taken n e = sym (ap (λ (s : Step). s .writer) (took-some w xs n (withBytes w (take n xs)) d e refl ∙ bytes-took w xs m k))
 
-byte-taken : (w : Writer) (y : ℕ) → mayTake w ≡ true → isDue (w .taken) ≡ false → w .taken .fill + 1 ≤ 256 → position (w .taken) + 1 ≤ capacity → bytesStep w (y ∷ []) .writer ≡ withBytes w (y ∷ [])
-byte-taken w y m d h k = let e : 1 ≡ min 1 (256 - w .taken .fill) = omega arith in all-taken w (y ∷ []) m d (omega arith) 1 e
+byte-taken : (w : Writer) (y : ℕ) → mayTake w ≡ true → isDue (w .taken) ≡ false → w .taken .fill + 1 ≤ tailSize → position (w .taken) + 1 ≤ capacity → bytesStep w (y ∷ []) .writer ≡ withBytes w (y ∷ [])
+byte-taken w y m d h k = let e : 1 ≡ min 1 (tailSize - w .taken .fill) = omega arith in all-taken w (y ∷ []) m d (omega arith) 1 e
 
 -- ---- the run of a chunk
 
-due-after : (w : Writer) (y : ℕ) (m : mayTake w ≡ true) → w .taken .fill + 1 < 256 → position (w .taken) + 1 ≤ capacity → isDue (withBytes w (y ∷ []) .taken) ≡ false
+due-after : (w : Writer) (y : ℕ) (m : mayTake w ≡ true) → w .taken .fill + 1 < tailSize → position (w .taken) + 1 ≤ capacity → isDue (withBytes w (y ∷ []) .taken) ≡ false
 unfolding withBytes
 due-after w y m h k = next-none w y m h k
 
-fill-after : (w : Writer) (y : ℕ) (ys : List ℕ) → w .taken .fill + suc (suc (length ys)) ≤ 256 → withBytes w (y ∷ []) .taken .fill + suc (length ys) ≤ 256
+fill-after : (w : Writer) (y : ℕ) (ys : List ℕ) → w .taken .fill + suc (suc (length ys)) ≤ tailSize → withBytes w (y ∷ []) .taken .fill + suc (length ys) ≤ tailSize
 unfolding withBytes
 fill-after w y ys h = omega arith
 
@@ -166,31 +166,31 @@ unfolding withBytes
 place-after w y ys h = omega arith
 
 module _ (region : List ℕ) (zs : List ℕ) where
-  chunk-writer : (ys : List ℕ) (y : ℕ) (w : Writer) → mayTake w ≡ true → isDue (w .taken) ≡ false → w .taken .fill + suc (length ys) ≤ 256 → position (w .taken) + suc (length ys) ≤ capacity
+  chunk-writer : (ys : List ℕ) (y : ℕ) (w : Writer) → mayTake w ≡ true → isDue (w .taken) ≡ false → w .taken .fill + suc (length ys) ≤ tailSize → position (w .taken) + suc (length ys) ≤ capacity
       → ranWriter region w (feed (y ∷ (ys ++ zs))) ≡ ranWriter region (withBytes w (y ∷ ys)) (dues ++ feed zs)
   unfolding feed ranWriter lowerStep lowerOps performed
   chunk-writer [] y w m d h k = ap (λ (v : Writer). ranWriter region v (dues ++ feed zs)) (byte-taken w y m d (omega arith) (omega arith))
   chunk-writer (x ∷ ys) y w m d h k =
-      let f : w .taken .fill + 1 < 256 = omega arith in
+      let f : w .taken .fill + 1 < tailSize = omega arith in
       let p : position (w .taken) + 1 ≤ capacity = omega arith in
       ap (λ (v : Writer). ranWriter region v (dues ++ feed (x ∷ (ys ++ zs)))) (byte-taken w y m d (omega arith) p)
       ∙ quiet-dues-writer region (withBytes w (y ∷ [])) (feed (x ∷ (ys ++ zs))) (next-quiet w y m f p)
       ∙ chunk-writer ys x (withBytes w (y ∷ [])) (next-takes w y m f p) (due-after w y m f p) (fill-after w y ys h) (place-after w y ys k)
       ∙ ap (λ (v : Writer). ranWriter region v (dues ++ feed zs)) (both-bytes w y (x ∷ ys))
 
-  chunk-region : (ys : List ℕ) (y : ℕ) (w : Writer) → mayTake w ≡ true → isDue (w .taken) ≡ false → w .taken .fill + suc (length ys) ≤ 256 → position (w .taken) + suc (length ys) ≤ capacity
+  chunk-region : (ys : List ℕ) (y : ℕ) (w : Writer) → mayTake w ≡ true → isDue (w .taken) ≡ false → w .taken .fill + suc (length ys) ≤ tailSize → position (w .taken) + suc (length ys) ≤ capacity
       → ranRegion region w (feed (y ∷ (ys ++ zs))) ≡ ranRegion region (withBytes w (y ∷ ys)) (dues ++ feed zs)
   unfolding feed ranRegion lowerStep lowerOps performed
   chunk-region [] y w m d h k = ap (λ (v : Writer). ranRegion region v (dues ++ feed zs)) (byte-taken w y m d (omega arith) (omega arith))
   chunk-region (x ∷ ys) y w m d h k =
-      let f : w .taken .fill + 1 < 256 = omega arith in
+      let f : w .taken .fill + 1 < tailSize = omega arith in
       let p : position (w .taken) + 1 ≤ capacity = omega arith in
       ap (λ (v : Writer). ranRegion region v (dues ++ feed (x ∷ (ys ++ zs)))) (byte-taken w y m d (omega arith) p)
       ∙ quiet-dues-ran region (withBytes w (y ∷ [])) (feed (x ∷ (ys ++ zs))) (next-quiet w y m f p)
       ∙ chunk-region ys x (withBytes w (y ∷ [])) (next-takes w y m f p) (due-after w y m f p) (fill-after w y ys h) (place-after w y ys k)
       ∙ ap (λ (v : Writer). ranRegion region v (dues ++ feed zs)) (both-bytes w y (x ∷ ys))
 
-split : (region : List ℕ) (w : Writer) (bs : List ℕ) (n : ℕ) → mayTake w ≡ true → isDue (w .taken) ≡ false → 1 ≤ n → n ≤ length bs → w .taken .fill + n ≤ 256 → position (w .taken) + n ≤ capacity
+split : (region : List ℕ) (w : Writer) (bs : List ℕ) (n : ℕ) → mayTake w ≡ true → isDue (w .taken) ≡ false → 1 ≤ n → n ≤ length bs → w .taken .fill + n ≤ tailSize → position (w .taken) + n ≤ capacity
     → (ranWriter region w (feed bs) ≡ ranWriter region (withBytes w (take n bs)) (dues ++ feed (drop n bs))) × (ranRegion region w (feed bs) ≡ ranRegion region (withBytes w (take n bs)) (dues ++ feed (drop n bs)))
 split region w bs zero m d h i f k = absurd (omega arith)
 split region w [] (suc n) m d h i f k = absurd (omega arith)
@@ -202,20 +202,20 @@ split region w (y ∷ bs) (suc n) m d h i f k =
       sym (ap (λ (l : List ℕ). ranRegion region w (feed l)) t) ∙ chunk-region region (drop n bs) (take n bs) y w m d (omega arith) (omega arith),
     )
 
-some-by : (fill n l : ℕ) → n ≡ min l (256 - fill) → 1 ≤ l → fill ≤ 256 → (fill ≡ 256 → ⊥) → (1 ≤ n) × (n ≤ l) × (fill + n ≤ 256)
-some-by fill n l e h k f = some-of (decLt fill 256)
+some-by : (fill n l : ℕ) → n ≡ min l (tailSize - fill) → 1 ≤ l → fill ≤ tailSize → (fill ≡ tailSize → ⊥) → (1 ≤ n) × (n ≤ l) × (fill + n ≤ tailSize)
+some-by fill n l e h k f = some-of (decLt fill tailSize)
   where
-    some-of : Dec (fill < 256) → (1 ≤ n) × (n ≤ l) × (fill + n ≤ 256)
+    some-of : Dec (fill < tailSize) → (1 ≤ n) × (n ≤ l) × (fill + n ≤ tailSize)
     some-of (yes x) = (omega arith, omega arith, omega arith)
     some-of (no x) = absurd (f (omega arith))
 
 -- a call that takes n of the bytes, then what is due
 module _ (region : List ℕ) (w : Writer) (bs : List ℕ) (m : mayTake w ≡ true) (d : isDue (w .taken) ≡ false) (k : position (w .taken) + length bs ≤ capacity) (l : 1 ≤ length bs) where
-  full-not : w .taken .fill ≡ 256 → ⊥
+  full-not : w .taken .fill ≡ tailSize → ⊥
   full-not e = false≢true (sym d ∙ due-full (w .taken) e)
 
-  module _ (n : ℕ) (e : n ≡ min (length bs) (256 - w .taken .fill)) where
-    some : (1 ≤ n) × (n ≤ length bs) × (w .taken .fill + n ≤ 256)
+  module _ (n : ℕ) (e : n ≡ min (length bs) (tailSize - w .taken .fill)) where
+    some : (1 ≤ n) × (n ≤ length bs) × (w .taken .fill + n ≤ tailSize)
     some = some-by (w .taken .fill) n (length bs) e l (takes-fits w m .0) full-not
 
     module _ (s : Step) (f : s ≡ bytesStep w bs) (v : Writer) (r : List ℕ) (a : v ≡ ranWriter region (s .writer) dues) (b : r ≡ ranRegion region (s .writer) dues) where
@@ -233,7 +233,7 @@ module _ (region : List ℕ) (w : Writer) (bs : List ℕ) (m : mayTake w ≡ tru
 
 -- the same on parts
 pub chunk-parts : (region : List ℕ) (p : Parts) (bs : List ℕ) → ((ss : List Source) → mayTake (withSources p ss) ≡ true) → isDue (p .taken) ≡ false → position (p .taken) + length bs ≤ capacity → 1 ≤ length bs
-    → (n : ℕ) → n ≡ min (length bs) (256 - p .taken .fill) → (s : PartsStep) → ((ss : List Source) → stepWith s ss ≡ bytesStep (withSources p ss) bs) → (q : Parts) (r : List ℕ) → Ran region (s .parts) dues q r → Fed region p bs n q r
+    → (n : ℕ) → n ≡ min (length bs) (tailSize - p .taken .fill) → (s : PartsStep) → ((ss : List Source) → stepWith s ss ≡ bytesStep (withSources p ss) bs) → (q : Parts) (r : List ℕ) → Ran region (s .parts) dues q r → Fed region p bs n q r
 chunk-parts region p bs m d k l n e s f q r g = (at [] .0, at [] .1, λ ss. (at ss .2, at ss .3))
   where
     at : (ss : List Source) → (1 ≤ n) × (n ≤ length bs) × (ranWriter r (withSources q ss) (feed (drop n bs)) ≡ ranWriter region (withSources p ss) (feed bs)) × (ranRegion r (withSources q ss) (feed (drop n bs)) ≡ ranRegion region (withSources p ss) (feed bs))
@@ -249,7 +249,7 @@ module _ (w : Writer) (d : isDue (w .taken) ≡ false) where
   quiet-by Headed e = refl
   quiet-by Committed e = refl
 
-module _ (region : List ℕ) (w : Writer) (bs : List ℕ) (m : mayTake w ≡ true) (d : isDue (w .taken) ≡ false) (k : position (w .taken) + length bs ≤ capacity) (l : 1 ≤ length bs) (h : w .taken .fill + length bs < 256) where
+module _ (region : List ℕ) (w : Writer) (bs : List ℕ) (m : mayTake w ≡ true) (d : isDue (w .taken) ≡ false) (k : position (w .taken) + length bs ≤ capacity) (l : 1 ≤ length bs) (h : w .taken .fill + length bs < tailSize) where
   quiet-before : quiet (w .stage) ≡ true
   quiet-before = quiet-by w d (w .stage) (ranged w (in-range w m) .stage)
 
@@ -258,7 +258,7 @@ module _ (region : List ℕ) (w : Writer) (bs : List ℕ) (m : mayTake w ≡ tru
   stage-after = rw (none-due (takenMore (w .taken) bs) (open-yet w m) h)
 
   module _ (s : Step) (f : s ≡ bytesStep w bs) where
-    all-fit : length bs ≡ min (length bs) (256 - w .taken .fill)
+    all-fit : length bs ≡ min (length bs) (tailSize - w .taken .fill)
     all-fit = omega arith
 
     is-taken : s .writer ≡ withBytes w bs

@@ -13,6 +13,7 @@ ghost use Rattle.run.specs.Run.{ranWriter, ranRegion};
 ghost use Rattle.run.specs.Feed as Feed;
 ghost use Rattle.run.specs.Parts as Partly;
 ghost use Rattle.region.specs.Region.{capacity};
+ghost use Rattle.writer.specs.State.{tailSize};
 use due::due_parts;
 use lower::append::take_parts;
 use lower::may_take_parts;
@@ -20,6 +21,7 @@ use lower::room;
 use region::CAPACITY;
 use writer::Parts;
 use writer::Stage;
+use writer::TAIL_SIZE_32;
 use writer::Writer;
 use writer::is_due;
 use writer::parts_of;
@@ -162,11 +164,11 @@ pub fn settle_feed(w: Writer, region: &mut [u8], bytes: &[u8]) -> Writer
 
 // Whether n bytes, some, leave room in the tail, and nothing is due before them.
 fn is_short(p: Parts, n: usize) -> bool
-    ensures { λ r. ⌜ (r ≡ true → ((ss : List Source) → Lower.mayTake (withSources p ss) ≡ true) × (State.isDue (p .taken) ≡ false) × (State.position (p .taken) + n ≤ capacity) × (1 ≤ n) × (p .taken .fill + n < 256)) ⌝ }
+    ensures { λ r. ⌜ (r ≡ true → ((ss : List Source) → Lower.mayTake (withSources p ss) ≡ true) × (State.isDue (p .taken) ≡ false) × (State.position (p .taken) + n ≤ capacity) × (1 ≤ n) × (p .taken .fill + n < tailSize)) ⌝ }
 {
     let t = p.taken;
     if may_take_parts(p) & !is_due(t) {
-        if n < (256 - t.fill) as usize {
+        if n < (TAIL_SIZE_32 - t.fill) as usize {
             return (0 < n) & (n <= CAPACITY - (t.written + t.fill) as usize);
         }
     }

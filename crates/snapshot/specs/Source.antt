@@ -12,7 +12,7 @@ use Rattle.header.specs.declared.Bank.{Bank}
 use Rattle.header.specs.declared.Validated.{Validated}
 use Rattle.header.specs.declared.Validated.the-variants.{Good, Refused as Bad}
 use Rattle.region.specs.Region.{bankOf}
-use Rattle.header.specs.Header.{recordAt, recordsOf}
+use Rattle.header.specs.Header.{recordAt, recordsOf, recordsOffset, maxSources}
 use Rattle.bank.specs.Bank.{named}
 use Rattle.snapshot.specs.declared.Outcome.the-variants.{Done, Refused}
 use Rattle.snapshot.specs.declared.source.Asked.{Asked}
@@ -20,7 +20,7 @@ use Rattle.snapshot.specs.declared.source.Records.{Records}
 
 -- the record at an index of a bank
 unfoldable pub sourceIn : List ℕ → Bank → ℕ → Source
-sourceIn region b i = recordAt (b .version) (bankOf region (b .number)) (48 + i * sourceSize (b .version))
+sourceIn region b i = recordAt (b .version) (bankOf region (b .number)) (recordsOffset + i * sourceSize (b .version))
 
 abbrev pub refuse : Refusal → Asked
 refuse r = record { outcome = Refused r; source = noSource }
@@ -35,10 +35,10 @@ askedSource region n i = thenSource region i (named region n)
 
 -- all sources: the records below the count, and zeros for those that the bank has not
 unfoldable pub sourcesIn : List ℕ → Bank → List Source
-sourcesIn region b = recordsOf (b .version) (bankOf region (b .number)) (b .count) ++ fill noSource (3 - b .count)
+sourcesIn region b = recordsOf (b .version) (bankOf region (b .number)) (b .count) ++ fill noSource (maxSources - b .count)
 
 abbrev pub refuseAll : Refusal → Records
-refuseAll r = record { outcome = Refused r; sources = fill noSource 3 }
+refuseAll r = record { outcome = Refused r; sources = fill noSource maxSources }
 
 abbrev pub thenSources : List ℕ → Validated → Records
 thenSources region (Good b) = record { outcome = Done; sources = sourcesIn region b }

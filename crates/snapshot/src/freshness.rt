@@ -13,6 +13,7 @@ ghost use Rattle.snapshot.specs.Steps as Steps;
 use crate::header_if;
 use base::number::le;
 use header::Bank;
+use header::RECORDS_OFFSET;
 use header::Validated;
 use header::record_at;
 use leaf::date::valid_date;
@@ -152,7 +153,7 @@ fn updated_in(l: &[u8], version: u32, n: usize, days: Days, at: i64) -> i64
         oldest: 0,
     };
     let mut x = Seen { times, days };
-    let mut place = 48;
+    let mut place = RECORDS_OFFSET;
     let mut i = 0;
     while i < n {
         let s = record_at(l, version, place);

@@ -8,6 +8,7 @@ ghost use Rattle.snapshot.specs.Rows.{bytesOf, valuesIn, askedRow};
 use crate::Outcome;
 use base::slice::part;
 use record::Block;
+use record::LAST_TABLE;
 use record::Source;
 use refusal::Refusal;
 use region::REGION_SIZE;
@@ -48,7 +49,7 @@ pub fn bank_row(
 ) -> ReadAnswer
     ensures { λ r. ⌜ (r ≡ askedRow (now (region .entry)) number source table place (length (now (out .entry))) (length (now (ends .entry)))) × (now (out .exit) ≡ after r (joined (valuesIn (now (region .entry)) number source table place)) (now (out .entry))) × (now (ends .exit) ≡ after r (endsOf 0 (valuesIn (now (region .entry)) number source table place)) (now (ends .entry))) ⌝ }
 {
-    if 7 < table {
+    if LAST_TABLE < table {
         if region.len() != REGION_SIZE {
             return ReadAnswer::Refused(Refusal::Region);
         }

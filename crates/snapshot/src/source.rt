@@ -9,6 +9,8 @@ ghost use Rattle.snapshot.specs.Source as Sources;
 use crate::Outcome;
 use bank::header;
 use header::Bank;
+use header::RECORDS_OFFSET;
+use header::SOURCES;
 use header::Validated;
 use header::record_at;
 use record::Source;
@@ -26,7 +28,7 @@ pub struct Asked {
 // The sources below the count and zeros after them, or zeros beside a refusal.
 pub struct Records {
     pub outcome: Outcome,
-    pub sources: [Source; 3],
+    pub sources: [Source; SOURCES],
 }
 
 fn refuse(r: Refusal) -> Asked
@@ -43,7 +45,7 @@ fn source_in(region: &[u8], b: Bank, i: u32) -> Source
     ensures { λ r. ⌜ r ≡ Sources.sourceIn (now (region .entry)) b i ⌝ }
 {
     let l = bank_of(region, b.number);
-    let at = 48 + i as usize * source_size(b.version);
+    let at = RECORDS_OFFSET + i as usize * source_size(b.version);
     record_at(l, b.version, at)
 }
 
@@ -71,7 +73,7 @@ fn refuse_all(r: Refusal) -> Records
     ensures { λ x. ⌜ x ≡ Sources.refuseAll r ⌝ }
 {
     let z = no_source();
-    let sources = [z; 3];
+    let sources = [z; SOURCES];
     Records {
         outcome: Outcome::Refused(r),
         sources,
@@ -79,16 +81,16 @@ fn refuse_all(r: Refusal) -> Records
 }
 
 // A bank's first n records, and zeros.
-fn records_at(l: &[u8], version: u32, n: usize) -> [Source; 3]
+fn records_at(l: &[u8], version: u32, n: usize) -> [Source; SOURCES]
     requires { ⌜ n ≤ 3 ⌝ }
     ensures { λ r. ⌜ r ≡ recordsOf version (now (l .entry)) n ++ fill noSource (3 - n) ⌝ }
 {
     let size = source_size(version);
     let z = no_source();
-    let mut t = [z; 3];
+    let mut t = [z; SOURCES];
     let mut i = 0;
     while i < n {
-        let s = record_at(l, version, 48 + i * size);
+        let s = record_at(l, version, RECORDS_OFFSET + i * size);
         t[i] = s;
         i += 1;
     }

@@ -5,6 +5,7 @@ ghost use Rattle.leaf.specs.Bytes.{le32};
 ghost use Rattle.run.specs.Run.{ranWriter, ranRegion};
 ghost use Rattle.upper.specs.Upper as Upper;
 use crate::fits;
+use header::SOURCES_32;
 use leaf::bytes::put;
 use lower::is_open;
 use lower::may_take;
@@ -45,7 +46,7 @@ pub fn source(w: Writer, region: &mut [u8], s: Source) -> Step
     let x = w.tables;
     if region.len() == REGION_SIZE {
         if may_take(w) & !is_open(x) {
-            if (x.count < 3) & fits(w.taken, 8) {
+            if (x.count < SOURCES_32) & fits(w.taken, 8) {
                 let v = run_source(w, region, s);
                 return did(v);
             }

@@ -20,6 +20,7 @@ ghost use Rattle.row.specs.Columns.{namesLine};
 ghost use Rattle.run.specs.Run as Run;
 ghost use Rattle.run.specs.Feed as Feed;
 use lower::may_begin;
+use record::LAST_TABLE;
 use region::REGION_SIZE;
 use row::RowAnswer;
 
@@ -80,7 +81,7 @@ pub fn table(w: Writer, region: &mut [u8], table: u32) -> Step
     ensures { λ r. ⌜ (r ≡ Upper.upperStep (now (region .entry)) w (Upper.tableWithNames table)) × (now (region .exit) ≡ Upper.upperRegion (now (region .entry)) w (Upper.tableWithNames table)) ⌝ }
 {
     if region.len() == REGION_SIZE {
-        if table <= 7 {
+        if table <= LAST_TABLE {
             if may_take(w) & may_begin(w.tables, table) {
                 let l = names(table);
                 let n = l.n;

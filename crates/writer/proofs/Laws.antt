@@ -8,7 +8,7 @@ use Rattle.writer.specs.declared.Taken.{Taken}
 use Rattle.writer.specs.declared.Tables.{Tables}
 use Rattle.writer.specs.declared.Writer.{Writer}
 use Rattle.base.proofs.Bools.{and-left, and-right}
-use Rattle.writer.specs.State.{position, aligned, openOk, isOpen, inRange, activeOk, takenOk, tablesOk, stageOk}
+use Rattle.writer.specs.State.{position, aligned, openOk, isOpen, inRange, activeOk, takenOk, tablesOk, stageOk, tailSize}
 use Rattle.region.specs.Region.{capacity}
 
 -- what a state within its ranges has
@@ -31,13 +31,13 @@ module _ (w : Writer) where
       record { active = and-left a (t && (s && o)) e; taken = and-left t (s && o) r; tables = and-left s o q; stage = and-right s o q }
 
 module _ (t : Taken) where
-  pub fill-fits : takenOk t ≡ true → t .fill ≤ 256
+  pub fill-fits : takenOk t ≡ true → t .fill ≤ tailSize
   unfolding takenOk
-  fill-fits e = leb-true (t .fill) 256 (and-left (leb (t .fill) 256) (leb (position t) capacity && aligned t) e)
+  fill-fits e = leb-true (t .fill) tailSize (and-left (leb (t .fill) tailSize) (leb (position t) capacity && aligned t) e)
 
   pub position-fits : takenOk t ≡ true → position t ≤ capacity
   unfolding takenOk
-  position-fits e = leb-true (position t) capacity (and-left (leb (position t) capacity) (aligned t) (and-right (leb (t .fill) 256) (leb (position t) capacity && aligned t) e))
+  position-fits e = leb-true (position t) capacity (and-left (leb (position t) capacity) (aligned t) (and-right (leb (t .fill) tailSize) (leb (position t) capacity && aligned t) e))
 
 module _ (n : ℕ) (s : Tables) where
   pub count-fits : tablesOk n s ≡ true → s .count ≤ 3

@@ -6,6 +6,8 @@ use Rattle.base.specs.Number.{pick}
 use Rattle.leaf.specs.Generation.{next}
 use Rattle.refusal.specs.declared.Refusal.{Refusal}
 use Rattle.region.specs.Region.{capacity, sectorSize}
+use Rattle.record.specs.Record.{maxTables, lastTable}
+use Rattle.header.specs.Header.{maxSources}
 use Rattle.bank.specs.declared.Loaded.{Loaded}
 use Rattle.bank.specs.declared.Loaded.the-variants.{Found, Nothing, Refused as NotRead}
 use Rattle.writer.specs.declared.Operation.{Operation}
@@ -63,7 +65,7 @@ keyLength offset = offset - 8
 
 -- no table is open
 abbrev pub noTable : ℕ
-noTable = 8
+noTable = maxTables
 
 abbrev pub isOpen : Tables → Bool
 isOpen s = not (eqb (s .table) noTable)
@@ -90,11 +92,11 @@ takenOk t = leb (t .fill) tailSize && (leb (position t) capacity && aligned t)
 
 -- an open table has a source and starts at or before the position
 abbrev pub openOk : ℕ → Tables → Bool
-openOk n s = leb (s .table) 7 && (leb 1 (s .count) && leb (s .start) n)
+openOk n s = leb (s .table) lastTable && (leb 1 (s .count) && leb (s .start) n)
 
 -- source count and table
 unfoldable pub tablesOk : ℕ → Tables → Bool
-tablesOk n s = leb (s .count) 3 && (eqb (s .table) noTable || openOk n s)
+tablesOk n s = leb (s .count) maxSources && (eqb (s .table) noTable || openOk n s)
 
 -- a due operation is one that mode, written count and tail determine
 unfoldable pub operationOk : Bool → Taken → Operation → Bool

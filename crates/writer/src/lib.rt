@@ -4,10 +4,20 @@ ghost use mathlib.Core.Bool.{_&&_};
 ghost use Rattle.writer.specs.State as State;
 ghost use Rattle.writer.specs.Parts.{partsOf, withSources, stepWith, partsDid, partsStay};
 use bank::Loaded;
+use header::SOURCES;
+use header::SOURCES_32;
+use record::LAST_TABLE;
 use record::Source;
 use refusal::Refusal;
 use region::CAPACITY_64;
 use region::SECTOR_SIZE_32;
+
+// The bytes that the tail holds at the most.
+pub const TAIL_SIZE: usize = 256;
+
+pub const TAIL_SIZE_32: u32 = 256;
+// No table is open.
+pub const NO_TABLE: u32 = 8;
 
 // What is due: an erase of a sector of the bank (0 is the header's), a write of the tail into the data, or its comparison.
 pub enum Operation {
@@ -54,8 +64,8 @@ pub struct Writer {
     pub beginning: Beginning,
     pub taken: Taken,
     pub tables: Tables,
-    pub sources: [Source; 3],
-    pub tail: [u8; 256],
+    pub sources: [Source; SOURCES],
+    pub tail: [u8; TAIL_SIZE],
 }
 
 // What a call says: it is done, so many bytes were taken, no operation is due, what was compared is the same or not, or why not.
@@ -80,7 +90,7 @@ pub struct Parts {
     pub beginning: Beginning,
     pub taken: Taken,
     pub tables: Tables,
-    pub tail: [u8; 256],
+    pub tail: [u8; TAIL_SIZE],
 }
 
 // The answer, and the state after a call that leaves the sources.
@@ -92,7 +102,7 @@ pub struct PartsStep {
 pub fn is_due(t: Taken) -> bool
     ensures { λ r. ⌜ r ≡ State.isDue t ⌝ }
 {
-    (t.fill == 256) | (t.closed & (0 < t.fill))
+    (t.fill == TAIL_SIZE_32) | (t.closed & (0 < t.fill))
 }
 
 // The sector's erase before its first write, or the write.
@@ -165,14 +175,17 @@ fn position(t: Taken) -> u64
 fn taken_ok(t: Taken) -> bool
     ensures { λ r. ⌜ r ≡ State.takenOk t ⌝ }
 {
-    (t.fill <= 256)
-        & ((position(t) <= CAPACITY_64) & ((t.written % 256 == 0) | (t.closed & (t.fill == 0))))
+    (t.fill <= TAIL_SIZE_32)
+        & ((position(t) <= CAPACITY_64)
+            & ((t.written % TAIL_SIZE_32 == 0) | (t.closed & (t.fill == 0))))
 }
 
 fn tables_ok(n: u64, s: Tables) -> bool
     ensures { λ r. ⌜ r ≡ State.tablesOk n s ⌝ }
 {
-    (s.count <= 3) & ((s.table == 8) | ((s.table <= 7) & ((1 <= s.count) & (s.start as u64 <= n))))
+    (s.count <= SOURCES_32)
+        & ((s.table == NO_TABLE)
+            | ((s.table <= LAST_TABLE) & ((1 <= s.count) & (s.start as u64 <= n))))
 }
 
 fn operation_ok(comparing: bool, t: Taken, o: Operation) -> bool
@@ -261,7 +274,7 @@ pub fn parts_of(w: Writer) -> Parts
     }
 }
 
-pub fn with_sources(p: Parts, sources: [Source; 3]) -> Writer
+pub fn with_sources(p: Parts, sources: [Source; SOURCES]) -> Writer
     ensures { λ r. ⌜ r ≡ withSources p sources ⌝ }
 {
     let stage = p.stage;
@@ -279,7 +292,7 @@ pub fn with_sources(p: Parts, sources: [Source; 3]) -> Writer
     }
 }
 
-pub fn step_with(s: PartsStep, sources: [Source; 3]) -> Step
+pub fn step_with(s: PartsStep, sources: [Source; SOURCES]) -> Step
     ensures { λ r. ⌜ r ≡ stepWith s sources ⌝ }
 {
     let answer = s.answer;

@@ -9,9 +9,10 @@ use Rattle.base.proofs.Lists.{bytes-more}
 use Rattle.due.proofs.Laws.{filled-end}
 use Rattle.due.proofs.filled.Statement.{statement}
 use Rattle.due.proofs.filled.Tie as tie
+use Rattle.writer.specs.State.{tailSize}
 
 abbrev Inv-loop : tie.InvT-loop
-Inv-loop n tail t₀ i₀ t i = (i ≤ n) × (t ≡ sets (replicate 256 255) 0 (take i tail))
+Inv-loop n tail t₀ i₀ t i = (i ≤ n) × (t ≡ sets (replicate tailSize 255) 0 (take i tail))
 
 abbrev μ-loop : tie.MeasureT-loop
 μ-loop n tail t₀ i₀ t i = n - i
@@ -35,15 +36,15 @@ loop-again : tie.Need-loop-again Inv-loop μ-loop
 loop-again c =
     let l = c .before .loop in
     let a = c .before .before .args in
-    (omega arith, rw (l .inv .1) (rw (zero-add (l .i)) at (bytes-more (a .t1) (l .i) 0 (replicate 256 255) (omega arith))))
+    (omega arith, rw (l .inv .1) (rw (zero-add (l .i)) at (bytes-more (a .t1) (l .i) 0 (replicate tailSize 255) (omega arith))))
 
 returns : tie.Need-returns Inv-loop μ-loop
 returns c =
     let l = c .before .loop in
     let a = c .before .before .args in
-    let k : length (a .t1) ≡ 256 = search needs in
+    let k : length (a .t1) ≡ tailSize = search needs in
     let e : l .i ≡ a .n = omega arith in
-    l .inv .1 ∙ ap (λ (i : ℕ). sets (replicate 256 255) 0 (take i (a .t1))) e ∙ filled-end (a .t1) (a .n) k (c .before .before .pre)
+    l .inv .1 ∙ ap (λ (i : ℕ). sets (replicate tailSize 255) 0 (take i (a .t1))) e ∙ filled-end (a .t1) (a .n) k (c .before .before .pre)
 
 pub filled-spec : {M : Type 1} → statement M
 filled-spec =

@@ -9,6 +9,7 @@ use borrow.Author.Needs.{needs}
 use Rattle.due.proofs.write_tail.Statement.{statement}
 use Rattle.due.proofs.write_tail.Tie as tie
 use Rattle.region.specs.Region.{sectorSize}
+use Rattle.writer.specs.State.{tailSize}
 
 add-write : tie.Need-add-write
 add-write c = search needs
@@ -34,7 +35,7 @@ returns c =
     let i = w .before .before .before .before in
     let s = i .before .before in
     let a = s .args in
-    let k : length (a .t3) ≡ 256 = search needs in
+    let k : length (a .t3) ≡ tailSize = search needs in
     w .write .ensures ∙ ap (λ (xs : List ℕ). writtenIn (a .region .now) (a .bank) (sectorSize + a .a) xs) (rw sub-zero (padded-whole (a .t3) (a .n) k (s .pre) (i .if1 .taken)))
 
 filled-requires : tie.Need-filled-requires
@@ -69,7 +70,7 @@ returns-2 c =
     let s = f .before .before .before in
     let a = s .args in
     let m = p .padded-length .result in
-    let k : length (a .t3) ≡ 256 = search needs in
+    let k : length (a .t3) ≡ tailSize = search needs in
     w .write2 .ensures ∙ ap (λ (xs : List ℕ). writtenIn (a .region .now) (a .bank) (sectorSize + a .a) xs) (ap (take (m - 0)) (f .filled .ensures) ∙ rw sub-zero (padded-is (a .t3) (a .n) m k (s .pre) (p .padded-length .ensures .0) (p .padded-length .ensures .1)))
 
 pub write-tail-spec : {M : Type 1} → statement M

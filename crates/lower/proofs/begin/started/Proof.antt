@@ -11,6 +11,8 @@ use Rattle.writer.specs.declared.Stage.the-variants.{Idle}
 use borrow.Author.Needs.{needs}
 use Rattle.lower.proofs.begin.started.Statement.{statement}
 use Rattle.lower.proofs.begin.started.Tie as tie
+use Rattle.writer.specs.State.{tailSize}
+use Rattle.header.specs.Header.{maxSources}
 
 no-source-requires : tie.Need-no-source-requires
 no-source-requires c κs = search needs
@@ -20,8 +22,8 @@ unfolding started
 returns c =
     let a = c .before .args in
     let z = toZ-ofZ w64 (a .now) (c .before .fits .now) in
-    let ss = ap (replicate 3) (c .no-source .ensures) ∙ replicate-fill noSource 3 in
-    let ts = replicate-fill {A = ℕ} 0 256 in
+    let ss = ap (replicate maxSources) (c .no-source .ensures) ∙ replicate-fill noSource maxSources in
+    let ts = replicate-fill {A = ℕ} 0 tailSize in
     λ i. record {
       stage = Idle;
       beginning = record { active = a .active; comparing = a .comparing; now = z i };
