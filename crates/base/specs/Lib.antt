@@ -1,3 +1,4 @@
 pub mod Number
 pub mod Lists
 pub mod Same
+pub mod Table

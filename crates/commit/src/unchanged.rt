@@ -3,20 +3,20 @@ ghost use mathlib.Core.Path.{_≡_};
 ghost use Prim.Native.Nat.{_≤_};
 ghost use lib.ListN.{take};
 ghost use Rattle.base.specs.Number.{pick};
-ghost use Rattle.header.specs.Header.{recordsOf};
+ghost use Rattle.header.specs.Header.{recordsOf, maxSources};
 ghost use Rattle.writer.specs.declared.Answer.the-variants as Answers;
 ghost use Rattle.commit.specs.Unchanged as Unchanged;
 use crate::is_idle;
 use crate::key_length;
 use crate::routes_offset;
 use bank::Loaded;
+use base::table::TABLES;
 use header::Bank;
 use header::RECORDS_OFFSET;
 use header::SOURCES;
 use header::record_at;
 use record::Block;
 use record::Source;
-use record::TABLES;
 use record::source_size;
 use refusal::Refusal;
 use region::REGION_SIZE;
@@ -74,7 +74,7 @@ fn same_sources(ss: [Source; SOURCES], n: usize, l: &[u8], version: u32) -> bool
 }
 
 fn same_bank(region: &[u8], w: Writer, b: Bank) -> bool
-    requires { ⌜ w .tables .count ≤ 3 ⌝ }
+    requires { ⌜ w .tables .count ≤ maxSources ⌝ }
     ensures { λ r. ⌜ r ≡ Unchanged.sameBank (now (region .entry)) w b ⌝ }
 {
     let t = w.taken;
@@ -87,7 +87,7 @@ fn same_bank(region: &[u8], w: Writer, b: Bank) -> bool
 }
 
 fn is_unchanged(region: &[u8], w: Writer, l: Loaded) -> bool
-    requires { ⌜ w .tables .count ≤ 3 ⌝ }
+    requires { ⌜ w .tables .count ≤ maxSources ⌝ }
     ensures { λ r. ⌜ r ≡ Unchanged.isUnchanged (now (region .entry)) w l ⌝ }
 {
     match l {

@@ -8,7 +8,7 @@ use borrow.Author.Tests.{eqb-true}
 use mathlib.Core.Path.{_≡_, refl, sym, ap}
 use mathlib.Core.List.{List, [], _∷_, _++_, append-assoc}
 use lib.ListN.{length, drop}
-use Rattle.csv.specs.Csv.{isText, NonEscaped, none, text, Inner, close, byte, twice, Field, escaped, nonEscaped, lf, Record, last, more}
+use Rattle.csv.specs.Csv.{isText, NonEscaped, none, text, Inner, close, byte, twice, Field, escaped, nonEscaped, lf, Record, last, more, quote, comma, carriageReturn, lineFeed}
 use Rattle.csv.specs.Write.{special, anySpecial, doubled, fieldOf, rowOf}
 use Rattle.csv.specs.Read.{Got, got, bad, push, plainValue, plainRest, inner, closing, fieldAt, Row, row, malformed, front, rowEnd, ended, parted, next, values}
 
@@ -19,22 +19,22 @@ unfolding plainValue plainRest
 plain-complete none h = simp h
 plain-complete (text {b = b} t p) h = simp t (ap (push b) (plain-complete p h))
 
-inner-complete : {bs v r : List ℕ} {c : ℕ} → Inner bs v (c ∷ r) → eqb c 34 ≡ false → inner bs ≡ got v (c ∷ r)
+inner-complete : {bs v r : List ℕ} {c : ℕ} → Inner bs v (c ∷ r) → eqb c quote ≡ false → inner bs ≡ got v (c ∷ r)
 unfolding inner closing
 inner-complete close h = simp h
 inner-complete (byte {b = b} t p) h = simp t (ap (push b) (inner-complete p h))
-inner-complete (twice p) h = ap (push 34) (inner-complete p h)
+inner-complete (twice p) h = ap (push quote) (inner-complete p h)
 
 -- what follows a value: a byte that is no text, and no quote
 pub data Stop : ℕ → Type 0 where
-  stop : {c : ℕ} → isText c ≡ false → eqb c 34 ≡ false → Stop c
+  stop : {c : ℕ} → isText c ≡ false → eqb c quote ≡ false → Stop c
 
 -- a byte that is text is no quote
-text-no-quote : (b : ℕ) → isText b ≡ true → eqb b 34 ≡ false
+text-no-quote : (b : ℕ) → isText b ≡ true → eqb b quote ≡ false
 unfolding isText
-text-no-quote b h = go (eqb b 34) h
+text-no-quote b h = go (eqb b quote) h
   where
-    go : (t : Bool) → not (t || (eqb b 44 || eqb b 10)) ≡ true → t ≡ false
+    go : (t : Bool) → not (t || (eqb b comma || eqb b lineFeed)) ≡ true → t ≡ false
     go true e = sym e
     go false e = refl
 
@@ -44,11 +44,11 @@ field-complete (escaped p) (stop h q) = inner-complete p q
 field-complete (nonEscaped none) (stop h q) = simp q (plain-complete none h)
 field-complete (nonEscaped (text {b = b} t p)) (stop h q) = simp (text-no-quote b t) (plain-complete (text t p) h)
 
-pub comma-stops : Stop 44
+pub comma-stops : Stop comma
 unfolding isText
 comma-stops = stop refl refl
 
-pub lf-stops : Stop 10
+pub lf-stops : Stop lineFeed
 unfolding isText
 lf-stops = stop refl refl
 
@@ -72,20 +72,20 @@ abbrev pub InnerGot : List ℕ → Got → Type 0
 InnerGot bs (got v r) = Inner bs v r
 InnerGot bs bad = Unit {0}
 
-push-byte : (b : ℕ) (bs : List ℕ) (g : Got) → eqb b 34 ≡ false → InnerGot bs g → InnerGot (b ∷ bs) (push b g)
+push-byte : (b : ℕ) (bs : List ℕ) (g : Got) → eqb b quote ≡ false → InnerGot bs g → InnerGot (b ∷ bs) (push b g)
 push-byte b bs (got v r) e p = byte e p
 push-byte b bs bad e p = tt
 
-push-twice : (bs : List ℕ) (g : Got) → InnerGot bs g → InnerGot (34 ∷ 34 ∷ bs) (push 34 g)
+push-twice : (bs : List ℕ) (g : Got) → InnerGot bs g → InnerGot (quote ∷ quote ∷ bs) (push quote g)
 push-twice bs (got v r) p = twice p
 push-twice bs bad p = tt
 
-inner-case : (t : Bool) (b : ℕ) (bs : List ℕ) → eqb b 34 ≡ t → InnerGot bs (inner bs) → InnerGot (34 ∷ bs) (closing bs) → InnerGot (b ∷ bs) (pick t (closing bs) (push b (inner bs)))
-inner-case true b bs e p q = rw (eqb-true b 34 e) q
+inner-case : (t : Bool) (b : ℕ) (bs : List ℕ) → eqb b quote ≡ t → InnerGot bs (inner bs) → InnerGot (quote ∷ bs) (closing bs) → InnerGot (b ∷ bs) (pick t (closing bs) (push b (inner bs)))
+inner-case true b bs e p q = rw (eqb-true b quote e) q
 inner-case false b bs e p q = push-byte b bs (inner bs) e p
 
-closing-case : (t : Bool) (b : ℕ) (bs : List ℕ) → eqb b 34 ≡ t → InnerGot bs (inner bs) → InnerGot (34 ∷ b ∷ bs) (pick t (push 34 (inner bs)) (got [] (b ∷ bs)))
-closing-case true b bs e p = rw (eqb-true b 34 e) (push-twice bs (inner bs) p)
+closing-case : (t : Bool) (b : ℕ) (bs : List ℕ) → eqb b quote ≡ t → InnerGot bs (inner bs) → InnerGot (quote ∷ b ∷ bs) (pick t (push quote (inner bs)) (got [] (b ∷ bs)))
+closing-case true b bs e p = rw (eqb-true b quote e) (push-twice bs (inner bs) p)
 closing-case false b bs e p = close
 
 mutual
@@ -93,28 +93,28 @@ mutual
 
   inner-sound : (bs : List ℕ) → InnerGot bs (inner bs)
   inner-sound [] = tt
-  inner-sound (b ∷ bs) = inner-case (eqb b 34) b bs refl (inner-sound bs) (closing-sound bs)
+  inner-sound (b ∷ bs) = inner-case (eqb b quote) b bs refl (inner-sound bs) (closing-sound bs)
 
-  closing-sound : (bs : List ℕ) → InnerGot (34 ∷ bs) (closing bs)
+  closing-sound : (bs : List ℕ) → InnerGot (quote ∷ bs) (closing bs)
   closing-sound [] = close
-  closing-sound (b ∷ bs) = closing-case (eqb b 34) b bs refl (inner-sound bs)
+  closing-sound (b ∷ bs) = closing-case (eqb b quote) b bs refl (inner-sound bs)
 
 abbrev pub FieldGot : List ℕ → Got → Type 0
 FieldGot bs (got v r) = Field bs v r
 FieldGot bs bad = Unit {0}
 
-escaped-got : (bs : List ℕ) (g : Got) → InnerGot bs g → FieldGot (34 ∷ bs) g
+escaped-got : (bs : List ℕ) (g : Got) → InnerGot bs g → FieldGot (quote ∷ bs) g
 escaped-got bs (got v r) p = escaped p
 escaped-got bs bad p = tt
 
-field-case : (t : Bool) (b : ℕ) (bs : List ℕ) → eqb b 34 ≡ t → FieldGot (b ∷ bs) (pick t (inner bs) (got (plainValue (b ∷ bs)) (plainRest (b ∷ bs))))
-field-case true b bs e = rw (eqb-true b 34 e) (escaped-got bs (inner bs) (inner-sound bs))
+field-case : (t : Bool) (b : ℕ) (bs : List ℕ) → eqb b quote ≡ t → FieldGot (b ∷ bs) (pick t (inner bs) (got (plainValue (b ∷ bs)) (plainRest (b ∷ bs))))
+field-case true b bs e = rw (eqb-true b quote e) (escaped-got bs (inner bs) (inner-sound bs))
 field-case false b bs e = nonEscaped (plain-sound (b ∷ bs))
 
 pub field-sound : (bs : List ℕ) → FieldGot bs (fieldAt bs)
 unfolding fieldAt
 field-sound [] = nonEscaped none
-field-sound (b ∷ bs) = field-case (eqb b 34) b bs refl
+field-sound (b ∷ bs) = field-case (eqb b quote) b bs refl
 
 abbrev RecordGot : ℕ → List ℕ → Row → Type 0
 RecordGot n bs (row vs r) = Record bs vs r × (length vs ≡ n)
@@ -123,13 +123,13 @@ RecordGot n bs malformed = Unit {0}
 ended-sound : (bs v r : List ℕ) → Field bs v r → RecordGot 1 bs (ended v r)
 unfolding ended rowEnd
 ended-sound bs v [] f = tt
-ended-sound bs v (b ∷ r) f = go (eqb b 10) refl
+ended-sound bs v (b ∷ r) f = go (eqb b lineFeed) refl
   where
-    go : (t : Bool) → eqb b 10 ≡ t → RecordGot 1 bs (pick (eqb (pick t 1 0) 0) malformed (row (v ∷ []) (drop (pick t 1 0) (b ∷ r))))
-    go true e = (last (rw (eqb-true b 10 e) at f) lf, refl)
+    go : (t : Bool) → eqb b lineFeed ≡ t → RecordGot 1 bs (pick (eqb (pick t 1 0) 0) malformed (row (v ∷ []) (drop (pick t 1 0) (b ∷ r))))
+    go true e = (last (rw (eqb-true b lineFeed e) at f) lf, refl)
     go false e = tt
 
-front-sound : (n : ℕ) (bs v r : List ℕ) (g : Row) → Field bs v (44 ∷ r) → RecordGot (suc n) r g → RecordGot (suc (suc n)) bs (front v g)
+front-sound : (n : ℕ) (bs v r : List ℕ) (g : Row) → Field bs v (comma ∷ r) → RecordGot (suc n) r g → RecordGot (suc (suc n)) bs (front v g)
 front-sound n bs v r malformed f p = tt
 front-sound n bs v r (row [] s) f p = absurd (let h : zero ≡ suc n = p .1 in omega arith)
 front-sound n bs v r (row (w ∷ ws) s) f p = (more f (p .0), ap suc (p .1))
@@ -137,10 +137,10 @@ front-sound n bs v r (row (w ∷ ws) s) f p = (more f (p .0), ap suc (p .1))
 parted-sound : (n : ℕ) (read : List ℕ → Row) → ((r : List ℕ) → RecordGot (suc n) r (read r)) → (bs v r : List ℕ) → Field bs v r → RecordGot (suc (suc n)) bs (parted read v r)
 unfolding parted
 parted-sound n read h bs v [] f = tt
-parted-sound n read h bs v (b ∷ r) f = go (eqb b 44) refl
+parted-sound n read h bs v (b ∷ r) f = go (eqb b comma) refl
   where
-    go : (t : Bool) → eqb b 44 ≡ t → RecordGot (suc (suc n)) bs (pick t (front v (read r)) malformed)
-    go true e = front-sound n bs v r (read r) (rw (eqb-true b 44 e) at f) (h r)
+    go : (t : Bool) → eqb b comma ≡ t → RecordGot (suc (suc n)) bs (pick t (front v (read r)) malformed)
+    go true e = front-sound n bs v r (read r) (rw (eqb-true b comma e) at f) (h r)
     go false e = tt
 
 next-sound : (n : ℕ) (read : List ℕ → Row) → ((r : List ℕ) → RecordGot n r (read r)) → (bs : List ℕ) (g : Got) → FieldGot bs g → RecordGot (suc n) bs (next n read g)
@@ -161,8 +161,8 @@ sound n bs vs r e = rw e at (values-sound n bs)
 
 pub unambiguous : {bs r s : List ℕ} {vs ws : List (List ℕ)} → Record bs vs r → Record bs ws s → row vs r ≡ row ws s
 unambiguous (last f lf) (last g lf) = cc (field-complete f lf-stops, field-complete g lf-stops)
-unambiguous (last f lf) (more g q) = absurd (let e : _≡_ {A = ℕ} 10 44 = cc (field-complete f lf-stops, field-complete g comma-stops) in omega arith)
-unambiguous (more f p) (last g lf) = absurd (let e : _≡_ {A = ℕ} 10 44 = cc (field-complete f comma-stops, field-complete g lf-stops) in omega arith)
+unambiguous (last f lf) (more g q) = absurd (let e : _≡_ {A = ℕ} lineFeed comma = cc (field-complete f lf-stops, field-complete g comma-stops) in omega arith)
+unambiguous (more f p) (last g lf) = absurd (let e : _≡_ {A = ℕ} lineFeed comma = cc (field-complete f comma-stops, field-complete g lf-stops) in omega arith)
 unambiguous (more {cs = cs} f p) (more {cs = ds} g q) =
     let e : cs ≡ ds = cc (field-complete f comma-stops, field-complete g comma-stops) in
     cc (field-complete f comma-stops, field-complete g comma-stops, unambiguous p (rw (← e) at q))
@@ -174,7 +174,7 @@ one-reading p q = (cc (unambiguous p q), cc (unambiguous p q))
 
 special-text : (b : ℕ) → special b ≡ false → isText b ≡ true
 unfolding special isText
-special-text b h = go (eqb b 34) (eqb b 44) (eqb b 13) (eqb b 10) h
+special-text b h = go (eqb b quote) (eqb b comma) (eqb b carriageReturn) (eqb b lineFeed) h
   where
     go : (q c r l : Bool) → (q || (c || (r || l))) ≡ false → not (q || (c || l)) ≡ true
     go true c r l e = sym e
@@ -182,13 +182,13 @@ special-text b h = go (eqb b 34) (eqb b 44) (eqb b 13) (eqb b 10) h
     go false false true l e = absurd (true≢false e)
     go false false false l e = ap not e
 
-doubled-inner : (v r : List ℕ) → Inner (doubled v ++ (34 ∷ r)) v r
+doubled-inner : (v r : List ℕ) → Inner (doubled v ++ (quote ∷ r)) v r
 unfolding doubled
 doubled-inner [] r = close
-doubled-inner (b ∷ v) r = go (eqb b 34) refl (doubled-inner v r)
+doubled-inner (b ∷ v) r = go (eqb b quote) refl (doubled-inner v r)
   where
-    go : (t : Bool) → eqb b 34 ≡ t → Inner (doubled v ++ (34 ∷ r)) v r → Inner (pick t (34 ∷ 34 ∷ doubled v) (b ∷ doubled v) ++ (34 ∷ r)) (b ∷ v) r
-    go true e p = rw (eqb-true b 34 e) (twice p)
+    go : (t : Bool) → eqb b quote ≡ t → Inner (doubled v ++ (quote ∷ r)) v r → Inner (pick t (quote ∷ quote ∷ doubled v) (b ∷ doubled v) ++ (quote ∷ r)) (b ∷ v) r
+    go true e p = rw (eqb-true b quote e) (twice p)
     go false e p = byte e p
 
 plain-writes : (v r : List ℕ) → anySpecial v ≡ false → NonEscaped (v ++ r) v r
@@ -204,14 +204,14 @@ field-writes : (v r : List ℕ) → Field (fieldOf v ++ r) v r
 unfolding fieldOf
 field-writes v r = go (anySpecial v) refl
   where
-    go : (t : Bool) → anySpecial v ≡ t → Field (pick t (34 ∷ doubled v ++ (34 ∷ [])) v ++ r) v r
-    go true e = let p : Inner ((doubled v ++ (34 ∷ [])) ++ r) v r = rw append-assoc (doubled-inner v r) in escaped p
+    go : (t : Bool) → anySpecial v ≡ t → Field (pick t (quote ∷ doubled v ++ (quote ∷ [])) v ++ r) v r
+    go true e = let p : Inner ((doubled v ++ (quote ∷ [])) ++ r) v r = rw append-assoc (doubled-inner v r) in escaped p
     go false e = nonEscaped (plain-writes v r e)
 
 pub writes : (v : List ℕ) (vs : List (List ℕ)) (r : List ℕ) → Record (rowOf (v ∷ vs) ++ r) (v ∷ vs) r
 unfolding rowOf
-writes v [] r = rw append-assoc (last (field-writes v (10 ∷ r)) lf)
-writes v (w ∷ ws) r = rw append-assoc (more (field-writes v (44 ∷ rowOf (w ∷ ws) ++ r)) (writes w ws r))
+writes v [] r = rw append-assoc (last (field-writes v (lineFeed ∷ r)) lf)
+writes v (w ∷ ws) r = rw append-assoc (more (field-writes v (comma ∷ rowOf (w ∷ ws) ++ r)) (writes w ws r))
 
 -- reading what was written gives back the values
 pub read-back : (v : List ℕ) (vs : List (List ℕ)) (r : List ℕ) → values (length (v ∷ vs)) (rowOf (v ∷ vs) ++ r) ≡ row (v ∷ vs) r

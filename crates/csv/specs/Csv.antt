@@ -1,5 +1,5 @@
 -- The rows of a stored table: the grammar of RFC 4180, section 2, rules 5 to 7, rule by rule.
--- Bytes are numbers: 34 is DQUOTE, 44 COMMA, 10 LF, 13 CR. Each rule reads `Rule bytes value rest`: the bytes begin with the rule's
+-- Each rule reads `Rule bytes value rest`: the bytes begin with the rule's
 -- text, which stands for the value; the rest follows it.
 -- 01 departs from the RFC: a row ends in LF and not in CRLF, as the source writes it; a CR outside quotes is a byte of its field; and any
 -- byte is text, not just those the RFC lists.
@@ -9,9 +9,22 @@ use mathlib.Core.Bool.{Bool, true, false, not, _||_}
 use mathlib.Core.Path.{_≡_}
 use mathlib.Core.List.{List, [], _∷_}
 
+-- the bytes DQUOTE, COMMA, CR, LF
+abbrev pub quote : ℕ
+quote = 34
+
+abbrev pub comma : ℕ
+comma = 44
+
+abbrev pub carriageReturn : ℕ
+carriageReturn = 13
+
+abbrev pub lineFeed : ℕ
+lineFeed = 10
+
 -- TEXTDATA: what may stand in a field without quotes
 unfoldable pub isText : ℕ → Bool
-isText b = not (eqb b 34 || (eqb b 44 || eqb b 10))
+isText b = not (eqb b quote || (eqb b comma || eqb b lineFeed))
 
 -- non-escaped = *TEXTDATA
 pub data NonEscaped : List ℕ → List ℕ → List ℕ → Type 0 where
@@ -20,24 +33,28 @@ pub data NonEscaped : List ℕ → List ℕ → List ℕ → Type 0 where
 
 -- what follows the opening quote: *(TEXTDATA / COMMA / CR / LF / 2DQUOTE) DQUOTE
 pub data Inner : List ℕ → List ℕ → List ℕ → Type 0 where
-  close : {r : List ℕ} → Inner (34 ∷ r) [] r
-  byte : {b : ℕ} {bs v r : List ℕ} → eqb b 34 ≡ false → Inner bs v r → Inner (b ∷ bs) (b ∷ v) r
-  twice : {bs v r : List ℕ} → Inner bs v r → Inner (34 ∷ 34 ∷ bs) (34 ∷ v) r
+  close : {r : List ℕ} → Inner (quote ∷ r) [] r
+  byte : {b : ℕ} {bs v r : List ℕ} → eqb b quote ≡ false → Inner bs v r → Inner (b ∷ bs) (b ∷ v) r
+  twice : {bs v r : List ℕ} → Inner bs v r → Inner (quote ∷ quote ∷ bs) (quote ∷ v) r
 
 -- field = escaped / non-escaped, where escaped = DQUOTE *(TEXTDATA / COMMA / CR / LF / 2DQUOTE) DQUOTE
 pub data Field : List ℕ → List ℕ → List ℕ → Type 0 where
-  escaped : {bs v r : List ℕ} → Inner bs v r → Field (34 ∷ bs) v r
+  escaped : {bs v r : List ℕ} → Inner bs v r → Field (quote ∷ bs) v r
   nonEscaped : {bs v r : List ℕ} → NonEscaped bs v r → Field bs v r
 
 -- the end of a row
 pub data RowEnd : List ℕ → List ℕ → Type 0 where
-  lf : {r : List ℕ} → RowEnd (10 ∷ r) r
+  lf : {r : List ℕ} → RowEnd (lineFeed ∷ r) r
 
 -- record = field *(COMMA field), with its row end
 pub data Record : List ℕ → List (List ℕ) → List ℕ → Type 0 where
   last : {bs v e r : List ℕ} → Field bs v e → RowEnd e r → Record bs (v ∷ []) r
-  more : {bs v w cs r : List ℕ} {ws : List (List ℕ)} → Field bs v (44 ∷ cs) → Record cs (w ∷ ws) r → Record bs (v ∷ w ∷ ws) r
+  more : {bs v w cs r : List ℕ} {ws : List (List ℕ)} → Field bs v (comma ∷ cs) → Record cs (w ∷ ws) r → Record bs (v ∷ w ∷ ws) r
 
 -- 01's limit: how many bytes a row may have, with its LF
 abbrev pub maxRow : ℕ
 maxRow = 8192
+
+-- the most columns of a table
+abbrev pub maxColumns : ℕ
+maxColumns = 10

@@ -4,7 +4,7 @@ use lib.Dec.{eqb}
 use Rattle.base.specs.Number.{pick}
 use mathlib.Core.List.{List, [], _∷_}
 use lib.ListN.{getD, drop}
-use Rattle.csv.specs.Csv.{isText}
+use Rattle.csv.specs.Csv.{isText, quote, comma, lineFeed}
 
 -- a value and what follows it
 pub data Got : Type 0 where
@@ -29,16 +29,16 @@ plainRest (b ∷ bs) = pick (isText b) (plainRest bs) (b ∷ bs)
 unfoldable mutual
   pub inner : List ℕ → Got
   inner [] = bad
-  inner (b ∷ bs) = pick (eqb b 34) (closing bs) (push b (inner bs))
+  inner (b ∷ bs) = pick (eqb b quote) (closing bs) (push b (inner bs))
 
   pub closing : List ℕ → Got
   closing [] = got [] []
-  closing (b ∷ bs) = pick (eqb b 34) (push 34 (inner bs)) (got [] (b ∷ bs))
+  closing (b ∷ bs) = pick (eqb b quote) (push quote (inner bs)) (got [] (b ∷ bs))
 
 -- the field at the front
 unfoldable pub fieldAt : List ℕ → Got
 fieldAt [] = got [] []
-fieldAt (b ∷ bs) = pick (eqb b 34) (inner bs) (got (plainValue (b ∷ bs)) (plainRest (b ∷ bs)))
+fieldAt (b ∷ bs) = pick (eqb b quote) (inner bs) (got (plainValue (b ∷ bs)) (plainRest (b ∷ bs)))
 
 -- the values of a row and what follows it
 pub data Row : Type 0 where
@@ -52,7 +52,7 @@ front v malformed = malformed
 
 -- how many bytes of row end are at the front, 0 for none
 unfoldable pub rowEnd : List ℕ → ℕ
-rowEnd bs = pick (eqb (getD bs 0 0) 10) 1 0
+rowEnd bs = pick (eqb (getD bs 0 0) lineFeed) 1 0
 
 -- behind the last value: a row end; behind another: a comma, where `more` reads on
 unfoldable pub ended : List ℕ → List ℕ → Row
@@ -60,7 +60,7 @@ ended v bs = pick (eqb (rowEnd bs) 0) malformed (row (v ∷ []) (drop (rowEnd bs
 
 unfoldable pub parted : (List ℕ → Row) → List ℕ → List ℕ → Row
 parted more v [] = malformed
-parted more v (b ∷ r) = pick (eqb b 44) (front v (more r)) malformed
+parted more v (b ∷ r) = pick (eqb b comma) (front v (more r)) malformed
 
 -- behind a value that is the last, or has n behind it
 abbrev pub next : ℕ → (List ℕ → Row) → Got → Row

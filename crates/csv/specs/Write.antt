@@ -4,10 +4,11 @@ use lib.Dec.{eqb}
 use mathlib.Core.Bool.{Bool, false, _||_}
 use Rattle.base.specs.Number.{pick}
 use mathlib.Core.List.{List, [], _∷_, _++_}
+use Rattle.csv.specs.Csv.{quote, comma, carriageReturn, lineFeed}
 
 -- a byte for whose sake a value is quoted: "a quote, comma, CR or LF"
 unfoldable pub special : ℕ → Bool
-special b = eqb b 34 || (eqb b 44 || (eqb b 13 || eqb b 10))
+special b = eqb b quote || (eqb b comma || (eqb b carriageReturn || eqb b lineFeed))
 
 -- a value has one of these
 unfoldable pub anySpecial : List ℕ → Bool
@@ -17,16 +18,16 @@ anySpecial (b ∷ v) = special b || anySpecial v
 -- "inner quotes double"
 unfoldable pub doubled : List ℕ → List ℕ
 doubled [] = []
-doubled (b ∷ v) = pick (eqb b 34) (34 ∷ 34 ∷ doubled v) (b ∷ doubled v)
+doubled (b ∷ v) = pick (eqb b quote) (quote ∷ quote ∷ doubled v) (b ∷ doubled v)
 
 -- a value, quoted where it has to be
 unfoldable pub fieldOf : List ℕ → List ℕ
-fieldOf v = pick (anySpecial v) (34 ∷ doubled v ++ (34 ∷ [])) v
+fieldOf v = pick (anySpecial v) (quote ∷ doubled v ++ (quote ∷ [])) v
 
 -- what stands behind a field: LF behind the last, else a comma
 abbrev pub behind : List (List ℕ) → ℕ
-behind [] = 10
-behind (v ∷ vs) = 44
+behind [] = lineFeed
+behind (v ∷ vs) = comma
 
 -- the row of some values
 unfoldable pub rowOf : List (List ℕ) → List ℕ

@@ -1,5 +1,19 @@
-// Rows by RFC 4180. The function does nothing: its contract is what is proved of the definitions.
+// Rows by RFC 4180: their bytes and their size. The function does nothing: its contract is what is proved of the definitions.
 ghost use Rattle.csv.specs.Claims.{Claims};
+
+pub const QUOTE: u8 = 34;
+
+pub const COMMA: u8 = 44;
+
+pub const CR: u8 = 13;
+
+pub const LF: u8 = 10;
+
+// The most bytes of a row.
+pub const MAX_ROW: usize = 8192;
+
+// The most columns of a table.
+pub const MAX_COLUMNS: usize = 10;
 
 pub fn rows_hold()
     ensures { λ _. ⌜ Claims ⌝ }

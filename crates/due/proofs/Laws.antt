@@ -12,7 +12,7 @@ use borrow.Author.Tests.{eqb-true, eq-eqb, ne-eqb, ltb-true}
 use Rattle.base.specs.Number.{pick}
 use Rattle.base.specs.Lists.{fill}
 use Rattle.base.proofs.Lists.{fill-split, length-fill, drop-new}
-use Rattle.region.specs.Region.{regionSize, bankSize, capacity, sectorSize}
+use Rattle.region.specs.Region.{regionSize, bankSize, capacity, sectorSize, lastSector}
 use Rattle.base.proofs.Bools.{and-left, and-right}
 use Rattle.flash.specs.Flash.{Op, place, size, after, performed}
 use Rattle.flash.proofs.Laws.{after-fits}
@@ -26,7 +26,7 @@ use Rattle.writer.specs.declared.Stage.the-variants.{Idle, Due, Headed, Committ
 use Rattle.writer.specs.declared.Taken.{Taken}
 use Rattle.writer.specs.declared.Writer.{Writer}
 use Rattle.writer.specs.declared.Step.{Step}
-use Rattle.writer.specs.State.{position, isDue, aligned, takenOk, operationOk, stageOk, inRange, target, dataDue, writeDue, stays, tailSize}
+use Rattle.writer.specs.State.{position, isDue, aligned, takenOk, operationOk, stageOk, inRange, target, dataDue, writeDue, stays, tailSize, lastWrite}
 use Rattle.writer.proofs.Laws.{ranged, fill-fits, position-fits}
 use Rattle.due.specs.Due.{padded, opsOf, dueOps, dueRegion, differs, withStage, withEmptied, operated, stepOf, dueStep}
 
@@ -106,22 +106,22 @@ module _ (t : Taken) where
       multiple-by h (or-cases (eqb (t .written % tailSize) 0) (t .closed && eqb (t .fill) 0) (and-right p a (and-right (leb (t .fill) tailSize) (p && a) e)))
 
   -- and a whole tail has its place in the data
-  pub tail-fits : takenOk t ≡ true → isDue t ≡ true → t .written ≤ 487168
+  pub tail-fits : takenOk t ≡ true → isDue t ≡ true → t .written ≤ lastWrite
   tail-fits e d = omega (arith, multiple e (fill-some d), fill-some d, position-fits t e)
 
   module _ (c : Bool) where
-    sector-by : (k : ℕ) → t .written ≤ 487168 → ((eqb (t .written) 0 && eqb k 0) ≡ true) ⊎ ((eqb (t .written % sectorSize) 0 && eqb k (t .written / sectorSize + 1)) ≡ true) → k ≤ 119
+    sector-by : (k : ℕ) → t .written ≤ lastWrite → ((eqb (t .written) 0 && eqb k 0) ≡ true) ⊎ ((eqb (t .written % sectorSize) 0 && eqb k (t .written / sectorSize + 1)) ≡ true) → k ≤ lastSector
     sector-by k h (inl e) = omega (arith, eqb-true k 0 (and-right (eqb (t .written) 0) (eqb k 0) e))
     sector-by k h (inr e) = omega (arith, eqb-true k (t .written / sectorSize + 1) (and-right (eqb (t .written % sectorSize) 0) (eqb k (t .written / sectorSize + 1)) e))
 
-    pub sector-fits : (k : ℕ) → takenOk t ≡ true → isDue t ≡ true → operationOk c t (Erase k) ≡ true → k ≤ 119
+    pub sector-fits : (k : ℕ) → takenOk t ≡ true → isDue t ≡ true → operationOk c t (Erase k) ≡ true → k ≤ lastSector
     unfolding operationOk
     sector-fits k e d o =
         let x = eqb (t .written) 0 && eqb k 0 in
         let y = eqb (t .written % sectorSize) 0 && eqb k (t .written / sectorSize + 1) in
         sector-by k (tail-fits e d) (or-cases x y (and-right (not c) (x || y) o))
 
-    pub write-fits : (a n : ℕ) → takenOk t ≡ true → isDue t ≡ true → operationOk c t (Write a n) ≡ true → (n ≤ tailSize) × (a ≤ 487168)
+    pub write-fits : (a n : ℕ) → takenOk t ≡ true → isDue t ≡ true → operationOk c t (Write a n) ≡ true → (n ≤ tailSize) × (a ≤ lastWrite)
     unfolding operationOk
     write-fits a n e d o =
         let x = eqb a (t .written) in
@@ -140,10 +140,10 @@ module _ (w : Writer) (o : Operation) (e : inRange w ≡ true) (s : w .stage ≡
   pub is-ok : operationOk (w .beginning .comparing) (w .taken) o ≡ true
   is-ok = and-right (isDue (w .taken)) (operationOk (w .beginning .comparing) (w .taken) o) due-and
 
-pub erase-ranged : (w : Writer) (k : ℕ) → inRange w ≡ true → w .stage ≡ Due (Erase k) → k ≤ 119
+pub erase-ranged : (w : Writer) (k : ℕ) → inRange w ≡ true → w .stage ≡ Due (Erase k) → k ≤ lastSector
 erase-ranged w k e s = sector-fits (w .taken) (w .beginning .comparing) k (ranged w e .taken) (is-due w (Erase k) e s) (is-ok w (Erase k) e s)
 
-pub write-ranged : (w : Writer) (a n : ℕ) → inRange w ≡ true → w .stage ≡ Due (Write a n) → (n ≤ tailSize) × (a ≤ 487168)
+pub write-ranged : (w : Writer) (a n : ℕ) → inRange w ≡ true → w .stage ≡ Due (Write a n) → (n ≤ tailSize) × (a ≤ lastWrite)
 write-ranged w a n e s = write-fits (w .taken) (w .beginning .comparing) a n (ranged w e .taken) (is-due w (Write a n) e s) (is-ok w (Write a n) e s)
 
 -- ---- the state after

@@ -16,8 +16,8 @@ ghost use Rattle.writer.specs.declared.Stage.the-variants as Stages;
 ghost use Rattle.writer.specs.State as State;
 ghost use Rattle.writer.specs.Parts.{withSources, stepWith};
 ghost use Rattle.due.specs.Due as Due;
-ghost use Rattle.region.specs.Region.{regionSize, capacity, sectorSize};
-ghost use Rattle.writer.specs.State.{tailSize};
+ghost use Rattle.region.specs.Region.{regionSize, capacity, sectorSize, lastSector};
+ghost use Rattle.writer.specs.State.{tailSize, lastWrite};
 use bank::Loaded;
 use base::slice::part;
 use base::slice::same_bytes;
@@ -147,7 +147,7 @@ fn after_erase(p: Parts, sector: u32) -> Parts
 }
 
 fn do_erase(p: Parts, region: &mut [u8], sector: u32) -> PartsStep
-    requires { ⌜ (length (now region) ≡ regionSize) × (sector ≤ 119) ⌝ }
+    requires { ⌜ (length (now region) ≡ regionSize) × (sector ≤ lastSector) ⌝ }
     ensures { λ r. ⌜ ((ss : List Source) → stepWith r ss ≡ State.did (Due.operated (now (region .entry)) (withSources p ss) (Operations.Erase sector))) × (now (region .exit) ≡ performed (State.target (p .beginning .active)) (Due.opsOf (p .tail) (Stages.Due (Operations.Erase sector))) (now (region .entry))) ⌝ }
 {
     let b = p.beginning;
@@ -159,7 +159,7 @@ fn do_erase(p: Parts, region: &mut [u8], sector: u32) -> PartsStep
 }
 
 fn do_write(p: Parts, region: &mut [u8], offset: u32, n: u32) -> PartsStep
-    requires { ⌜ (length (now region) ≡ regionSize) × (n ≤ tailSize) × (offset ≤ 487168) × (State.position (p .taken) ≤ capacity) ⌝ }
+    requires { ⌜ (length (now region) ≡ regionSize) × (n ≤ tailSize) × (offset ≤ lastWrite) × (State.position (p .taken) ≤ capacity) ⌝ }
     ensures { λ r. ⌜ ((ss : List Source) → stepWith r ss ≡ State.did (Due.operated (now (region .entry)) (withSources p ss) (Operations.Write offset n))) × (now (region .exit) ≡ performed (State.target (p .beginning .active)) (Due.opsOf (p .tail) (Stages.Due (Operations.Write offset n))) (now (region .entry))) ⌝ }
 {
     let b = p.beginning;

@@ -22,7 +22,7 @@ use Rattle.base.proofs.Bools.{and-left, and-right}
 use Rattle.header.specs.declared.Bank.{Bank}
 use Rattle.header.specs.declared.Validated.{Validated}
 use Rattle.header.specs.declared.Validated.the-variants.{Good, Refused}
-use Rattle.header.specs.Header.{isUnknown, lengthOk, keyOk, countOk, spanOk, numbersOf, recordsOf, sourceOk, judge, marked, sealed, headerOf}
+use Rattle.header.specs.Header.{isUnknown, lengthOk, keyOk, countOk, spanOk, numbersOf, recordsOf, sourceOk, judge, marked, sealed, headerOf, maxSources}
 use Rattle.region.specs.Region.{capacity}
 
 -- the lowest value, by its bits
@@ -62,7 +62,7 @@ span-key b e =
     let r = and-left (keyOk b) (countOk b && leZ (pos 0) (b .checked)) (and-right (lengthOk b) (keyOk b && (countOk b && leZ (pos 0) (b .checked))) e) in
     leb-true (b .key) (b .length) (and-right (leb 1 (b .key)) (leb (b .key) (b .length)) r)
 
-pub span-count : (b : Bank) → spanOk b ≡ true → b .count ≤ 3
+pub span-count : (b : Bank) → spanOk b ≡ true → b .count ≤ maxSources
 unfolding spanOk
 span-count b e =
     let t = leZ (pos 0) (b .checked) in

@@ -25,7 +25,7 @@ use Rattle.record.proofs.Back.{reads-back}
 use Rattle.refusal.specs.declared.Refusal.the-variants.{Span, Source as BadSource}
 use Rattle.header.specs.declared.Bank.{Bank}
 use Rattle.header.specs.declared.Validated.the-variants.{Good, Refused}
-use Rattle.header.specs.Header.{numbersOf, recordAt, recordsOf, magic, commitWord, marked, headerCrc, sealed, spanOk, sourceOk, judge, headerOf}
+use Rattle.header.specs.Header.{numbersOf, recordAt, recordsOf, magic, commitWord, marked, headerCrc, sealed, spanOk, sourceOk, judge, headerOf, maxSources, headerSize}
 use Rattle.header.proofs.Laws.{span-count, not-marked}
 use Rattle.header.specs.WriteHeader.{firstBytes, secondBytes, numberBytes, recordBytes, crcOf, headerBytes, blankWord, commitBytes, passes, textOk, isFit}
 use Rattle.header.specs.Types.{Bytes, TextBytes, Proper, Numbers}
@@ -57,7 +57,7 @@ pub header-split : (b : Bank) (ss : List Source) (w : List ℕ) → headerBytes 
 unfolding headerBytes topBytes
 header-split b ss w = sym (append-assoc (numberBytes b) (le32 (crcOf b ss)) (w ++ recordBytes ss))
 
-pub length-header : (b : Bank) (ss : List Source) (w : List ℕ) → All Proper ss → length ss ≤ 3 → length w ≡ 4 → length (headerBytes b ss w) ≡ 1200
+pub length-header : (b : Bank) (ss : List Source) (w : List ℕ) → All Proper ss → length ss ≤ 3 → length w ≡ 4 → length (headerBytes b ss w) ≡ headerSize
 length-header b ss w ps n e =
     ap length (header-split b ss w)
     ∙ length-append (topBytes b ss) (w ++ recordBytes ss)
@@ -337,7 +337,7 @@ unfolding isFit
 fit-passes b ss f = and-left (passes (judge b ss)) (each textOk ss) f
 
 -- a bank that passes 13 has at most three records, and is good once it is committed
-pub fit-count : (b : Bank) (ss : List Source) → isFit b ss ≡ true → b .count ≤ 3
+pub fit-count : (b : Bank) (ss : List Source) → isFit b ss ≡ true → b .count ≤ maxSources
 fit-count b ss f = span-count b (and-left (spanOk b) (each (sourceOk b) ss) (sym (judge-is b ss) ∙ fit-passes b ss f))
 
 pub committed : Committed

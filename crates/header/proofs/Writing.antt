@@ -20,17 +20,17 @@ use Rattle.base.proofs.Lists.{next, fill-split, sets-mid, length-fill}
 use Rattle.refusal.specs.declared.Refusal.the-variants.{Span, Source as BadSource}
 use Rattle.header.specs.declared.Bank.{Bank}
 use Rattle.header.specs.declared.Validated.the-variants.{Good, Refused}
-use Rattle.header.specs.Header.{magic, spanOk, sourceOk, judge}
+use Rattle.header.specs.Header.{magic, spanOk, sourceOk, judge, headerSize}
 use Rattle.header.specs.WriteHeader.{firstBytes, secondBytes, numberBytes, recordBytes, crcOf, headerBytes, blankWord, passes}
 
 -- a number that fits in 1,200 bytes is stored, and there are 1,200 again
-put-fits : (l : List ℕ) (at n : ℕ) → length l ≡ 1200 → at + 4 ≤ 1200 → written l at (le32 n) ≡ sets l at (le32 n)
+put-fits : (l : List ℕ) (at n : ℕ) → length l ≡ headerSize → at + 4 ≤ headerSize → written l at (le32 n) ≡ sets l at (le32 n)
 put-fits l at n e h = written-sets l at (le32 n) (rw (length-le32 n, e) h)
 
-time-fits : (l : List ℕ) (at : ℕ) (z : ℤ) → length l ≡ 1200 → at + 8 ≤ 1200 → written l at (le64 z) ≡ sets l at (le64 z)
+time-fits : (l : List ℕ) (at : ℕ) (z : ℤ) → length l ≡ headerSize → at + 8 ≤ headerSize → written l at (le64 z) ≡ sets l at (le64 z)
 time-fits l at z e h = written-sets l at (le64 z) (rw (length-le64 z, e) h)
 
-kept : (l : List ℕ) (at : ℕ) (v : List ℕ) → length l ≡ 1200 → length (sets l at v) ≡ 1200
+kept : (l : List ℕ) (at : ℕ) (v : List ℕ) → length l ≡ headerSize → length (sets l at v) ≡ headerSize
 kept l at v e = length-sets l at v ∙ e
 
 magic-is : 1128682580 ≡ magic
@@ -63,7 +63,7 @@ second-is l b =
     ∙ ap (λ (x : List ℕ). sets x 32 t) (next l (d ++ n ++ k) z 16 12 refl)
     ∙ next l (d ++ n ++ k ++ z) t 16 16 refl
 
-pub first-written : (l : List ℕ) (b : Bank) → length l ≡ 1200
+pub first-written : (l : List ℕ) (b : Bank) → length l ≡ headerSize
     → written (written (written (written l 0 (le32 1128682580)) 4 (le32 (b .version))) 8 (le32 (b .generation))) 12 (le32 (b .length)) ≡ sets l 0 (firstBytes b)
 first-written l b e =
     let l₁ = sets l 0 (le32 magic) in
@@ -81,7 +81,7 @@ first-written l b e =
     )
     (first-is l b)
 
-pub second-written : (l : List ℕ) (b : Bank) → length l ≡ 1200
+pub second-written : (l : List ℕ) (b : Bank) → length l ≡ headerSize
     → written (written (written (written (written l 16 (le32 (b .crc))) 20 (le32 (b .count))) 24 (le32 (b .key))) 28 (le32 0)) 32 (le64 (b .checked)) ≡ sets l 16 (secondBytes b)
 second-written l b e =
     let l₁ = sets l 16 (le32 (b .crc)) in
@@ -110,18 +110,18 @@ unfolding firstBytes le32
 numbers-are l b = next l (firstBytes b) (secondBytes b) 0 16 refl
 
 -- 40 bytes and m from 48 on, put into 1,200 zeros
-bare-over : (f r : List ℕ) (m k : ℕ) → length f ≡ 40 → length r ≡ m → m + k ≡ 1152 → sets (sets (fill 0 1200) 0 f) 48 r ≡ f ++ (fill 0 8 ++ (r ++ fill 0 k))
+bare-over : (f r : List ℕ) (m k : ℕ) → length f ≡ 40 → length r ≡ m → m + k ≡ 1152 → sets (sets (fill 0 headerSize) 0 f) 48 r ≡ f ++ (fill 0 8 ++ (r ++ fill 0 k))
 bare-over f r m k lf lr e =
     let x : List ℕ = fill 0 m in
     let y : List ℕ = fill 0 k in
     let z : List ℕ = fill 0 8 in
     let d : fill {A = ℕ} 0 1152 ≡ x ++ y = ap (fill {A = ℕ} 0) (sym e) ∙ fill-split 0 m k in
-    let g : sets (fill 0 1200) 0 f ≡ f ++ (z ++ fill 0 1152) =
+    let g : sets (fill 0 headerSize) 0 f ≡ f ++ (z ++ fill 0 1152) =
     ap (λ (t : List ℕ). sets t 0 f) (fill-split 0 40 1160)
     ∙ sets-mid [] (fill 0 40) f (fill 0 1160) 0 refl (length-fill {A = ℕ} 0 40 ∙ sym lf)
     ∙ ap (λ (t : List ℕ). f ++ t) (fill-split 0 8 1152) in
     let q : length (f ++ z) ≡ 48 = length-append f z ∙ omega (arith, length-fill {A = ℕ} 0 8) in
-    let h : sets (fill 0 1200) 0 f ≡ (f ++ z) ++ (x ++ y) = g ∙ rw d (sym (append-assoc f z (x ++ y))) in
+    let h : sets (fill 0 headerSize) 0 f ≡ (f ++ z) ++ (x ++ y) = g ∙ rw d (sym (append-assoc f z (x ++ y))) in
     rw (h, sets-mid (f ++ z) x r y 48 q (length-fill {A = ℕ} 0 m ∙ sym lr)) (append-assoc f z (r ++ y))
 
 -- and eight bytes put between
@@ -139,7 +139,7 @@ word-is = refl
 
 -- the header without its CRC and commit word
 bare-is : (b : Bank) (ss : List Source) → length (puts sourceBytes ss) ≡ length ss * 384 → length ss ≤ 3
-    → sets (sets (fill 0 1200) 0 (numberBytes b)) 48 (puts sourceBytes ss) ≡ numberBytes b ++ (fill 0 8 ++ recordBytes ss)
+    → sets (sets (fill 0 headerSize) 0 (numberBytes b)) 48 (puts sourceBytes ss) ≡ numberBytes b ++ (fill 0 8 ++ recordBytes ss)
 unfolding recordBytes
 bare-is b ss m c = bare-over (numberBytes b) (puts sourceBytes ss) (length ss * 384) ((3 - length ss) * 384) (length-numbers b) m (omega arith)
 
@@ -180,20 +180,20 @@ below-count ss n e = by-size (leb n 3) refl
 -- ---- the whole header
 
 pub header-written : (b : Bank) (ss : List Source) (n : ℕ) (l : List ℕ) → length ss ≡ 3 → n ≡ min (b .count) 3 → length (puts sourceBytes (take n ss)) ≡ n * 384
-    → l ≡ sets (sets (sets (fill 0 1200) 0 (firstBytes b)) 16 (secondBytes b)) 48 (puts sourceBytes (take n ss))
+    → l ≡ sets (sets (sets (fill 0 headerSize) 0 (firstBytes b)) 16 (secondBytes b)) 48 (puts sourceBytes (take n ss))
     → written (written l 40 (le32 (crc32 0 l))) 44 (le32 4294967295) ≡ headerBytes b (take (b .count) ss) blankWord
 unfolding crcOf
 header-written b ss n l three en m e =
     let t = take n ss in
     let k : length t ≡ n = length-take-le n ss (omega arith) in
-    let z : List ℕ = fill 0 1200 in
+    let z : List ℕ = fill 0 headerSize in
     let l₁ = sets z 0 (firstBytes b) in
     let l₂ = sets l₁ 16 (secondBytes b) in
-    let e₂ = kept l₁ 16 (secondBytes b) (kept z 0 (firstBytes b) (length-fill {A = ℕ} 0 1200)) in
-    let e₃ : length l ≡ 1200 = ap length e ∙ kept l₂ 48 (puts sourceBytes t) e₂ in
+    let e₂ = kept l₁ 16 (secondBytes b) (kept z 0 (firstBytes b) (length-fill {A = ℕ} 0 headerSize)) in
+    let e₃ : length l ≡ headerSize = ap length e ∙ kept l₂ 48 (puts sourceBytes t) e₂ in
     let bare : l ≡ numberBytes b ++ (fill 0 8 ++ recordBytes t) = e ∙ ap (λ (x : List ℕ). sets x 48 (puts sourceBytes t)) (numbers-are z b) ∙ bare-is b t (m ∙ ap (λ (j : ℕ). j * 384) (sym k)) (omega arith) in
     let s = le32 (crc32 0 l) in
-    let e₄ : length (sets l 40 s) ≡ 1200 = kept l 40 s e₃ in
+    let e₄ : length (sets l 40 s) ≡ headerSize = kept l 40 s e₃ in
     rw (put-fits l 40 (crc32 0 l) e₃ (omega arith), put-fits (sets l 40 s) 44 4294967295 e₄ (omega arith), word-is)
     (ap (λ (x : List ℕ). sets (sets x 40 (le32 (crc32 0 x))) 44 blankWord) bare
     ∙ header-is b t

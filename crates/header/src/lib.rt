@@ -22,6 +22,7 @@ ghost use Rattle.header.specs.Header.{
 use base::number::le;
 use base::number::wider;
 use base::slice::part;
+use base::table::TABLES;
 use leaf::bytes::get;
 use leaf::bytes::get_time;
 use leaf::crc::crc32;
@@ -29,7 +30,6 @@ use leaf::date::valid_date;
 use record::Block;
 use record::RECORD_SIZE;
 use record::Source;
-use record::TABLES;
 use record::VERSION;
 use record::decode;
 use record::source_size;

@@ -7,6 +7,7 @@ ghost use Rattle.record.specs.Types.{Sized};
 ghost use Rattle.record.specs.Record.{sourceBytes};
 ghost use Rattle.base.specs.Lists.{puts, fill};
 ghost use Rattle.header.specs.WriteHeader.{
+ghost use Rattle.header.specs.Header.{headerSize};
   firstBytes,
   secondBytes,
   headerBytes,
@@ -33,7 +34,7 @@ use record::ORIGINAL_WORDS;
 use record::RECORD_SIZE;
 use record::STAMP_SIZE;
 use record::Source;
-use record::TABLES;
+use base::table::TABLES;
 use record::VALIDATOR_SIZE;
 use record::encode;
 
@@ -49,13 +50,13 @@ fn records(count: u32) -> usize
 }
 
 fn zeros() -> [u8; HEADER_SIZE]
-    ensures { λ r. ⌜ r ≡ fill 0 1200 ⌝ }
+    ensures { λ r. ⌜ r ≡ fill 0 headerSize ⌝ }
 {
     [0u8; HEADER_SIZE]
 }
 
 fn put_first(out: &mut [u8], b: Bank)
-    requires { ⌜ length (now out) ≡ 1200 ⌝ }
+    requires { ⌜ length (now out) ≡ headerSize ⌝ }
     ensures { λ _. ⌜ now (out .exit) ≡ sets (now (out .entry)) 0 (firstBytes b) ⌝ }
 {
     put(out, 0, 0x43465454);
@@ -65,7 +66,7 @@ fn put_first(out: &mut [u8], b: Bank)
 }
 
 fn put_second(out: &mut [u8], b: Bank)
-    requires { ⌜ length (now out) ≡ 1200 ⌝ }
+    requires { ⌜ length (now out) ≡ headerSize ⌝ }
     ensures { λ _. ⌜ now (out .exit) ≡ sets (now (out .entry)) 16 (secondBytes b) ⌝ }
 {
     put(out, 16, b.crc);
@@ -99,7 +100,7 @@ fn is_sized(s: Source)
 
 // The first n records, one after the other.
 fn put_records(out: &mut [u8], ss: [Source; SOURCES], n: usize)
-    requires { ⌜ (n ≤ 3) × (length (now out) ≡ 1200) ⌝ }
+    requires { ⌜ (n ≤ 3) × (length (now out) ≡ headerSize) ⌝ }
     ensures { λ _. ⌜ (now (out .exit) ≡ sets (now (out .entry)) 48 (puts sourceBytes (take n ss))) × (length (puts sourceBytes (take n ss)) ≡ n * 384) × (length ss ≡ 3) ⌝ }
 {
     let mut i = 0;
@@ -112,7 +113,7 @@ fn put_records(out: &mut [u8], ss: [Source; SOURCES], n: usize)
 }
 
 fn put_header(out: &mut [u8], b: Bank, ss: [Source; SOURCES])
-    requires { ⌜ (length (now out) ≡ 1200) × (now out ≡ fill 0 1200) ⌝ }
+    requires { ⌜ (length (now out) ≡ headerSize) × (now out ≡ fill 0 headerSize) ⌝ }
     ensures { λ _. ⌜ now (out .exit) ≡ headerBytes b (take (b .count) ss) blankWord ⌝ }
 {
     put_first(out, b);

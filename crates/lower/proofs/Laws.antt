@@ -17,13 +17,15 @@ use Rattle.writer.proofs.Laws.{ranged, fill-fits, position-fits}
 use Rattle.lower.specs.Lower.{mayTake, mayBegin, withSource, sourceStep, withTable, tableStep, withEnd, endStep, withClosed, closeStep, room, withBytes, took, bytesStep}
 use Rattle.writer.specs.declared.Answer.the-variants.{Took}
 use Rattle.region.specs.Region.{capacity}
+use Rattle.base.specs.Table.{lastTable}
+use Rattle.header.specs.Header.{maxSources}
 
 module _ (w : Writer) (s : Source) where
-  pub source-done : (mayTake w && not (isOpen (w .tables))) ≡ true → w .tables .count < 3 → did (withSource w s) ≡ sourceStep w s
+  pub source-done : (mayTake w && not (isOpen (w .tables))) ≡ true → w .tables .count < maxSources → did (withSource w s) ≡ sourceStep w s
   unfolding sourceStep
   source-done e h = rw (e, lt-ltb (w .tables .count) 3 h)
 
-  pub source-full : (mayTake w && not (isOpen (w .tables))) ≡ true → 3 ≤ w .tables .count → stays w Full ≡ sourceStep w s
+  pub source-full : (mayTake w && not (isOpen (w .tables))) ≡ true → maxSources ≤ w .tables .count → stays w Full ≡ sourceStep w s
   unfolding sourceStep
   source-full e h = rw (e, le-ltb (w .tables .count) 3 h)
 
@@ -32,15 +34,15 @@ module _ (w : Writer) (s : Source) where
   source-turn e = rw e
 
 module _ (w : Writer) (t : ℕ) where
-  pub table-done : t ≤ 7 → (mayTake w && mayBegin (w .tables) t) ≡ true → did (withTable w t) ≡ tableStep w t
+  pub table-done : t ≤ lastTable → (mayTake w && mayBegin (w .tables) t) ≡ true → did (withTable w t) ≡ tableStep w t
   unfolding tableStep
   table-done h e = rw (le-leb t 7 h, e)
 
-  pub table-turn : t ≤ 7 → (mayTake w && mayBegin (w .tables) t) ≡ false → stays w Turn ≡ tableStep w t
+  pub table-turn : t ≤ lastTable → (mayTake w && mayBegin (w .tables) t) ≡ false → stays w Turn ≡ tableStep w t
   unfolding tableStep
   table-turn h e = rw (le-leb t 7 h, e)
 
-  pub table-argument : 7 < t → stays w Argument ≡ tableStep w t
+  pub table-argument : lastTable < t → stays w Argument ≡ tableStep w t
   unfolding tableStep
   table-argument h = rw (lt-leb t 7 h)
 
@@ -88,7 +90,7 @@ pub takes-fits : (w : Writer) → mayTake w ≡ true → (w .taken .fill ≤ tai
 takes-fits w m = let t = ranged w (and-left (inRange w) (not (w .taken .closed)) m) .taken in (fill-fits (w .taken) t, position-fits (w .taken) t)
 
 -- a bit by a shift
-pub shifted : (t : ℕ) → t ≤ 7 → (1 * 2 ^ t) % 4294967296 ≡ 2 ^ t
+pub shifted : (t : ℕ) → t ≤ lastTable → (1 * 2 ^ t) % 4294967296 ≡ 2 ^ t
 shifted zero h = refl
 shifted (suc zero) h = refl
 shifted (suc (suc zero)) h = refl

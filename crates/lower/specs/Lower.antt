@@ -12,7 +12,7 @@ use Rattle.leaf.specs.Crc.{crc32}
 use Rattle.refusal.specs.declared.Refusal.the-variants.{Argument, Full, Turn}
 use Rattle.record.specs.declared.Block.{Block}
 use Rattle.record.specs.declared.Source.{Source}
-use Rattle.record.specs.Record.{maxTables, lastTable, noBlock, noSource}
+use Rattle.record.specs.Record.{noBlock, noSource}
 use Rattle.header.specs.Header.{maxSources}
 use Rattle.base.specs.Lists.{fill}
 use Rattle.region.specs.Region.{capacity}
@@ -27,6 +27,7 @@ use Rattle.writer.specs.declared.Answer.{Answer}
 use Rattle.writer.specs.declared.Answer.the-variants.{Done, Took, Refused}
 use Rattle.writer.specs.declared.Step.{Step}
 use Rattle.writer.specs.State.{did, stays, tailSize, position, isDue, stageOf, noTable, isOpen, begunIn, inRange}
+use Rattle.base.specs.Table.{maxTables, lastTable}
 
 -- Begin: the region is loaded; only 1 is refused, and then every call on the state meets 11.
 abbrev pub answerOf : Loaded → Answer

@@ -2,12 +2,13 @@
 ghost use mathlib.Core.Path.{_≡_};
 ghost use Prim.Native.Nat.{_<_};
 ghost use Rattle.lower.specs.Lower as Lower;
+ghost use Rattle.header.specs.Header.{maxSources};
 use crate::is_open;
 use crate::may_take;
+use base::table::TABLES;
 use header::SOURCES_32;
 use record::Block;
 use record::Source;
-use record::TABLES;
 use refusal::Refusal;
 use writer::NO_TABLE;
 use writer::Step;
@@ -29,7 +30,7 @@ fn emptied(s: Source) -> Source
 }
 
 fn with_source(w: Writer, s: Source) -> Writer
-    requires { ⌜ w .tables .count < 3 ⌝ }
+    requires { ⌜ w .tables .count < maxSources ⌝ }
     ensures { λ r. ⌜ r ≡ Lower.withSource w s ⌝ }
 {
     let x = w.tables;

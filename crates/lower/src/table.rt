@@ -16,11 +16,13 @@ use writer::did;
 use writer::stays;
 ghost use Prim.Native.Nat.{_≤_};
 ghost use Rattle.region.specs.Region.{capacity};
-use record::LAST_TABLE;
+ghost use Rattle.base.specs.Table.{lastTable};
+ghost use Rattle.header.specs.Header.{maxSources};
+use base::table::LAST_TABLE;
 use writer::NO_TABLE;
 
 fn with_table(w: Writer, table: u32) -> Writer
-    requires { ⌜ (table ≤ 7) × (State.position (w .taken) ≤ capacity) ⌝ }
+    requires { ⌜ (table ≤ lastTable) × (State.position (w .taken) ≤ capacity) ⌝ }
     ensures { λ r. ⌜ r ≡ Lower.withTable w table ⌝ }
 {
     let x = w.tables;
@@ -50,7 +52,7 @@ pub fn table(w: Writer, table: u32) -> Step
 }
 
 fn with_block(s: Source, table: u32, b: Block) -> Source
-    requires { ⌜ table ≤ 7 ⌝ }
+    requires { ⌜ table ≤ lastTable ⌝ }
     ensures { λ r. ⌜ r ≡ Lower.withBlock s table b ⌝ }
 {
     let mut tables = s.tables;
@@ -59,7 +61,7 @@ fn with_block(s: Source, table: u32, b: Block) -> Source
 }
 
 fn with_end(w: Writer) -> Writer
-    requires { ⌜ (w .tables .table ≤ 7) × (1 ≤ w .tables .count) × (w .tables .count ≤ 3) × (w .tables .start ≤ State.position (w .taken)) × (State.position (w .taken) ≤ capacity) ⌝ }
+    requires { ⌜ (w .tables .table ≤ lastTable) × (1 ≤ w .tables .count) × (w .tables .count ≤ maxSources) × (w .tables .start ≤ State.position (w .taken)) × (State.position (w .taken) ≤ capacity) ⌝ }
     ensures { λ r. ⌜ r ≡ Lower.withEnd w ⌝ }
 {
     let t = w.taken;

@@ -18,7 +18,7 @@ use Rattle.leaf.specs.Date.{leap, monthDays, isDate, validDate}
 use Rattle.leaf.proofs.Checksum.{crc32-append}
 use Rattle.refusal.specs.declared.Refusal.the-variants.{Mark}
 use Rattle.record.specs.declared.Source.{Source}
-use Rattle.record.specs.Record.{noBlock, noSource, maxTables}
+use Rattle.record.specs.Record.{noBlock, noSource}
 use Rattle.base.specs.Lists.{fill, each}
 use Rattle.record.specs.Types.{All, U32, Block32}
 use Rattle.base.proofs.Lists.{drop-fill, length-fill}
@@ -56,6 +56,7 @@ use Rattle.powerloss.proofs.Cuts.{cut-inside}
 use Rattle.powerloss.proofs.Load.{load-other, active-ok, unmarked-refused, target-fits}
 use Rattle.powerloss.proofs.Lowers.{mk}
 use Rattle.powerloss.proofs.Uppers.{inv-all, inv-found, demand3}
+use Rattle.base.specs.Table.{maxTables}
 
 -- a state of this update
 abbrev st : Loaded → Stage → Taken → Tables → List Source → List ℕ → Writer

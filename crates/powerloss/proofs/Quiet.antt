@@ -16,7 +16,7 @@ use Rattle.leaf.proofs.Checksum.{crc32-nil, crc32-lt}
 use Rattle.refusal.specs.declared.Refusal.the-variants.{Region, Argument, Full, Turn}
 use Rattle.record.specs.declared.Block.{Block}
 use Rattle.record.specs.declared.Source.{Source}
-use Rattle.record.specs.Record.{noBlock, maxTables}
+use Rattle.record.specs.Record.{noBlock}
 use Rattle.base.specs.Lists.{fill}
 use Rattle.record.specs.Types.{All, Block32}
 use Rattle.base.proofs.Lists.{length-fill}
@@ -39,6 +39,8 @@ use Rattle.powerloss.specs.History.{Note, sourceNote, tableNote, endNote
 use Rattle.powerloss.proofs.Records.{table-append, from-append, records-source, records-table, records-end, block-is, more-sources, last-source, all-append, all-set, all-at}
 use Rattle.powerloss.proofs.Inv.{Live, Laid, Lies, LiveAt, Mode, Open}
 use Rattle.powerloss.proofs.Range.{range-of, true-false, due-ok, headed-end, committed-end, tables-none, tables-open}
+use Rattle.base.specs.Table.{maxTables}
+use Rattle.header.specs.Header.{maxSources}
 
 -- ---- records
 
@@ -158,7 +160,7 @@ module _ (region : List ℕ) (hd : Loaded) (w : Writer) (u : Update) (o : Open r
   own : Ranged w
   own = ranged w (o .tied .range)
 
-  count-small : w .tables .count ≤ 3
+  count-small : w .tables .count ≤ maxSources
   count-small = count-fits (position (w .taken)) (w .tables) (own .tables)
 
   may-open : mayTake w ≡ true → w .taken .closed ≡ false
@@ -169,7 +171,7 @@ module _ (region : List ℕ) (hd : Loaded) (w : Writer) (u : Update) (o : Open r
 
   -- ---- source
 
-  pub with-source : (s : Source) → Proper s → w .taken .closed ≡ false → w .tables .count < 3 → Open region hd (withSource w s) (notesOf (sourceNote s) u)
+  pub with-source : (s : Source) → Proper s → w .taken .closed ≡ false → w .tables .count < maxSources → Open region hd (withSource w s) (notesOf (sourceNote s) u)
   unfolding withSource
   with-source s p e h =
       let q = o .tied .noted in

@@ -20,6 +20,7 @@ use Rattle.writer.proofs.Laws.{fill-fits, position-fits}
 use Rattle.lower.specs.Lower.{closedTaken}
 use Rattle.due.specs.Due.{emptied}
 use Rattle.region.specs.Region.{capacity, sectorSize}
+use Rattle.header.specs.Header.{maxSources}
 
 pub range-of : (w : Writer) → activeOk (w .beginning .active) ≡ true → takenOk (w .taken) ≡ true → tablesOk (position (w .taken)) (w .tables) ≡ true
     → stageOk (w .beginning .comparing) (w .taken) (w .stage) ≡ true → inRange w ≡ true
@@ -237,11 +238,11 @@ close-taken t e n = taken-of (closedTaken t) (fill-fits t e) (position-fits t e)
 
 -- ---- tables
 
-pub tables-none : (n : ℕ) (s : Tables) → s .count ≤ 3 → s .table ≡ 8 → tablesOk n s ≡ true
+pub tables-none : (n : ℕ) (s : Tables) → s .count ≤ maxSources → s .table ≡ 8 → tablesOk n s ≡ true
 unfolding tablesOk
 tables-none n s h e = rw (le-leb (s .count) 3 h, e)
 
-pub tables-open : (n : ℕ) (s : Tables) → s .count ≤ 3 → s .table ≤ 7 → 1 ≤ s .count → s .start ≤ n → tablesOk n s ≡ true
+pub tables-open : (n : ℕ) (s : Tables) → s .count ≤ maxSources → s .table ≤ 7 → 1 ≤ s .count → s .start ≤ n → tablesOk n s ≡ true
 unfolding tablesOk
 tables-open n s h a b c = rw (le-leb (s .count) 3 h, le-leb (s .table) 7 a, le-leb 1 (s .count) b, le-leb (s .start) n c) (or-true (eqb (s .table) 8))
 

@@ -22,6 +22,7 @@ use Rattle.csv.specs.Write.{anySpecial, doubled, fieldOf, behind, rowOf}
 use Rattle.row.specs.Columns.{columns, columnsOf, line, namesLine}
 use Rattle.row.specs.Write.{cutBy, handed}
 use Rattle.powerloss.proofs.Bytes.{bytes-nil, bytes-cons, bytes-take, bytes-drop}
+use Rattle.csv.specs.Csv.{quote}
 
 -- ---- dates
 
@@ -43,18 +44,18 @@ unfolding All cutBy
 all-cut [] t b = tt
 all-cut (n ∷ ns) t b = (bytes-take n t b, all-cut ns (drop n t) (bytes-drop n t b))
 
-doubled-by : (b : ℕ) (v : List ℕ) (t : Bool) → b < 256 → Bytes (doubled v) → Bytes (pick t (34 ∷ 34 ∷ doubled v) (b ∷ doubled v))
-doubled-by b v true h d = bytes-cons 34 (34 ∷ doubled v) (omega arith) (bytes-cons 34 (doubled v) (omega arith) d)
+doubled-by : (b : ℕ) (v : List ℕ) (t : Bool) → b < 256 → Bytes (doubled v) → Bytes (pick t (quote ∷ quote ∷ doubled v) (b ∷ doubled v))
+doubled-by b v true h d = bytes-cons quote (quote ∷ doubled v) (omega arith) (bytes-cons quote (doubled v) (omega arith) d)
 doubled-by b v false h d = bytes-cons b (doubled v) h d
 
 bytes-doubled : (v : List ℕ) → Bytes v → Bytes (doubled v)
 unfolding doubled
 bytes-doubled [] h = bytes-nil
-bytes-doubled (b ∷ v) h = doubled-by b v (eqb b 34) (h 0) (bytes-doubled v (λ k. h (suc k)))
+bytes-doubled (b ∷ v) h = doubled-by b v (eqb b quote) (h 0) (bytes-doubled v (λ k. h (suc k)))
 
-field-by : (v : List ℕ) (t : Bool) → Bytes v → Bytes (pick t (34 ∷ doubled v ++ (34 ∷ [])) v)
+field-by : (v : List ℕ) (t : Bool) → Bytes v → Bytes (pick t (quote ∷ doubled v ++ (quote ∷ [])) v)
 field-by v true h =
-    bytes-cons 34 (doubled v ++ (34 ∷ [])) (omega arith) (bytes-append (doubled v) (34 ∷ []) (bytes-doubled v h) (bytes-cons 34 [] (omega arith) bytes-nil))
+    bytes-cons quote (doubled v ++ (quote ∷ [])) (omega arith) (bytes-append (doubled v) (quote ∷ []) (bytes-doubled v h) (bytes-cons quote [] (omega arith) bytes-nil))
 field-by v false h = h
 
 bytes-field : (v : List ℕ) → Bytes v → Bytes (fieldOf v)

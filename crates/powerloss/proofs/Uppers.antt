@@ -47,6 +47,7 @@ use Rattle.powerloss.proofs.Lowers.{Inv, mk, inv-call, inv-cut, inv-beg
 use Rattle.powerloss.proofs.Texts.{bytes-dates, bytes-names, bytes-row, bytes-key}
 use Rattle.powerloss.proofs.Runs.{ranUpdate, AllPlain, Ran, ran}
 use Rattle.powerloss.proofs.Feeds.{Now, regionThree, writerThree, Three, three, dues-update, may-take, feed-update, dues-feed}
+use Rattle.header.specs.Header.{maxSources}
 
 pub bytes-taken : (c : Upper) → UpperTyped c → Bytes (taken c)
 unfolding taken
@@ -106,7 +107,7 @@ module _ (hd : Loaded) (rs : List Source) (im : Image) (region : List ℕ) (w : 
     may : mayTake w ≡ true
     may = may-take hd region w u (h .open·) e
 
-    source-run : (s : Source) (xs : List ℕ) → Proper s → not (isOpen (w .tables)) ≡ true → w .tables .count < 3 → position (w .taken) + length xs ≤ capacity → Bytes xs
+    source-run : (s : Source) (xs : List ℕ) → Proper s → not (isOpen (w .tables)) ≡ true → w .tables .count < maxSources → position (w .taken) + length xs ≤ capacity → Bytes xs
         → ranUpdate region w (source s ∷ (dues ++ feed xs)) u ≡ takes xs (notesOf (sourceNote s) u)
     unfolding withSource
     source-run s xs p n c f b =
@@ -187,7 +188,7 @@ module _ (hd : Loaded) (rs : List Source) (im : Image) (region : List ℕ) (w : 
       dues-update region w (source s ∷ (dues ++ feed (taken c))) u
       ∙ source-run hd rs im (regionThree region w) (writerThree region w) u (t3 .now) (t3 .closed ∙ open-of m) s (taken c) p
       (subst (λ (x : Tables). not (isOpen x) ≡ true) (sym (t3 .tables)) n)
-      (subst (λ (x : Tables). x .count < 3) (sym (t3 .tables)) (ltb-true (w .tables .count) 3 (and-left (ltb (w .tables .count) 3) (leb (position (w .taken) + length (taken c)) capacity) (a .fits))))
+      (subst (λ (x : Tables). x .count < maxSources) (sym (t3 .tables)) (ltb-true (w .tables .count) 3 (and-left (ltb (w .tables .count) 3) (leb (position (w .taken) + length (taken c)) capacity) (a .fits))))
       (fits-of c (a .fits)) (bytes-taken c p)
   run-update (tableWithNames t) p a =
       let m = and-left (mayTake w) (mayBegin (w .tables) t) (a .order) in

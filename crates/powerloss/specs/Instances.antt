@@ -9,7 +9,7 @@ use lib.IntN.{pos}
 use lib.ListN.{length, drop}
 use Rattle.leaf.specs.Crc.{crc32}
 use Rattle.record.specs.declared.Source.{Source}
-use Rattle.record.specs.Record.{noBlock, maxTables, stampSize, idSize, validatorSize, currentVersion}
+use Rattle.record.specs.Record.{noBlock, stampSize, idSize, validatorSize, currentVersion}
 use Rattle.base.specs.Lists.{fill}
 use Rattle.header.specs.declared.Bank.{Bank}
 use Rattle.region.specs.Region.{regionSize, bankOf, dataOf, sectorSize}
@@ -25,6 +25,7 @@ use Rattle.commit.specs.declared.Stamp.the-variants.{Missing}
 use Rattle.run.specs.Run.{Lower, source, table, bytes, end, close, due, commit, word, ranOps}
 use Rattle.powerloss.specs.Machine.{Event, begin, call, cut, found, nextAll}
 use Rattle.header.specs.Header.{commitOffset}
+use Rattle.base.specs.Table.{maxTables}
 
 -- the key: one byte
 abbrev pub key : List ℕ

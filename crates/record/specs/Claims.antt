@@ -4,9 +4,10 @@ use mathlib.Core.List.{List, _++_}
 use Prim.Native.Nat.{ℕ}
 use lib.ListN.{getD}
 use Rattle.record.specs.declared.Source.{Source}
-use Rattle.record.specs.Record.{decoded, sourceBytes, noBlock, stampSize, idSize, validatorSize, currentVersion, lastTable}
+use Rattle.record.specs.Record.{decoded, sourceBytes, noBlock, stampSize, idSize, validatorSize, currentVersion}
 use Rattle.base.specs.Lists.{fill}
 use Rattle.record.specs.Types.{Sized, Ranged}
+use Rattle.base.specs.Table.{lastTable}
 
 -- a record that was written reads back, whatever follows it
 abbrev pub ReadsBack : Type 0

@@ -9,19 +9,14 @@ use Rattle.leaf.specs.Bytes.{word, time, le32, le64}
 use Rattle.base.specs.Lists.{many, puts, fill, byte}
 use Rattle.record.specs.declared.Block.{Block}
 use Rattle.record.specs.declared.Source.{Source}
+use Rattle.base.specs.Table.{maxTables}
 
--- the version that is written, the size of its record, and how many tables it has, numbered from 0
+-- the version that is written, and the size of its record
 abbrev pub currentVersion : ℕ
 currentVersion = 3
 
 abbrev pub recordSize : ℕ
 recordSize = 384
-
-abbrev pub maxTables : ℕ
-maxTables = 8
-
-abbrev pub lastTable : ℕ
-lastTable = 7
 
 -- bytes of the fields that are carried raw; a validator is a length byte, at most 64 bytes and one more
 abbrev pub stampSize : ℕ

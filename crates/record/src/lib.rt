@@ -27,10 +27,7 @@ use leaf::bytes::get8;
 use leaf::bytes::put;
 use leaf::bytes::put_time;
 
-// A record has eight tables, numbered from 0, and carries an id and a validator raw.
-pub const TABLES: usize = 8;
-
-pub const LAST_TABLE: u32 = 7;
+// A record's arrays.
 
 pub const ORIGINAL_WORDS: usize = 2 * TABLES;
 

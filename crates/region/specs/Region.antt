@@ -16,6 +16,10 @@ sectorSize = 4096
 abbrev pub capacity : ℕ
 capacity = 487424
 
+-- sector 0 of a bank is the header's
+abbrev pub lastSector : ℕ
+lastSector = 119
+
 -- bank n of a region
 unfoldable pub bankOf : List ℕ → ℕ → List ℕ
 bankOf region n = take bankSize (drop (n * bankSize) region)

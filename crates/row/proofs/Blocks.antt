@@ -11,20 +11,21 @@ use Rattle.csv.specs.Write.{doubled}
 use Rattle.csv.proofs.Laws.{sets-append}
 use Rattle.row.specs.Steps.{FirstQuote}
 use Rattle.row.proofs.Laws.{doubled-split, doubled-less, doubled-same, doubled-quote, doubled-out, plain-doubled, rest-is, sets-over}
+use Rattle.csv.specs.Csv.{quote}
 
 -- a quote between a and b is written twice, and z, behind them, is written over by c
 twice-over : (out a b z c : List ℕ) (to : ℕ) → length z ≤ length c
-    → sets (sets (sets out to (a ++ (34 ∷ b))) (suc (to + length a)) ((34 ∷ b) ++ z)) (suc (to + length a) + length (34 ∷ b)) c ≡ sets out to (a ++ (34 ∷ 34 ∷ (b ++ c)))
+    → sets (sets (sets out to (a ++ (quote ∷ b))) (suc (to + length a)) ((quote ∷ b) ++ z)) (suc (to + length a) + length (quote ∷ b)) c ≡ sets out to (a ++ (quote ∷ quote ∷ (b ++ c)))
 twice-over out a b z c to h =
     let p = to + length a in
-    let o = set (sets out to a) p 34 in
-    let w = sets o (suc p) (34 ∷ b) in
-    let r = suc p + length (34 ∷ b) in
-    let i : sets out to (a ++ (34 ∷ b)) ≡ sets o (suc p) b = sets-append out to a (34 ∷ b) in
-    let s : length b ≤ length ((34 ∷ b) ++ z) = omega (arith, length-append (34 ∷ b) z) in
-    let j : sets (sets o (suc p) b) (suc p) ((34 ∷ b) ++ z) ≡ sets w r z = sets-over o (suc p) b ((34 ∷ b) ++ z) s ∙ sets-append o (suc p) (34 ∷ b) z in
-    let k : sets out to (a ++ (34 ∷ 34 ∷ (b ++ c))) ≡ sets w r c = sets-append out to a (34 ∷ 34 ∷ (b ++ c)) ∙ sets-append o (suc p) (34 ∷ b) c in
-    ap (λ (l : List ℕ). sets (sets l (suc p) ((34 ∷ b) ++ z)) r c) i ∙ ap (λ (l : List ℕ). sets l r c) j ∙ sets-over w r z c h ∙ sym k
+    let o = set (sets out to a) p quote in
+    let w = sets o (suc p) (quote ∷ b) in
+    let r = suc p + length (quote ∷ b) in
+    let i : sets out to (a ++ (quote ∷ b)) ≡ sets o (suc p) b = sets-append out to a (quote ∷ b) in
+    let s : length b ≤ length ((quote ∷ b) ++ z) = omega (arith, length-append (quote ∷ b) z) in
+    let j : sets (sets o (suc p) b) (suc p) ((quote ∷ b) ++ z) ≡ sets w r z = sets-over o (suc p) b ((quote ∷ b) ++ z) s ∙ sets-append o (suc p) (quote ∷ b) z in
+    let k : sets out to (a ++ (quote ∷ quote ∷ (b ++ c))) ≡ sets w r c = sets-append out to a (quote ∷ quote ∷ (b ++ c)) ∙ sets-append o (suc p) (quote ∷ b) c in
+    ap (λ (l : List ℕ). sets (sets l (suc p) ((quote ∷ b) ++ z)) r c) i ∙ ap (λ (l : List ℕ). sets l r c) j ∙ sets-over w r z c h ∙ sym k
 
 -- what a block does: o is what out becomes, r where it ends
 abbrev pub Blocked : List ℕ → List ℕ → List ℕ → ℕ → ℕ → Type 0
@@ -59,34 +60,34 @@ module _ (v out o : List ℕ) (to : ℕ) (h : 64 ≤ length v) where
             let z : length (doubled (drop f x)) ≡ 0 = ap length (doubled-out x f (omega (arith, e))) in
             absurd (omega (arith, d, z, length-take f x, n, whole))
 
-    block-split : take 64 v ≡ take f (take 64 v) ++ (34 ∷ drop (suc f) (take 64 v))
+    block-split : take 64 v ≡ take f (take 64 v) ++ (quote ∷ drop (suc f) (take 64 v))
     block-split = split-at (take 64 v) f 0 (omega (arith, whole, block-inside)) ∙ ap (λ (b : ℕ). take f (take 64 v) ++ (b ∷ drop (suc f) (take 64 v))) (q .2 (omega (arith, whole, block-inside)))
 
-    block-doubled : doubled (take 64 v) ≡ take f (take 64 v) ++ (34 ∷ 34 ∷ drop (suc f) (take 64 v))
+    block-doubled : doubled (take 64 v) ≡ take f (take 64 v) ++ (quote ∷ quote ∷ drop (suc f) (take 64 v))
     block-doubled =
         let x = take 64 v in
         let i : f < length x = omega (arith, whole, block-inside) in
-        let b : getD x f 0 ≡ 34 = q .2 i in
+        let b : getD x f 0 ≡ quote = q .2 i in
         let a = plain-doubled f x (q .0) (q .1) in
-        let d : doubled (drop f x) ≡ 34 ∷ 34 ∷ doubled (drop (suc f) x) = rw (b, add-one f) at (doubled-quote x f i b) in
+        let d : doubled (drop f x) ≡ quote ∷ quote ∷ doubled (drop (suc f) x) = rw (b, add-one f) at (doubled-quote x f i b) in
         let l = ap length a ∙ length-append (take f x) (doubled (drop f x)) in
         let s : doubled (drop (suc f) x) ≡ drop (suc f) x = doubled-same (drop (suc f) x) (omega (arith, l, ap length d, length-take f x, length-drop (suc f) x, n, whole)) in
-        a ∙ ap (λ (z : List ℕ). take f x ++ z) (d ∙ ap (λ (z : List ℕ). 34 ∷ 34 ∷ z) s)
+        a ∙ ap (λ (z : List ℕ). take f x ++ z) (d ∙ ap (λ (z : List ℕ). quote ∷ quote ∷ z) s)
 
     -- the 64 bytes from the quote on
-    block-shifted : take (f + 64 - f) (drop f v) ≡ (34 ∷ drop (suc f) (take 64 v)) ++ take f (drop 64 v)
+    block-shifted : take (f + 64 - f) (drop f v) ≡ (quote ∷ drop (suc f) (take 64 v)) ++ take f (drop 64 v)
     block-shifted =
         let x = take 64 v in
         let i : f < length x = omega (arith, whole, block-inside) in
-        let d : drop f x ≡ 34 ∷ drop (suc f) x = drop-cons x f 0 i ∙ ap (λ (z : ℕ). z ∷ drop (suc f) x) (q .2 i) in
+        let d : drop f x ≡ quote ∷ drop (suc f) x = drop-cons x f 0 i ∙ ap (λ (z : ℕ). z ∷ drop (suc f) x) (q .2 i) in
         let w : drop f v ≡ drop f x ++ drop 64 v = ap (drop f) (sym (take-append-drop 64 v)) ∙ drop-append-le f x (drop 64 v) (omega (arith, i)) in
         let m : f + 64 - f ≡ length (drop f x) + f = omega (arith, length-drop f x, whole, block-inside) in
         ap (take (f + 64 - f)) w ∙ ap (λ (z : ℕ). take z (drop f x ++ drop 64 v)) m ∙ take-append-add (drop f x) (drop 64 v) f ∙ ap (λ (z : List ℕ). z ++ take f (drop 64 v)) d
 
-    block-both : doubled v ≡ take f (take 64 v) ++ (34 ∷ 34 ∷ (drop (suc f) (take 64 v) ++ doubled (drop 64 v)))
+    block-both : doubled v ≡ take f (take 64 v) ++ (quote ∷ quote ∷ (drop (suc f) (take 64 v) ++ doubled (drop 64 v)))
     block-both =
         doubled-split 64 v ∙ ap (λ (z : List ℕ). z ++ doubled (drop 64 v)) block-doubled
-        ∙ append-assoc (take f (take 64 v)) (34 ∷ 34 ∷ drop (suc f) (take 64 v)) (doubled (drop 64 v))
+        ∙ append-assoc (take f (take 64 v)) (quote ∷ quote ∷ drop (suc f) (take 64 v)) (doubled (drop 64 v))
 
     pub block-one : (p : List ℕ) → 128 ≤ length v → o ≡ sets out to (take 64 v) → p ≡ sets o (to + f + 1) (take (f + 64 - f) (drop f v)) → Blocked v out p to (to + 65)
     block-one p g e d =
@@ -97,10 +98,10 @@ module _ (v out o : List ℕ) (to : ℕ) (h : 64 ≤ length v) where
         let lb : length b ≡ 63 - f = omega (arith, length-drop (suc f) (take 64 v), whole) in
         let s : length (take f c) ≤ length (doubled c) = omega (arith, length-take f c, length-drop 64 v, doubled-less c, block-inside) in
         let at : to + f + 1 ≡ suc (to + length a) = omega (arith, la) in
-        let end : to + 65 ≡ suc (to + length a) + length (34 ∷ b) = omega (arith, la, lb, block-inside) in
-        let k : p ≡ sets (sets out to (a ++ (34 ∷ b))) (suc (to + length a)) ((34 ∷ b) ++ take f c) =
-        d ∙ ap (λ (z : List ℕ). sets o (to + f + 1) z) block-shifted ∙ ap (λ (z : ℕ). sets o z ((34 ∷ b) ++ take f c)) at
-        ∙ ap (λ (z : List ℕ). sets z (suc (to + length a)) ((34 ∷ b) ++ take f c)) (e ∙ ap (sets out to) block-split) in
+        let end : to + 65 ≡ suc (to + length a) + length (quote ∷ b) = omega (arith, la, lb, block-inside) in
+        let k : p ≡ sets (sets out to (a ++ (quote ∷ b))) (suc (to + length a)) ((quote ∷ b) ++ take f c) =
+        d ∙ ap (λ (z : List ℕ). sets o (to + f + 1) z) block-shifted ∙ ap (λ (z : ℕ). sets o z ((quote ∷ b) ++ take f c)) at
+        ∙ ap (λ (z : List ℕ). sets z (suc (to + length a)) ((quote ∷ b) ++ take f c)) (e ∙ ap (sets out to) block-split) in
         (omega (arith, n, whole), rw (k, end) (twice-over out a b (take f c) (doubled c) to s ∙ ap (sets out to) (sym block-both)))
 
 -- a block more of v is put

@@ -14,6 +14,7 @@ use Rattle.row.specs.declared.RowAnswer.{RowAnswer}
 use Rattle.row.specs.declared.RowAnswer.the-variants.{Written, Refused}
 use Rattle.row.specs.Columns.{maxTable, columnCount, namesLine}
 use Rattle.row.specs.Write.{handed, within, after, namesAnswer, rowAnswer}
+use Rattle.base.specs.Table.{lastTable}
 
 -- ---- bytes into an output
 
@@ -30,45 +31,45 @@ module _ (bytes out : List ℕ) where
 -- ---- names_line
 
 module _ (table : ℕ) (out : List ℕ) where
-  pub names-past : 7 < table → (Refused Argument ≡ namesAnswer table (length out)) × (out ≡ after (Refused Argument) (namesLine table) out)
+  pub names-past : lastTable < table → (Refused Argument ≡ namesAnswer table (length out)) × (out ≡ after (Refused Argument) (namesLine table) out)
   unfolding namesAnswer
   names-past h = (rw (lt-leb table maxTable h), refl)
 
-  pub names-there : table ≤ 7 → (r : RowAnswer) → r ≡ within (length out) (namesLine table) → r ≡ namesAnswer table (length out)
+  pub names-there : table ≤ lastTable → (r : RowAnswer) → r ≡ within (length out) (namesLine table) → r ≡ namesAnswer table (length out)
   unfolding namesAnswer
   names-there h r e = rw (le-leb table maxTable h) e
 
 -- ---- row
 
 module _ (table : ℕ) (texts lengths out : List ℕ) where
-  pub row-past : 7 < table → (Refused Argument ≡ rowAnswer table texts lengths (length out)) × (out ≡ after (Refused Argument) (rowOf (handed texts lengths)) out)
+  pub row-past : lastTable < table → (Refused Argument ≡ rowAnswer table texts lengths (length out)) × (out ≡ after (Refused Argument) (rowOf (handed texts lengths)) out)
   unfolding rowAnswer
   row-past h = (rw (lt-leb table maxTable h), refl)
 
-  module _ (t : table ≤ 7) where
+  module _ (t : table ≤ lastTable) where
     pub row-count : (length lengths ≡ columnCount table → ⊥)
         → (Refused Row ≡ rowAnswer table texts lengths (length out)) × (out ≡ after (Refused Row) (rowOf (handed texts lengths)) out)
     unfolding rowAnswer
     row-count h = (rw (le-leb table maxTable t, ne-eqb (length lengths) (columnCount table) h), refl)
 
-    module _ (h : length lengths ≡ columnCount table) (n : ℕ) (e : n ≡ min 8193 (length (rowOf (handed texts lengths)))) where
-      pub row-long : 8192 < n → (Refused Row ≡ rowAnswer table texts lengths (length out)) × (out ≡ after (Refused Row) (rowOf (handed texts lengths)) out)
+    module _ (h : length lengths ≡ columnCount table) (n : ℕ) (e : n ≡ min (maxRow + 1) (length (rowOf (handed texts lengths)))) where
+      pub row-long : maxRow < n → (Refused Row ≡ rowAnswer table texts lengths (length out)) × (out ≡ after (Refused Row) (rowOf (handed texts lengths)) out)
       unfolding rowAnswer
       row-long l =
           let m : maxRow < length (rowOf (handed texts lengths)) = omega arith in
           (rw (le-leb table maxTable t, eq-eqb (length lengths) (columnCount table) h, lt-leb (length (rowOf (handed texts lengths))) maxRow m), refl)
 
-      fits : n ≤ 8192 → rowAnswer table texts lengths (length out) ≡ within (length out) (rowOf (handed texts lengths))
+      fits : n ≤ maxRow → rowAnswer table texts lengths (length out) ≡ within (length out) (rowOf (handed texts lengths))
       unfolding rowAnswer
       fits l =
           let m : length (rowOf (handed texts lengths)) ≤ maxRow = omega arith in
           rw (le-leb table maxTable t, eq-eqb (length lengths) (columnCount table) h, le-leb (length (rowOf (handed texts lengths))) maxRow m)
 
-      pub row-room : n ≤ 8192 → length out < n
+      pub row-room : n ≤ maxRow → length out < n
           → (Refused Small ≡ rowAnswer table texts lengths (length out)) × (out ≡ after (Refused Small) (rowOf (handed texts lengths)) out)
       row-room l r = let k : length out < length (rowOf (handed texts lengths)) = omega arith in (no-room (rowOf (handed texts lengths)) out k .0 ∙ sym (fits l), refl)
 
-      pub row-fits : n ≤ 8192 → n ≤ length out → (o : List ℕ) → o ≡ sets out 0 (rowOf (handed texts lengths))
+      pub row-fits : n ≤ maxRow → n ≤ length out → (o : List ℕ) → o ≡ sets out 0 (rowOf (handed texts lengths))
           → (Written n ≡ rowAnswer table texts lengths (length out)) × (o ≡ after (Written n) (rowOf (handed texts lengths)) out)
       row-fits l r o p =
           let z : n ≡ length (rowOf (handed texts lengths)) = omega arith in

@@ -16,6 +16,7 @@ use Rattle.csv.specs.Write.{special, anySpecial, doubled, fieldOf, behind, rowO
 use Rattle.csv.proofs.Laws.{sets-append}
 use Rattle.row.specs.Write.{cutBy}
 use Rattle.row.specs.Steps.{Sizes, FirstQuote}
+use Rattle.csv.specs.Csv.{quote, comma, lineFeed}
 
 -- ---- bytes copied
 
@@ -82,10 +83,10 @@ pub doubled-split : (n : ℕ) (v : List ℕ) → doubled v ≡ doubled (take n v
 unfolding doubled
 doubled-split zero v = refl
 doubled-split (suc n) [] = refl
-doubled-split (suc n) (b ∷ v) = go (eqb b 34) (doubled-split n v)
+doubled-split (suc n) (b ∷ v) = go (eqb b quote) (doubled-split n v)
   where
-    go : (t : Bool) → doubled v ≡ doubled (take n v) ++ doubled (drop n v) → pick t (34 ∷ 34 ∷ doubled v) (b ∷ doubled v) ≡ pick t (34 ∷ 34 ∷ doubled (take n v)) (b ∷ doubled (take n v)) ++ doubled (drop n v)
-    go true e = ap (λ (l : List ℕ). 34 ∷ 34 ∷ l) e
+    go : (t : Bool) → doubled v ≡ doubled (take n v) ++ doubled (drop n v) → pick t (quote ∷ quote ∷ doubled v) (b ∷ doubled v) ≡ pick t (quote ∷ quote ∷ doubled (take n v)) (b ∷ doubled (take n v)) ++ doubled (drop n v)
+    go true e = ap (λ (l : List ℕ). quote ∷ quote ∷ l) e
     go false e = ap (λ (l : List ℕ). b ∷ l) e
 
 -- k bytes from a place on, and those behind them
@@ -100,13 +101,13 @@ part-length v i k h = let n : i + k - i ≡ k = omega arith in rw n (omega (arit
 pub rest-is : (v : List ℕ) (i : ℕ) → take (length v - i) (drop i v) ≡ drop i v
 rest-is v i = take-all (length v - i) (drop i v) (omega (arith, length-drop i v))
 
-pub doubled-quote : (v : List ℕ) (i : ℕ) → i < length v → getD v i 0 ≡ 34 → doubled (drop i v) ≡ 34 ∷ getD v i 0 ∷ doubled (drop (i + 1) v)
+pub doubled-quote : (v : List ℕ) (i : ℕ) → i < length v → getD v i 0 ≡ quote → doubled (drop i v) ≡ quote ∷ getD v i 0 ∷ doubled (drop (i + 1) v)
 unfolding doubled
-doubled-quote v i h e = rw (add-one i, drop-cons v i 0 h) (simp (eq-eqb (getD v i 0) 34 e) (rw e))
+doubled-quote v i h e = rw (add-one i, drop-cons v i 0 h) (simp (eq-eqb (getD v i 0) quote e) (rw e))
 
-pub doubled-byte : (v : List ℕ) (i : ℕ) → i < length v → (getD v i 0 ≡ 34 → ⊥) → doubled (drop i v) ≡ getD v i 0 ∷ doubled (drop (i + 1) v)
+pub doubled-byte : (v : List ℕ) (i : ℕ) → i < length v → (getD v i 0 ≡ quote → ⊥) → doubled (drop i v) ≡ getD v i 0 ∷ doubled (drop (i + 1) v)
 unfolding doubled
-doubled-byte v i h e = rw (add-one i, drop-cons v i 0 h) (simp (ne-eqb (getD v i 0) 34 e))
+doubled-byte v i h e = rw (add-one i, drop-cons v i 0 h) (simp (ne-eqb (getD v i 0) quote e))
 
 pub doubled-out : (v : List ℕ) (i : ℕ) → length v ≤ i → doubled (drop i v) ≡ []
 unfolding doubled
@@ -129,9 +130,9 @@ count-end v i n q h e f =
 pub doubled-less : (v : List ℕ) → length v ≤ length (doubled v)
 unfolding doubled
 doubled-less [] = omega arith
-doubled-less (b ∷ v) = go (eqb b 34) (doubled-less v)
+doubled-less (b ∷ v) = go (eqb b quote) (doubled-less v)
   where
-    go : (t : Bool) → length v ≤ length (doubled v) → suc (length v) ≤ length (pick t (34 ∷ 34 ∷ doubled v) (b ∷ doubled v))
+    go : (t : Bool) → length v ≤ length (doubled v) → suc (length v) ≤ length (pick t (quote ∷ quote ∷ doubled v) (b ∷ doubled v))
     go true h = omega arith
     go false h = omega arith
 
@@ -139,13 +140,13 @@ doubled-less (b ∷ v) = go (eqb b 34) (doubled-less v)
 pub doubled-same : (v : List ℕ) → length (doubled v) ≡ length v → doubled v ≡ v
 unfolding doubled
 doubled-same [] e = refl
-doubled-same (b ∷ v) e = go (eqb b 34) (doubled-same v) e
+doubled-same (b ∷ v) e = go (eqb b quote) (doubled-same v) e
   where
-    go : (t : Bool) → (length (doubled v) ≡ length v → doubled v ≡ v) → length (pick t (34 ∷ 34 ∷ doubled v) (b ∷ doubled v)) ≡ suc (length v) → pick t (34 ∷ 34 ∷ doubled v) (b ∷ doubled v) ≡ b ∷ v
+    go : (t : Bool) → (length (doubled v) ≡ length v → doubled v ≡ v) → length (pick t (quote ∷ quote ∷ doubled v) (b ∷ doubled v)) ≡ suc (length v) → pick t (quote ∷ quote ∷ doubled v) (b ∷ doubled v) ≡ b ∷ v
     go true f h = absurd (omega (arith, doubled-less v))
     go false f h = ap (λ (l : List ℕ). b ∷ l) (f (omega arith))
 
-pub field-quoted : (v : List ℕ) → anySpecial v ≡ true → fieldOf v ≡ 34 ∷ doubled v ++ (34 ∷ [])
+pub field-quoted : (v : List ℕ) → anySpecial v ≡ true → fieldOf v ≡ quote ∷ doubled v ++ (quote ∷ [])
 unfolding fieldOf
 field-quoted v e = simp e
 
@@ -153,7 +154,7 @@ pub field-same : (v : List ℕ) → anySpecial v ≡ false → fieldOf v ≡ v
 unfolding fieldOf
 field-same v e = simp e
 
-pub quoted-length : (v : List ℕ) → length (34 ∷ doubled v ++ (34 ∷ [])) ≡ length (doubled v) + 2
+pub quoted-length : (v : List ℕ) → length (quote ∷ doubled v ++ (quote ∷ [])) ≡ length (doubled v) + 2
 quoted-length v = simp length-append (omega arith)
 
 pub sets-one : (out : List ℕ) (n b : ℕ) (v w : List ℕ) → v ≡ b ∷ w → sets out n v ≡ sets (set out n b) (n + 1) w
@@ -187,14 +188,14 @@ sets-all o v h =
     let m : length o ≤ 0 + length v = omega arith in
     sets-eq v o 0 (omega arith) ∙ ap (λ (l : List ℕ). v ++ l) (drop-of-length-le o m) ∙ append-nil v
 
-pub plain-doubled : (n : ℕ) (x : List ℕ) → n ≤ length x → ((j : ℕ) → j < n → getD x j 0 ≡ 34 → ⊥) → doubled x ≡ take n x ++ doubled (drop n x)
+pub plain-doubled : (n : ℕ) (x : List ℕ) → n ≤ length x → ((j : ℕ) → j < n → getD x j 0 ≡ quote → ⊥) → doubled x ≡ take n x ++ doubled (drop n x)
 unfolding doubled
 plain-doubled zero x h q = refl
 plain-doubled (suc n) [] h q = absurd (omega arith)
-plain-doubled (suc n) (b ∷ x) h q = simp (ne-eqb b 34 (q 0 (omega arith))) (ap (λ (l : List ℕ). b ∷ l) (plain-doubled n x (omega arith) (λ j k. q (suc j) (omega arith))))
+plain-doubled (suc n) (b ∷ x) h q = simp (ne-eqb b quote (q 0 (omega arith))) (ap (λ (l : List ℕ). b ∷ l) (plain-doubled n x (omega arith) (λ j k. q (suc j) (omega arith))))
 
 -- r bytes without a quote, of k that are written
-module _ (v : List ℕ) (i r k : ℕ) (h : r ≤ k) (g : k ≤ length v - i) (q : (j : ℕ) → j < r → getD (drop i v) j 0 ≡ 34 → ⊥) where
+module _ (v : List ℕ) (i r k : ℕ) (h : r ≤ k) (g : k ≤ length v - i) (q : (j : ℕ) → j < r → getD (drop i v) j 0 ≡ quote → ⊥) where
   run-doubled : doubled (drop i v) ≡ take r (drop i v) ++ doubled (drop (i + r) v)
   run-doubled = plain-doubled r (drop i v) (omega (arith, length-drop i v)) q ∙ rw (drop-drop r i v)
 
@@ -222,20 +223,20 @@ pub record Ran (v out o : List ℕ) (i n r : ℕ) : Type 0 where
   pub size : length (doubled (drop i v)) ≡ r + length (doubled (drop (i + r) v))
   pub room : length o ≡ length out
   pub is : sets out n (doubled (drop i v)) ≡ sets o (n + r) (doubled (drop (i + r) v))
-  pub quote : r < 64 → (length (doubled (drop i v)) ≡ length v - i → ⊥) → (i + r < length v) × (getD v (i + r) 0 ≡ 34)
+  pub atQuote : r < 64 → (length (doubled (drop i v)) ≡ length v - i → ⊥) → (i + r < length v) × (getD v (i + r) 0 ≡ quote)
 
 module _ (v out o : List ℕ) (i n r : ℕ) (h : i ≤ length v) where
   far : 64 ≤ length v - i → FirstQuote (take 64 (drop i v)) r → o ≡ sets out n (take 64 (drop i v)) → Ran v out o i n r
   far g f e =
       let l : length (take 64 (drop i v)) ≡ 64 = omega (arith, length-take 64 (drop i v), length-drop i v) in
       let m : r ≤ 64 = omega (arith, l, f .0) in
-      let q : (j : ℕ) → j < r → getD (drop i v) j 0 ≡ 34 → ⊥ = λ j k z. f .1 j k (getD-take 64 (drop i v) j 0 (omega arith) ∙ z) in
+      let q : (j : ℕ) → j < r → getD (drop i v) j 0 ≡ quote → ⊥ = λ j k z. f .1 j k (getD-take 64 (drop i v) j 0 (omega arith) ∙ z) in
       record {
         inside = omega arith;
         size = run-size v i r 64 m g q;
         room = ap length e ∙ length-sets out n (take 64 (drop i v));
         is = run-sets v i r 64 m g q out n ∙ rw e;
-        quote = λ s d. (omega arith, sym (getD-drop i v r 0) ∙ sym (getD-take 64 (drop i v) r 0 s) ∙ f .2 (omega (arith, l)));
+        atQuote = λ s d. (omega arith, sym (getD-drop i v r 0) ∙ sym (getD-take 64 (drop i v) r 0 s) ∙ f .2 (omega (arith, l)));
       }
 
   close : length v - i < 64 → FirstQuote (drop i v) r → o ≡ sets out n (take r (drop i v)) → Ran v out o i n r
@@ -249,7 +250,7 @@ module _ (v out o : List ℕ) (i n r : ℕ) (h : i ≤ length v) where
         size = z;
         room = ap length e ∙ length-sets out n (take r (drop i v));
         is = run-sets v i r r (omega arith) m (f .1) out n ∙ rw e;
-        quote = λ s d. (omega (arith, l, less d), sym (getD-drop i v r 0) ∙ f .2 (less d));
+        atQuote = λ s d. (omega (arith, l, less d), sym (getD-drop i v r 0) ∙ f .2 (less d));
       }
     where
       out-of : length v ≤ i + r → length (doubled (drop (i + r) v)) ≡ 0
@@ -276,10 +277,10 @@ module _ (v out o : List ℕ) (i n r : ℕ) (h : i ≤ length v) where
           let e' : o ≡ sets out n (take 64 (drop i v)) = rw (le-leb 64 (length (drop i v)) s) at e in
           far (omega arith) f e'
 
-pub run-quote : (v out o : List ℕ) (i n r : ℕ) → Ran v out o i n r → r < 64 → (length (doubled (drop i v)) ≡ length v - i → ⊥) → (i + r < length v) × (doubled (drop (i + r) v) ≡ 34 ∷ 34 ∷ doubled (drop (i + r + 1) v))
+pub run-quote : (v out o : List ℕ) (i n r : ℕ) → Ran v out o i n r → r < 64 → (length (doubled (drop i v)) ≡ length v - i → ⊥) → (i + r < length v) × (doubled (drop (i + r) v) ≡ quote ∷ quote ∷ doubled (drop (i + r + 1) v))
 run-quote v out o i n r x h d =
-    let q = x .quote h d in
-    (q .0, doubled-quote v (i + r) (q .0) (q .1) ∙ ap (λ (b : ℕ). 34 ∷ b ∷ doubled (drop (i + r + 1) v)) (q .1))
+    let q = x .atQuote h d in
+    (q .0, doubled-quote v (i + r) (q .0) (q .1) ∙ ap (λ (b : ℕ). quote ∷ b ∷ doubled (drop (i + r + 1) v)) (q .1))
 
 pub run-close : (v out o : List ℕ) (to r : ℕ) → length v < 64 → FirstQuote v r → o ≡ sets out to (take (r - 0) v) → FirstQuote (take 64 v) r × (o ≡ sets out to (take (pick (leb 64 (length v)) 64 r) v))
 run-close v out o to r h f e =
@@ -291,32 +292,32 @@ run-far v out o to r h f e = (f, rw (le-leb 64 (length v) h) e)
 
 -- n is the least place of a quote before i, the length for none
 abbrev pub Least : List ℕ → ℕ → ℕ → Type 0
-Least v i n = (n ≤ length v) × ((j : ℕ) → j < n → j < i → getD v j 0 ≡ 34 → ⊥) × (n < length v → (n < i) × (getD v n 0 ≡ 34))
+Least v i n = (n ≤ length v) × ((j : ℕ) → j < n → j < i → getD v j 0 ≡ quote → ⊥) × (n < length v → (n < i) × (getD v n 0 ≡ quote))
 
 pub least-start : (v : List ℕ) → Least v 0 (length v)
 least-start v = (omega arith, λ j a b e. omega arith, λ h. absurd (omega arith))
 
-pub least-turn : (v : List ℕ) (i n m : ℕ) → i < length v → m ≡ min (pick (eqb (getD v i 0) 34) i (length v)) n → Least v i n → Least v (i + 1) m
-least-turn v i n m h e l = go (eqb (getD v i 0) 34) refl (decLt n (length v)) e
+pub least-turn : (v : List ℕ) (i n m : ℕ) → i < length v → m ≡ min (pick (eqb (getD v i 0) quote) i (length v)) n → Least v i n → Least v (i + 1) m
+least-turn v i n m h e l = go (eqb (getD v i 0) quote) refl (decLt n (length v)) e
   where
-    go : (q : Bool) → eqb (getD v i 0) 34 ≡ q → Dec (n < length v) → m ≡ min (pick q i (length v)) n → Least v (i + 1) m
+    go : (q : Bool) → eqb (getD v i 0) quote ≡ q → Dec (n < length v) → m ≡ min (pick q i (length v)) n → Least v (i + 1) m
     go true s (yes d) e =
         let p = l .2 d in
         let z : m ≡ n = omega (arith, p .0) in
         rw z (l .0, λ j a b. l .1 j a (omega (arith, p .0)), λ k. (omega (arith, p .0), p .1))
     go true s (no d) e =
         let z : m ≡ i = omega (arith, l .0) in
-        rw z (omega arith, λ j a b. l .1 j (omega (arith, l .0)) a, λ k. (omega arith, eqb-true (getD v i 0) 34 s))
+        rw z (omega arith, λ j a b. l .1 j (omega (arith, l .0)) a, λ k. (omega arith, eqb-true (getD v i 0) quote s))
     go false s d e =
         let z : m ≡ n = omega (arith, l .0) in
         rw z (l .0, λ j a b w. not-there j a b w (decLt j i), λ k. let p = l .2 k in (omega (arith, p .0), p .1))
       where
-        not-there : (j : ℕ) → j < n → j < i + 1 → getD v j 0 ≡ 34 → Dec (j < i) → ⊥
+        not-there : (j : ℕ) → j < n → j < i + 1 → getD v j 0 ≡ quote → Dec (j < i) → ⊥
         not-there j a b w (yes y) = l .1 j a y w
         not-there j a b w (no y) =
             let x : j ≡ i = omega arith in
-            let u : getD v i 0 ≡ 34 = rw x at w in
-            let t : _≡_ {A = Bool} true false = sym (eq-eqb (getD v i 0) 34 u) ∙ s in
+            let u : getD v i 0 ≡ quote = rw x at w in
+            let t : _≡_ {A = Bool} true false = sym (eq-eqb (getD v i 0) quote u) ∙ s in
             absurd (let z : _≡_ {A = ℕ} 0 1 = cc in omega arith)
 
 pub least-end : (v : List ℕ) (i n : ℕ) → length v ≤ i → Least v i n → FirstQuote v n
@@ -327,7 +328,7 @@ pub field-less : (v : List ℕ) → length v ≤ length (fieldOf v)
 unfolding fieldOf
 field-less v = go (anySpecial v)
   where
-    go : (t : Bool) → length v ≤ length (pick t (34 ∷ doubled v ++ (34 ∷ [])) v)
+    go : (t : Bool) → length v ≤ length (pick t (quote ∷ doubled v ++ (quote ∷ [])) v)
     go true = omega (arith, quoted-length v, doubled-less v)
     go false = omega arith
 
@@ -371,28 +372,28 @@ pub left-none : (texts lengths : List ℕ) (k from : ℕ) → length lengths ≤
 unfolding cutBy
 left-none texts lengths k from h = rw (drop-of-length-le lengths h)
 
-pub left-behind : (texts lengths : List ℕ) (k from : ℕ) → k ≤ length lengths → pick (eqb k (length lengths)) 10 44 ≡ behind (left texts lengths k from)
+pub left-behind : (texts lengths : List ℕ) (k from : ℕ) → k ≤ length lengths → pick (eqb k (length lengths)) lineFeed comma ≡ behind (left texts lengths k from)
 unfolding cutBy
 left-behind texts lengths k from h = go (decLt k (length lengths))
   where
-    go : Dec (k < length lengths) → pick (eqb k (length lengths)) 10 44 ≡ behind (cutBy (drop k lengths) (drop from texts))
+    go : Dec (k < length lengths) → pick (eqb k (length lengths)) lineFeed comma ≡ behind (cutBy (drop k lengths) (drop from texts))
     go (yes i) = rw (ne-eqb k (length lengths) (λ e. omega arith), drop-cons lengths k 0 i)
     go (no i) = let e : k ≡ length lengths = omega arith in let m : length lengths ≤ k = omega arith in rw (eq-eqb k (length lengths) e, drop-of-length-le lengths m)
 
 pub doubled-most : (v : List ℕ) → length (doubled v) ≤ length v + length v
 unfolding doubled
 doubled-most [] = omega arith
-doubled-most (b ∷ v) = go (eqb b 34) (doubled-most v)
+doubled-most (b ∷ v) = go (eqb b quote) (doubled-most v)
   where
-    go : (t : Bool) → length (doubled v) ≤ length v + length v → length (pick t (34 ∷ 34 ∷ doubled v) (b ∷ doubled v)) ≤ suc (length v) + suc (length v)
+    go : (t : Bool) → length (doubled v) ≤ length v + length v → length (pick t (quote ∷ quote ∷ doubled v) (b ∷ doubled v)) ≤ suc (length v) + suc (length v)
     go true h = omega arith
     go false h = omega arith
 
 pub quoted-size : (v : List ℕ) → anySpecial v ≡ true → length (fieldOf v) ≡ length (doubled v) + 2
 quoted-size v e = ap length (field-quoted v e) ∙ quoted-length v
 
-pub quoted-sets : (out : List ℕ) (to : ℕ) (v : List ℕ) → anySpecial v ≡ true → sets out to (fieldOf v) ≡ set (sets (set out to 34) (to + 1) (doubled v)) (to + 1 + length (doubled v)) 34
-quoted-sets out to v e = rw (field-quoted v e, add-one to) (sets-append (set out to 34) (suc to) (doubled v) (34 ∷ []))
+pub quoted-sets : (out : List ℕ) (to : ℕ) (v : List ℕ) → anySpecial v ≡ true → sets out to (fieldOf v) ≡ set (sets (set out to quote) (to + 1) (doubled v)) (to + 1 + length (doubled v)) quote
+quoted-sets out to v e = rw (field-quoted v e, add-one to) (sets-append (set out to quote) (suc to) (doubled v) (quote ∷ []))
 
 module _ (texts lengths : List ℕ) (k from n : ℕ) (h : k < length lengths) (i : from ≤ length texts) (e : n ≡ min (getD lengths k 0) (length texts - from)) where
   pub size-turn : length (rowOf (left texts lengths k from)) ≡ length (fieldOf (take (from + n - from) (drop from texts))) + 1 + length (rowOf (left texts lengths (k + 1) (from + n)))
@@ -416,7 +417,7 @@ pub field-bound : (v : List ℕ) → length (fieldOf v) ≤ length v + length v 
 unfolding fieldOf
 field-bound v = go (anySpecial v)
   where
-    go : (t : Bool) → length (pick t (34 ∷ doubled v ++ (34 ∷ [])) v) ≤ length v + length v + 2
+    go : (t : Bool) → length (pick t (quote ∷ doubled v ++ (quote ∷ [])) v) ≤ length v + length v + 2
     go true = omega (arith, quoted-length v, doubled-most v)
     go false = omega arith
 
@@ -425,7 +426,7 @@ pub field-plain : (v : List ℕ) → length (fieldOf v) ≡ length v → fieldOf
 unfolding fieldOf
 field-plain v e = go (anySpecial v) e
   where
-    go : (t : Bool) → length (pick t (34 ∷ doubled v ++ (34 ∷ [])) v) ≡ length v → pick t (34 ∷ doubled v ++ (34 ∷ [])) v ≡ v
+    go : (t : Bool) → length (pick t (quote ∷ doubled v ++ (quote ∷ [])) v) ≡ length v → pick t (quote ∷ doubled v ++ (quote ∷ [])) v ≡ v
     go true h = absurd (omega (arith, quoted-length v, doubled-less v))
     go false h = refl
 

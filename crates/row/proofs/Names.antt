@@ -9,6 +9,8 @@ use Rattle.csv.specs.Write.{special, anySpecial, fieldOf, rowOf}
 use Rattle.row.specs.Columns.{columns, columnsOf, columnCount, line, namesLine}
 use Rattle.row.specs.Steps.{lines, allLines}
 use Rattle.row.specs.Claims.{NamesAreARow}
+use Rattle.csv.specs.Csv.{maxColumns}
+use Rattle.base.specs.Table.{lastTable}
 
 abbrev pub counts : List ℕ
 counts = 3 ∷ 3 ∷ 5 ∷ 8 ∷ 10 ∷ 3 ∷ 2 ∷ 8 ∷ []
@@ -20,11 +22,11 @@ pub eight-tables : length columns ≡ 8
 unfolding columns
 eight-tables = refl
 
-columns-past : (t : ℕ) → 7 < t → columnsOf t ≡ []
+columns-past : (t : ℕ) → lastTable < t → columnsOf t ≡ []
 unfolding columnsOf
 columns-past t h = List·getD-eq-default columns [] {n = t} (omega (arith, eight-tables))
 
-pub count-past : (t : ℕ) → 7 < t → 0 ≡ columnCount t
+pub count-past : (t : ℕ) → lastTable < t → 0 ≡ columnCount t
 count-past t h = sym (ap length (columns-past t h))
 
 -- what holds at each of eight numbers holds below eight
@@ -43,9 +45,9 @@ pub count-is : (t : ℕ) → t < 8 → getD counts t 0 ≡ columnCount t
 unfolding columnsOf columns
 count-is = below (λ t. getD counts t 0 ≡ length (getD columns t [])) refl refl refl refl refl refl refl refl
 
-pub count-most : (t : ℕ) → t ≤ 7 → columnCount t ≤ 10
+pub count-most : (t : ℕ) → t ≤ lastTable → columnCount t ≤ maxColumns
 unfolding columnsOf columns
-count-most t h = below (λ t. length (getD columns t []) ≤ 10) (omega arith) (omega arith) (omega arith) (omega arith) (omega arith) (omega arith) (omega arith) (omega arith) t (omega arith)
+count-most t h = below (λ t. length (getD columns t []) ≤ maxColumns) (omega arith) (omega arith) (omega arith) (omega arith) (omega arith) (omega arith) (omega arith) (omega arith) t (omega arith)
 
 -- where the names line of a table stands among all of them
 pub record Stands (t : ℕ) : Type 0 where

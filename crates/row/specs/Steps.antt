@@ -5,6 +5,7 @@ use mathlib.Core.List.{List, [], _∷_, _++_}
 use lib.ListN.{length, getD}
 use Rattle.csv.specs.Write.{fieldOf}
 use Rattle.row.specs.Columns.{columns, line}
+use Rattle.csv.specs.Csv.{quote}
 
 -- the names lines of tables, one behind the other
 unfoldable pub lines : List (List (List ℕ)) → List ℕ
@@ -21,4 +22,4 @@ Sizes sizes k (v ∷ vs) = (getD sizes k 0 ≡ length (fieldOf v)) × Sizes size
 
 -- n is the place of the first quote, or the length for none
 abbrev pub FirstQuote : List ℕ → ℕ → Type 0
-FirstQuote v n = (n ≤ length v) × ((j : ℕ) → j < n → getD v j 0 ≡ 34 → ⊥) × (n < length v → getD v n 0 ≡ 34)
+FirstQuote v n = (n ≤ length v) × ((j : ℕ) → j < n → getD v j 0 ≡ quote → ⊥) × (n < length v → getD v n 0 ≡ quote)

@@ -9,6 +9,15 @@ ghost use Rattle.csv.specs.Write.{special, anySpecial, doubled, fieldOf, rowOf}
 ghost use Rattle.row.specs.Columns.{columnCount, namesLine};
 ghost use Rattle.row.specs.Write.{handed, within, after, namesAnswer, rowAnswer};
 ghost use Rattle.row.specs.Steps.{allLines, Sizes, FirstQuote};
+ghost use Rattle.csv.specs.Csv.{quote, comma, maxRow, lineFeed};
+use base::table::LAST_TABLE;
+use base::table::TABLES;
+use csv::COMMA;
+use csv::CR;
+use csv::LF;
+use csv::MAX_COLUMNS;
+use csv::MAX_ROW;
+use csv::QUOTE;
 use refusal::Refusal;
 
 pub enum RowAnswer {
@@ -17,8 +26,11 @@ pub enum RowAnswer {
     Refused(Refusal),
 }
 
+// What the size of a row over its limit is given as.
+const TOO_LONG: usize = MAX_ROW + 1;
+
 // How many columns each table has.
-const COUNTS: [usize; 8] = [3, 3, 5, 8, 10, 3, 2, 8];
+const COUNTS: [usize; TABLES] = [3, 3, 5, 8, 10, 3, 2, 8];
 
 // Where each table's names line starts among all of them, and their end.
 const STARTS: [usize; 9] = [0, 37, 65, 120, 218, 306, 337, 367, 473];
@@ -27,7 +39,7 @@ const STARTS: [usize; 9] = [0, 37, 65, 120, 218, 306, 337, 367, 473];
 pub fn column_count(table: u32) -> usize
     ensures { λ r. ⌜ r ≡ columnCount table ⌝ }
 {
-    if 7 < table {
+    if LAST_TABLE < table {
         return 0;
     }
     let counts = COUNTS;
@@ -67,7 +79,7 @@ fn put_line(all: &[u8], table: usize, out: &mut [u8]) -> RowAnswer
 pub fn names_line(table: u32, out: &mut [u8]) -> RowAnswer
     ensures { λ r. ⌜ (r ≡ namesAnswer table (length (now (out .entry)))) × (now (out .exit) ≡ after r (namesLine table) (now (out .entry))) ⌝ }
 {
-    if 7 < table {
+    if LAST_TABLE < table {
         return RowAnswer::Refused(Refusal::Argument);
     }
     let all =
@@ -79,7 +91,7 @@ pub fn names_line(table: u32, out: &mut [u8]) -> RowAnswer
 fn is_special(b: u8) -> bool
     ensures { λ r. ⌜ r ≡ special b ⌝ }
 {
-    (b == 34) | ((b == 44) | ((b == 13) | (b == 10)))
+    (b == QUOTE) | ((b == COMMA) | ((b == CR) | (b == LF)))
 }
 
 // Whether there is one among a few bytes; they are counted, so that many are tested at once.
@@ -150,7 +162,7 @@ fn quotes(v: &[u8]) -> u8
     let mut n: u8 = 0;
     let mut i: usize = 0;
     while i < v.len() {
-        if v[i] == 34 {
+        if v[i] == QUOTE {
             n += 1;
         }
         i += 1;
@@ -160,7 +172,7 @@ fn quotes(v: &[u8]) -> u8
 
 // How many bytes a value has with its quotes doubled.
 fn doubled_size(v: &[u8]) -> usize
-    requires { ⌜ length (now v) ≤ 8192 ⌝ }
+    requires { ⌜ length (now v) ≤ maxRow ⌝ }
     ensures { λ r. ⌜ r ≡ length (doubled (now (v .entry))) ⌝ }
 {
     let mut n = v.len();
@@ -182,8 +194,8 @@ fn put_each(v: &[u8], out: &mut [u8], to: usize) -> usize
     let mut i: usize = 0;
     while i < v.len() {
         let b = v[i];
-        if b == 34 {
-            out[n] = 34;
+        if b == QUOTE {
+            out[n] = QUOTE;
             n += 1;
         }
         out[n] = b;
@@ -194,9 +206,9 @@ fn put_each(v: &[u8], out: &mut [u8], to: usize) -> usize
 }
 
 fn quote_place(byte: u8, i: u8, none: u8) -> u8
-    ensures { λ r. ⌜ r ≡ pick (eqb byte 34) i none ⌝ }
+    ensures { λ r. ⌜ r ≡ pick (eqb byte quote) i none ⌝ }
 {
-    if byte == 34 { i } else { none }
+    if byte == QUOTE { i } else { none }
 }
 
 fn least(a: u8, b: u8) -> u8
@@ -257,8 +269,8 @@ fn put_runs(v: &[u8], size: usize, out: &mut [u8], to: usize)
         n += run;
         i += run;
         if run < 64 {
-            out[n] = 34;
-            out[n + 1] = 34;
+            out[n] = QUOTE;
+            out[n + 1] = QUOTE;
             n += 2;
             i += 1;
         }
@@ -343,7 +355,7 @@ fn cut(left: usize, n: u32) -> usize
 
 // How many bytes a value's field has.
 fn field_size(v: &[u8]) -> usize
-    requires { ⌜ length (now v) ≤ 8192 ⌝ }
+    requires { ⌜ length (now v) ≤ maxRow ⌝ }
     ensures { λ r. ⌜ r ≡ length (fieldOf (now (v .entry))) ⌝ }
 {
     if any_special(v) {
@@ -361,29 +373,29 @@ fn put_field(v: &[u8], size: usize, out: &mut [u8], to: usize)
         copy(v, out, to);
         return;
     }
-    out[to] = 34;
+    out[to] = QUOTE;
     put_inner(v, size - 2, out, to + 1);
-    out[to + size - 1] = 34;
+    out[to + size - 1] = QUOTE;
 }
 
 // The row's size, or 8,193 for any above 8,192, with the sizes of its fields.
 fn row_size(texts: &[u8], lengths: &[u32], sizes: &mut [usize]) -> usize
     requires { ⌜ length (now lengths) ≤ length (now sizes) ⌝ }
-    ensures { λ r. ⌜ (r ≡ min 8193 (length (rowOf (handed (now (texts .entry)) (now (lengths .entry)))))) × (r ≤ 8192 → Sizes (now (sizes .exit)) 0 (handed (now (texts .entry)) (now (lengths .entry)))) ⌝ }
+    ensures { λ r. ⌜ (r ≡ min (maxRow + 1) (length (rowOf (handed (now (texts .entry)) (now (lengths .entry)))))) × (r ≤ maxRow → Sizes (now (sizes .exit)) 0 (handed (now (texts .entry)) (now (lengths .entry)))) ⌝ }
 {
     let mut total: usize = 0;
     let mut from: usize = 0;
     let mut k: usize = 0;
     while k < lengths.len() {
         let n = cut(texts.len() - from, lengths[k]);
-        if 8192 < n {
-            return 8193;
+        if MAX_ROW < n {
+            return TOO_LONG;
         }
         let end = from + n;
         let size = field_size(&texts[from..end]);
         total = total + size + 1;
-        if 8192 < total {
-            return 8193;
+        if MAX_ROW < total {
+            return TOO_LONG;
         }
         sizes[k] = size;
         from = end;
@@ -394,9 +406,9 @@ fn row_size(texts: &[u8], lengths: &[u32], sizes: &mut [usize]) -> usize
 
 // What stands behind field k of n.
 fn end_byte(k: usize, n: usize) -> u8
-    ensures { λ r. ⌜ r ≡ pick (eqb k n) 10 44 ⌝ }
+    ensures { λ r. ⌜ r ≡ pick (eqb k n) lineFeed comma ⌝ }
 {
-    if k == n { 10 } else { 44 }
+    if k == n { LF } else { COMMA }
 }
 
 // The row, with the sizes of its fields, into out.
@@ -424,15 +436,15 @@ fn put_row(texts: &[u8], lengths: &[u32], sizes: &[usize], out: &mut [u8])
 pub fn row(table: u32, texts: &[u8], lengths: &[u32], out: &mut [u8]) -> RowAnswer
     ensures { λ r. ⌜ (r ≡ rowAnswer table (now (texts .entry)) (now (lengths .entry)) (length (now (out .entry)))) × (now (out .exit) ≡ after r (rowOf (handed (now (texts .entry)) (now (lengths .entry)))) (now (out .entry))) ⌝ }
 {
-    if 7 < table {
+    if LAST_TABLE < table {
         return RowAnswer::Refused(Refusal::Argument);
     }
     if lengths.len() != column_count(table) {
         return RowAnswer::Refused(Refusal::Row);
     }
-    let mut sizes: [usize; 10] = [0; 10];
+    let mut sizes: [usize; MAX_COLUMNS] = [0; MAX_COLUMNS];
     let size = row_size(texts, lengths, &mut sizes);
-    if 8192 < size {
+    if MAX_ROW < size {
         return RowAnswer::Refused(Refusal::Row);
     }
     if out.len() < size {

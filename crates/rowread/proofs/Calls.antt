@@ -16,6 +16,7 @@ use Rattle.rowread.specs.declared.ReadAnswer.{ReadAnswer}
 use Rattle.rowread.specs.declared.ReadAnswer.the-variants.{Stored, End, Refused}
 use Rattle.rowread.specs.Stored.{partAt, rowAt, valuesOf, valuesAt, joined, endsOf, found, readAnswer, after}
 use Rattle.rowread.specs.Steps.{scanFrom, scanOf, IsRow, Holds}
+use Rattle.csv.specs.Csv.{maxRow}
 
 take-min : (n : ℕ) (l : List ℕ) → take (min n (length l)) l ≡ take n l
 take-min n l = go (decLt n (length l))
@@ -24,10 +25,10 @@ take-min n l = go (decLt n (length l))
     go (yes h) = let e : min n (length l) ≡ n = omega arith in rw e
     go (no h) = take-all (min n (length l)) l (omega arith) ∙ sym (take-all n l (omega arith))
 
-pub part-is : (table : List ℕ) (place end : ℕ) → place ≤ length table → end ≡ place + min 8192 (length table - place) → take (end - place) (drop place table) ≡ partAt table place
+pub part-is : (table : List ℕ) (place end : ℕ) → place ≤ length table → end ≡ place + min maxRow (length table - place) → take (end - place) (drop place table) ≡ partAt table place
 part-is table place end h e =
-    let n : end - place ≡ min 8192 (length (drop place table)) = omega (arith, length-drop place table) in
-    rw n (take-min 8192 (drop place table))
+    let n : end - place ≡ min maxRow (length (drop place table)) = omega (arith, length-drop place table) in
+    rw n (take-min maxRow (drop place table))
 
 pub length-ends : (from : ℕ) (vs : List (List ℕ)) → length (endsOf from vs) ≡ length vs
 unfolding endsOf

@@ -8,7 +8,7 @@ use mathlib.Core.Bool.{Bool, true, false}
 use mathlib.Core.List.{List, [], _∷_, _++_}
 use lib.ListN.{length, take, drop, getD, set, drop-of-length-le, length-drop, length-append}
 use lib.Seq.{sets, drop-cons, drop-drop}
-use Rattle.csv.specs.Csv.{isText, lf, Record, last, more}
+use Rattle.csv.specs.Csv.{isText, lf, Record, last, more, quote, comma, lineFeed}
 use Rattle.csv.specs.Read.{plainValue, Got, got, bad, push, inner, fieldAt, Row, row, malformed, values}
 use Rattle.csv.proofs.Grammar.{field-complete, comma-stops, lf-stops, sound}
 use Rattle.csv.proofs.Laws.{sets-append}
@@ -34,7 +34,7 @@ unfolding plainValue
 plain-ends t i h = rw (drop-of-length-le t h)
 
 -- where it ends
-pub plain-place : (t : List ℕ) (from : ℕ) → from ≤ length t → (getD t from 0 ≡ 34 → ⊥) → from + length (plainValue (drop from t)) ≡ length t - length (restOf (fieldAt (drop from t)))
+pub plain-place : (t : List ℕ) (from : ℕ) → from ≤ length t → (getD t from 0 ≡ quote → ⊥) → from + length (plainValue (drop from t)) ≡ length t - length (restOf (fieldAt (drop from t)))
 plain-place t from h e =
     omega (arith, plain-size t from, ap (λ (g : Got). length (restOf g)) (field-plain t from e))
 
@@ -100,22 +100,22 @@ module _ (t : List ℕ) (p : ℕ) (r : List ℕ) (h : Has (inner (drop p t)) r) 
       go (yes d) = d
       go (no d) = absurd (not-bad r (has-same (inner (drop p t)) bad r (inner-out t p (omega arith)) h))
 
-  pub copy-byte : (getD t p 0 ≡ 34 → ⊥) → Has (inner (drop (p + 1) t)) r × (valueOf (inner (drop p t)) ≡ getD t p 0 ∷ valueOf (inner (drop (p + 1) t)))
+  pub copy-byte : (getD t p 0 ≡ quote → ⊥) → Has (inner (drop (p + 1) t)) r × (valueOf (inner (drop p t)) ≡ getD t p 0 ∷ valueOf (inner (drop (p + 1) t)))
   copy-byte e =
       let q = inner-byte t p copy-inside e in
       let w = push-has (getD t p 0) (inner (drop (p + 1) t)) r (has-same _ _ r q h) in
       (w .0, ap valueOf q ∙ w .1)
 
   -- two quotes are one
-  pub copy-twice : getD t p 0 ≡ 34 → getD t (p + 1) 0 ≡ 34
+  pub copy-twice : getD t p 0 ≡ quote → getD t (p + 1) 0 ≡ quote
       → (p + 1 < length t) × Has (inner (drop (p + 1 + 1) t)) r × (valueOf (inner (drop p t)) ≡ getD t p 0 ∷ valueOf (inner (drop (p + 1 + 1) t)))
   copy-twice e d =
       let q = inner-twice t p copy-inside e d in
-      let w = push-has 34 (inner (drop (p + 1 + 1) t)) r (has-same _ _ r q h) in
+      let w = push-has quote (inner (drop (p + 1 + 1) t)) r (has-same _ _ r q h) in
       (past t (p + 1) 33 d, w .0, ap valueOf q ∙ w .1 ∙ rw e)
 
   -- a quote that no other follows closes
-  pub copy-close : getD t p 0 ≡ 34 → (getD t (p + 1) 0 ≡ 34 → ⊥) → (valueOf (inner (drop p t)) ≡ []) × (p + 1 ≡ length t - length r)
+  pub copy-close : getD t p 0 ≡ quote → (getD t (p + 1) 0 ≡ quote → ⊥) → (valueOf (inner (drop p t)) ≡ []) × (p + 1 ≡ length t - length r)
   copy-close e d =
       let i : inner (drop p t) ≡ got [] (drop (p + 1) t) = inner-close t p copy-inside e d in
       let q : r ≡ drop (p + 1) t = cc in
@@ -141,15 +141,15 @@ starts t r b e = omega (arith, ap length e, length-drop (length t - length (b �
 
 fields-of : (t : List ℕ) {bs r : List ℕ} {vs : List (List ℕ)} → Record bs vs r → (from : ℕ) → bs ≡ drop from t → from ≤ length t → Fields t from vs
 fields-of t (last {v = v} {r = r} f lf) from b h =
-    let q : fieldAt (drop from t) ≡ got v (10 ∷ r) = ap fieldAt (sym b) ∙ field-complete f lf-stops in
-    let p = field-place t from v (10 ∷ r) h q in
-    one h (starts t r 10 (p .0)) (q ∙ ap (got v) (p .0)) none
+    let q : fieldAt (drop from t) ≡ got v (lineFeed ∷ r) = ap fieldAt (sym b) ∙ field-complete f lf-stops in
+    let p = field-place t from v (lineFeed ∷ r) h q in
+    one h (starts t r lineFeed (p .0)) (q ∙ ap (got v) (p .0)) none
 fields-of t (more {v = v} {w = w} {cs = cs} {ws = ws} f g) from b h =
-    let q : fieldAt (drop from t) ≡ got v (44 ∷ cs) = ap fieldAt (sym b) ∙ field-complete f comma-stops in
-    let p = field-place t from v (44 ∷ cs) h q in
-    let i = starts t cs 44 (p .0) in
-    let d : cs ≡ drop (length t - length (44 ∷ cs) + 1) t = ap (drop 1) (p .0) ∙ drop-drop 1 (length t - length (44 ∷ cs)) t in
-    one h i (q ∙ ap (got v) (p .0)) (fields-of t g (length t - length (44 ∷ cs) + 1) d (omega arith))
+    let q : fieldAt (drop from t) ≡ got v (comma ∷ cs) = ap fieldAt (sym b) ∙ field-complete f comma-stops in
+    let p = field-place t from v (comma ∷ cs) h q in
+    let i = starts t cs comma (p .0) in
+    let d : cs ≡ drop (length t - length (comma ∷ cs) + 1) t = ap (drop 1) (p .0) ∙ drop-drop 1 (length t - length (comma ∷ cs)) t in
+    one h i (q ∙ ap (got v) (p .0)) (fields-of t g (length t - length (comma ∷ cs) + 1) d (omega arith))
 
 -- the first of several
 pub record First (t : List ℕ) (from : ℕ) (ws : List (List ℕ)) : Type 0 where

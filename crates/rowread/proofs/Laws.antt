@@ -12,7 +12,7 @@ use lib.ListN.{length, drop, getD, drop-of-length-le, length-drop, length-append
 use lib.Seq.{drop-cons, getD-drop, drop-drop}
 use borrow.Author.Tests.{eq-eqb, ne-eqb, eqb-true}
 use Rattle.base.specs.Number.{pick}
-use Rattle.csv.specs.Csv.{isText}
+use Rattle.csv.specs.Csv.{isText, quote, comma, lineFeed}
 use Rattle.csv.specs.Read.{Got, got, bad, push, plainValue, plainRest, inner, closing, fieldAt, Row, row, malformed, front, rowEnd, ended, parted, values}
 use Rattle.csv.proofs.Places.{field-place}
 use Rattle.rowread.specs.declared.Piece.{Piece}
@@ -37,15 +37,15 @@ plain-turn t i h e = rw (add-one i, drop-cons t i 0 h) (simp e (omega arith))
 
 -- ---- a quoted value
 
-closing-yes : (bs : List ℕ) → getD bs 0 0 ≡ 34 → closing bs ≡ push 34 (inner (drop 1 bs))
+closing-yes : (bs : List ℕ) → getD bs 0 0 ≡ quote → closing bs ≡ push quote (inner (drop 1 bs))
 unfolding closing
 closing-yes [] h = absurd (omega arith)
-closing-yes (b ∷ bs) h = simp (eq-eqb b 34 h)
+closing-yes (b ∷ bs) h = simp (eq-eqb b quote h)
 
-closing-no : (bs : List ℕ) → (getD bs 0 0 ≡ 34 → ⊥) → closing bs ≡ got [] bs
+closing-no : (bs : List ℕ) → (getD bs 0 0 ≡ quote → ⊥) → closing bs ≡ got [] bs
 unfolding closing
 closing-no [] h = refl
-closing-no (b ∷ bs) h = simp (ne-eqb b 34 h)
+closing-no (b ∷ bs) h = simp (ne-eqb b quote h)
 
 first : (t : List ℕ) (i : ℕ) → getD (drop i t) 0 0 ≡ getD t i 0
 first t i = rw (getD-drop i t 0 0, add-zero i)
@@ -54,18 +54,18 @@ pub inner-out : (t : List ℕ) (i : ℕ) → length t ≤ i → inner (drop i t)
 unfolding inner
 inner-out t i h = rw (drop-of-length-le t h)
 
-pub inner-byte : (t : List ℕ) (i : ℕ) → i < length t → (getD t i 0 ≡ 34 → ⊥) → inner (drop i t) ≡ push (getD t i 0) (inner (drop (i + 1) t))
+pub inner-byte : (t : List ℕ) (i : ℕ) → i < length t → (getD t i 0 ≡ quote → ⊥) → inner (drop i t) ≡ push (getD t i 0) (inner (drop (i + 1) t))
 unfolding inner
-inner-byte t i h e = rw (add-one i, drop-cons t i 0 h) (simp (ne-eqb (getD t i 0) 34 e))
+inner-byte t i h e = rw (add-one i, drop-cons t i 0 h) (simp (ne-eqb (getD t i 0) quote e))
 
-pub inner-quote : (t : List ℕ) (i : ℕ) → i < length t → getD t i 0 ≡ 34 → inner (drop i t) ≡ closing (drop (i + 1) t)
+pub inner-quote : (t : List ℕ) (i : ℕ) → i < length t → getD t i 0 ≡ quote → inner (drop i t) ≡ closing (drop (i + 1) t)
 unfolding inner
-inner-quote t i h e = rw (add-one i, drop-cons t i 0 h) (simp (eq-eqb (getD t i 0) 34 e))
+inner-quote t i h e = rw (add-one i, drop-cons t i 0 h) (simp (eq-eqb (getD t i 0) quote e))
 
-pub inner-twice : (t : List ℕ) (i : ℕ) → i < length t → getD t i 0 ≡ 34 → getD t (i + 1) 0 ≡ 34 → inner (drop i t) ≡ push 34 (inner (drop (i + 1 + 1) t))
+pub inner-twice : (t : List ℕ) (i : ℕ) → i < length t → getD t i 0 ≡ quote → getD t (i + 1) 0 ≡ quote → inner (drop i t) ≡ push quote (inner (drop (i + 1 + 1) t))
 inner-twice t i h e k = inner-quote t i h e ∙ closing-yes (drop (i + 1) t) (first t (i + 1) ∙ k) ∙ rw (drop-drop 1 (i + 1) t)
 
-pub inner-close : (t : List ℕ) (i : ℕ) → i < length t → getD t i 0 ≡ 34 → (getD t (i + 1) 0 ≡ 34 → ⊥) → inner (drop i t) ≡ got [] (drop (i + 1) t)
+pub inner-close : (t : List ℕ) (i : ℕ) → i < length t → getD t i 0 ≡ quote → (getD t (i + 1) 0 ≡ quote → ⊥) → inner (drop i t) ≡ got [] (drop (i + 1) t)
 inner-close t i h e k = inner-quote t i h e ∙ closing-no (drop (i + 1) t) (λ q. k (sym (first t (i + 1)) ∙ q))
 
 abbrev pub add : ℕ → Piece → Piece
@@ -90,13 +90,13 @@ past t i b e = go (decLt i (length t))
 pub closed : (t : List ℕ) (i k : ℕ) → i ≤ length t → Value i k ≡ add k (pieceOf (length t) (got [] (drop i t)))
 closed t i k h = rw (length-drop i t) (let e : length t - (length t - i) ≡ i = omega arith in rw e (ap (Value i) (omega arith)))
 
-pub turn-byte : (t : List ℕ) (i k : ℕ) → i < length t → (getD t i 0 ≡ 34 → ⊥) → add k (pieceOf (length t) (inner (drop i t))) ≡ add (k + 1) (pieceOf (length t) (inner (drop (i + 1) t)))
+pub turn-byte : (t : List ℕ) (i k : ℕ) → i < length t → (getD t i 0 ≡ quote → ⊥) → add k (pieceOf (length t) (inner (drop i t))) ≡ add (k + 1) (pieceOf (length t) (inner (drop (i + 1) t)))
 turn-byte t i k h e = rw (inner-byte t i h e) (add-push k (length t) (getD t i 0) (inner (drop (i + 1) t)))
 
-pub turn-twice : (t : List ℕ) (i k : ℕ) → i < length t → getD t i 0 ≡ 34 → getD t (i + 1) 0 ≡ 34 → add k (pieceOf (length t) (inner (drop i t))) ≡ add (k + 1) (pieceOf (length t) (inner (drop (i + 1 + 1) t)))
-turn-twice t i k h e f = rw (inner-twice t i h e f) (add-push k (length t) 34 (inner (drop (i + 1 + 1) t)))
+pub turn-twice : (t : List ℕ) (i k : ℕ) → i < length t → getD t i 0 ≡ quote → getD t (i + 1) 0 ≡ quote → add k (pieceOf (length t) (inner (drop i t))) ≡ add (k + 1) (pieceOf (length t) (inner (drop (i + 1 + 1) t)))
+turn-twice t i k h e f = rw (inner-twice t i h e f) (add-push k (length t) quote (inner (drop (i + 1 + 1) t)))
 
-pub turn-close : (t : List ℕ) (i k : ℕ) → i < length t → getD t i 0 ≡ 34 → (getD t (i + 1) 0 ≡ 34 → ⊥) → Value (i + 1) k ≡ add k (pieceOf (length t) (inner (drop i t)))
+pub turn-close : (t : List ℕ) (i k : ℕ) → i < length t → getD t i 0 ≡ quote → (getD t (i + 1) 0 ≡ quote → ⊥) → Value (i + 1) k ≡ add k (pieceOf (length t) (inner (drop i t)))
 turn-close t i k h e f = rw (inner-close t i h e f) (closed t (i + 1) k (omega arith))
 
 pub turn-out : (t : List ℕ) (i k : ℕ) → length t ≤ i → Bad ≡ add k (pieceOf (length t) (inner (drop i t)))
@@ -104,13 +104,13 @@ turn-out t i k h = rw (inner-out t i h)
 
 -- ---- a row end
 
-pub end-yes : (t : List ℕ) (i : ℕ) → getD t i 0 ≡ 10 → 1 ≡ rowEnd (drop i t)
+pub end-yes : (t : List ℕ) (i : ℕ) → getD t i 0 ≡ lineFeed → 1 ≡ rowEnd (drop i t)
 unfolding rowEnd
-end-yes t i e = rw (first t i) (simp (eq-eqb (getD t i 0) 10 e))
+end-yes t i e = rw (first t i) (simp (eq-eqb (getD t i 0) lineFeed e))
 
-pub end-no : (t : List ℕ) (i : ℕ) → (getD t i 0 ≡ 10 → ⊥) → 0 ≡ rowEnd (drop i t)
+pub end-no : (t : List ℕ) (i : ℕ) → (getD t i 0 ≡ lineFeed → ⊥) → 0 ≡ rowEnd (drop i t)
 unfolding rowEnd
-end-no t i e = rw (first t i) (simp (ne-eqb (getD t i 0) 10 e))
+end-no t i e = rw (first t i) (simp (ne-eqb (getD t i 0) lineFeed e))
 
 -- ---- a field
 
@@ -126,19 +126,19 @@ plain-all (b ∷ bs) = go (isText b) (plain-all bs)
 pub plain-size : (t : List ℕ) (i : ℕ) → length (plainValue (drop i t)) + length (plainRest (drop i t)) ≡ length t - i
 plain-size t i = sym (length-append (plainValue (drop i t)) (plainRest (drop i t))) ∙ ap length (plain-all (drop i t)) ∙ length-drop i t
 
-field-not : (bs : List ℕ) → (getD bs 0 0 ≡ 34 → ⊥) → fieldAt bs ≡ got (plainValue bs) (plainRest bs)
+field-not : (bs : List ℕ) → (getD bs 0 0 ≡ quote → ⊥) → fieldAt bs ≡ got (plainValue bs) (plainRest bs)
 unfolding fieldAt plainValue plainRest
 field-not [] h = refl
-field-not (b ∷ bs) h = simp (ne-eqb b 34 h)
+field-not (b ∷ bs) h = simp (ne-eqb b quote h)
 
-pub field-quote : (t : List ℕ) (i : ℕ) → getD t i 0 ≡ 34 → fieldAt (drop i t) ≡ inner (drop (i + 1) t)
+pub field-quote : (t : List ℕ) (i : ℕ) → getD t i 0 ≡ quote → fieldAt (drop i t) ≡ inner (drop (i + 1) t)
 unfolding fieldAt
-field-quote t i e = rw (add-one i, drop-cons t i 0 (past t i 33 e)) (simp (eq-eqb (getD t i 0) 34 e))
+field-quote t i e = rw (add-one i, drop-cons t i 0 (past t i 33 e)) (simp (eq-eqb (getD t i 0) quote e))
 
-pub field-plain : (t : List ℕ) (i : ℕ) → (getD t i 0 ≡ 34 → ⊥) → fieldAt (drop i t) ≡ got (plainValue (drop i t)) (plainRest (drop i t))
+pub field-plain : (t : List ℕ) (i : ℕ) → (getD t i 0 ≡ quote → ⊥) → fieldAt (drop i t) ≡ got (plainValue (drop i t)) (plainRest (drop i t))
 field-plain t i e = field-not (drop i t) (λ q. e (sym (first t i) ∙ q))
 
-pub plain-piece : (t : List ℕ) (i e : ℕ) → i ≤ length t → (getD t i 0 ≡ 34 → ⊥) → e ≡ i + length (plainValue (drop i t)) → Value e (e - i) ≡ pieceOf (length t) (fieldAt (drop i t))
+pub plain-piece : (t : List ℕ) (i e : ℕ) → i ≤ length t → (getD t i 0 ≡ quote → ⊥) → e ≡ i + length (plainValue (drop i t)) → Value e (e - i) ≡ pieceOf (length t) (fieldAt (drop i t))
 plain-piece t i e l h q =
     let d = plain-size t i in
     let a : length t - length (plainRest (drop i t)) ≡ e = omega arith in
@@ -185,14 +185,14 @@ scan-front L s v (row vs r) =
     let e : s + length (v ++ joined vs) ≡ s + length v + length (joined vs) = simp length-append (omega arith) in
     rw e
 
-parted-yes : (t : List ℕ) (n to : ℕ) (v : List ℕ) → getD t to 0 ≡ 44 → parted (values n) v (drop to t) ≡ front v (values n (drop (to + 1) t))
+parted-yes : (t : List ℕ) (n to : ℕ) (v : List ℕ) → getD t to 0 ≡ comma → parted (values n) v (drop to t) ≡ front v (values n (drop (to + 1) t))
 unfolding parted
-parted-yes t n to v e = rw (add-one to, drop-cons t to 0 (past t to 43 e)) (simp (eq-eqb (getD t to 0) 44 e))
+parted-yes t n to v e = rw (add-one to, drop-cons t to 0 (past t to 43 e)) (simp (eq-eqb (getD t to 0) comma e))
 
-parted-no : (n : ℕ) (v bs : List ℕ) → (getD bs 0 0 ≡ 44 → ⊥) → parted (values n) v bs ≡ malformed
+parted-no : (n : ℕ) (v bs : List ℕ) → (getD bs 0 0 ≡ comma → ⊥) → parted (values n) v bs ≡ malformed
 unfolding parted
 parted-no n v [] e = refl
-parted-no n v (b ∷ bs) e = simp (ne-eqb b 44 e)
+parted-no n v (b ∷ bs) e = simp (ne-eqb b comma e)
 
 -- a row of no values
 pub scan-none : (t : List ℕ) (width : ℕ) → width ≡ 0 → Broken ≡ scanOf width t
@@ -201,13 +201,13 @@ scan-none t width e = rw e
 
 -- m values are left to read, at least two
 module _ (t : List ℕ) (s from m n : ℕ) (left : m ≡ suc (suc n)) where
-  pub scan-turn : {to size : ℕ} → IsValue t from to size → getD t to 0 ≡ 44
+  pub scan-turn : {to size : ℕ} → IsValue t from to size → getD t to 0 ≡ comma
       → scanFrom (length t) s (values m (drop from t)) ≡ scanFrom (length t) (s + size) (values (suc n) (drop (to + 1) t))
   unfolding values
   scan-turn {to} {size} p e =
       rw left (simp (p .read) (rw (parted-yes t (suc n) to (p .value) e) (scan-front (length t) s (p .value) (values (suc n) (drop (to + 1) t)) ∙ rw (p .sized))))
 
-  pub scan-no-comma : {to size : ℕ} → IsValue t from to size → (getD t to 0 ≡ 44 → ⊥) → Broken ≡ scanFrom (length t) s (values m (drop from t))
+  pub scan-no-comma : {to size : ℕ} → IsValue t from to size → (getD t to 0 ≡ comma → ⊥) → Broken ≡ scanFrom (length t) s (values m (drop from t))
   unfolding values
   scan-no-comma {to} {size} p e = rw left (simp (p .read) (rw (parted-no (suc n) (p .value) (drop to t) (λ q. e (sym (first t to) ∙ q)))))
 
@@ -216,10 +216,10 @@ scan-bad t s from m n left e = rw (left, values-bad n (drop from t) e)
 
 pub end-inside : (t : List ℕ) (to : ℕ) → (rowEnd (drop to t) ≡ 0 → ⊥) → to + rowEnd (drop to t) ≤ length t
 unfolding rowEnd
-end-inside t to h = rw (first t to) (go (eqb (getD t to 0) 10) refl (λ q. h (rw (first t to) q)))
+end-inside t to h = rw (first t to) (go (eqb (getD t to 0) lineFeed) refl (λ q. h (rw (first t to) q)))
   where
-    go : (q : Bool) → eqb (getD t to 0) 10 ≡ q → (_≡_ {A = ℕ} (pick q 1 0) 0 → ⊥) → to + pick q 1 0 ≤ length t
-    go true e n = let p : to < length t = past t to 9 (eqb-true (getD t to 0) 10 e) in omega arith
+    go : (q : Bool) → eqb (getD t to 0) lineFeed ≡ q → (_≡_ {A = ℕ} (pick q 1 0) 0 → ⊥) → to + pick q 1 0 ≤ length t
+    go true e n = let p : to < length t = past t to 9 (eqb-true (getD t to 0) lineFeed e) in omega arith
     go false e n = absurd (n refl)
 
 -- one value is left

@@ -12,7 +12,7 @@ use lib.ListN.{length, take, drop, getD, set, drop-of-length-le, length-drop, le
 use lib.Seq.{sets, drop-cons, drop-drop, take-all, take-suc, split-at}
 use borrow.Author.Tests.{eq-eqb, ne-eqb, eqb-true}
 use Rattle.base.specs.Number.{pick}
-use Rattle.csv.specs.Csv.{isText, NonEscaped, none, text, Field, nonEscaped, lf, Record, last, more}
+use Rattle.csv.specs.Csv.{isText, NonEscaped, none, text, Field, nonEscaped, lf, Record, last, more, quote, comma, lineFeed}
 use Rattle.csv.specs.Read.{Got, push, inner}
 use Rattle.csv.proofs.Laws.{sets-append}
 use Rattle.rowread.specs.Stored.{joined, endsOf}
@@ -106,37 +106,37 @@ stop-less t i e h q n = let s = stop-inside t i e h q in omega (arith, s .1, n)
 
 -- ---- commas, and what is between them
 
-pub comma-yes : (v : List ℕ) (i : ℕ) → i < length v → getD v i 0 ≡ 44 → commasIn (drop i v) ≡ 1 + commasIn (drop (i + 1) v)
+pub comma-yes : (v : List ℕ) (i : ℕ) → i < length v → getD v i 0 ≡ comma → commasIn (drop i v) ≡ 1 + commasIn (drop (i + 1) v)
 unfolding commasIn
-comma-yes v i h e = rw (add-one i, drop-cons v i 0 h) (simp (eq-eqb (getD v i 0) 44 e))
+comma-yes v i h e = rw (add-one i, drop-cons v i 0 h) (simp (eq-eqb (getD v i 0) comma e))
 
-pub comma-no : (v : List ℕ) (i : ℕ) → i < length v → (getD v i 0 ≡ 44 → ⊥) → commasIn (drop i v) ≡ commasIn (drop (i + 1) v)
+pub comma-no : (v : List ℕ) (i : ℕ) → i < length v → (getD v i 0 ≡ comma → ⊥) → commasIn (drop i v) ≡ commasIn (drop (i + 1) v)
 unfolding commasIn
-comma-no v i h e = rw (add-one i, drop-cons v i 0 h) (simp (ne-eqb (getD v i 0) 44 e) (omega arith))
+comma-no v i h e = rw (add-one i, drop-cons v i 0 h) (simp (ne-eqb (getD v i 0) comma e) (omega arith))
 
 pub comma-out : (v : List ℕ) (i : ℕ) → length v ≤ i → commasIn (drop i v) ≡ 0
 unfolding commasIn
 comma-out v i h = rw (drop-of-length-le v h)
 
-pub text-yes : (v : List ℕ) (i : ℕ) → i < length v → getD v i 0 ≡ 44 → textIn (drop i v) ≡ textIn (drop (i + 1) v)
+pub text-yes : (v : List ℕ) (i : ℕ) → i < length v → getD v i 0 ≡ comma → textIn (drop i v) ≡ textIn (drop (i + 1) v)
 unfolding textIn
-text-yes v i h e = rw (add-one i, drop-cons v i 0 h) (simp (eq-eqb (getD v i 0) 44 e))
+text-yes v i h e = rw (add-one i, drop-cons v i 0 h) (simp (eq-eqb (getD v i 0) comma e))
 
-pub text-no : (v : List ℕ) (i : ℕ) → i < length v → (getD v i 0 ≡ 44 → ⊥) → textIn (drop i v) ≡ getD v i 0 ∷ textIn (drop (i + 1) v)
+pub text-no : (v : List ℕ) (i : ℕ) → i < length v → (getD v i 0 ≡ comma → ⊥) → textIn (drop i v) ≡ getD v i 0 ∷ textIn (drop (i + 1) v)
 unfolding textIn
-text-no v i h e = rw (add-one i, drop-cons v i 0 h) (simp (ne-eqb (getD v i 0) 44 e))
+text-no v i h e = rw (add-one i, drop-cons v i 0 h) (simp (ne-eqb (getD v i 0) comma e))
 
 pub text-out : (v : List ℕ) (i : ℕ) → length v ≤ i → textIn (drop i v) ≡ []
 unfolding textIn
 text-out v i h = rw (drop-of-length-le v h)
 
-pub cuts-yes : (v : List ℕ) (i n : ℕ) → i < length v → getD v i 0 ≡ 44 → cutsIn n (drop i v) ≡ n ∷ cutsIn n (drop (i + 1) v)
+pub cuts-yes : (v : List ℕ) (i n : ℕ) → i < length v → getD v i 0 ≡ comma → cutsIn n (drop i v) ≡ n ∷ cutsIn n (drop (i + 1) v)
 unfolding cutsIn
-cuts-yes v i n h e = rw (add-one i, drop-cons v i 0 h) (simp (eq-eqb (getD v i 0) 44 e))
+cuts-yes v i n h e = rw (add-one i, drop-cons v i 0 h) (simp (eq-eqb (getD v i 0) comma e))
 
-pub cuts-no : (v : List ℕ) (i n : ℕ) → i < length v → (getD v i 0 ≡ 44 → ⊥) → cutsIn n (drop i v) ≡ cutsIn (n + 1) (drop (i + 1) v)
+pub cuts-no : (v : List ℕ) (i n : ℕ) → i < length v → (getD v i 0 ≡ comma → ⊥) → cutsIn n (drop i v) ≡ cutsIn (n + 1) (drop (i + 1) v)
 unfolding cutsIn
-cuts-no v i n h e = rw (add-one i, drop-cons v i 0 h) (simp (ne-eqb (getD v i 0) 44 e))
+cuts-no v i n h e = rw (add-one i, drop-cons v i 0 h) (simp (ne-eqb (getD v i 0) comma e))
 
 pub cuts-out : (v : List ℕ) (i n : ℕ) → length v ≤ i → cutsIn n (drop i v) ≡ []
 unfolding cutsIn
@@ -145,7 +145,7 @@ cuts-out v i n h = rw (drop-of-length-le v h)
 pub cuts-size : (n : ℕ) (v : List ℕ) → length (cutsIn n v) ≡ commasIn v
 unfolding cutsIn commasIn
 cuts-size n [] = refl
-cuts-size n (b ∷ v) = go (eqb b 44) (cuts-size n v) (cuts-size (n + 1) v)
+cuts-size n (b ∷ v) = go (eqb b comma) (cuts-size n v) (cuts-size (n + 1) v)
   where
     go : (q : Bool) → length (cutsIn n v) ≡ commasIn v → length (cutsIn (n + 1) v) ≡ commasIn v → length (pick q (n ∷ cutsIn n v) (cutsIn (n + 1) v)) ≡ pick q 1 0 + commasIn v
     go true e f = omega (arith, e)
@@ -155,7 +155,7 @@ cuts-size n (b ∷ v) = go (eqb b 44) (cuts-size n v) (cuts-size (n + 1) v)
 pub text-size : (v : List ℕ) → length (textIn v) + commasIn v ≡ length v
 unfolding textIn commasIn
 text-size [] = refl
-text-size (b ∷ v) = go (eqb b 44) (text-size v)
+text-size (b ∷ v) = go (eqb b comma) (text-size v)
   where
     go : (q : Bool) → length (textIn v) + commasIn v ≡ length v → length (pick q (textIn v) (b ∷ textIn v)) + (pick q 1 0 + commasIn v) ≡ suc (length v)
     go true e = omega (arith, e)
@@ -194,11 +194,11 @@ part-length v i k = let n : i + k - i ≡ k = omega arith in rw n (omega (arith,
 
 unfoldable firstIn : List ℕ → List ℕ
 firstIn [] = []
-firstIn (b ∷ v) = pick (eqb b 44) [] (b ∷ firstIn v)
+firstIn (b ∷ v) = pick (eqb b comma) [] (b ∷ firstIn v)
 
 unfoldable othersIn : List ℕ → List (List ℕ)
 othersIn [] = []
-othersIn (b ∷ v) = pick (eqb b 44) (firstIn v ∷ othersIn v) (othersIn v)
+othersIn (b ∷ v) = pick (eqb b comma) (firstIn v ∷ othersIn v) (othersIn v)
 
 abbrev valuesIn : List ℕ → List (List ℕ)
 valuesIn v = firstIn v ∷ othersIn v
@@ -206,7 +206,7 @@ valuesIn v = firstIn v ∷ othersIn v
 joined-in : (v : List ℕ) → firstIn v ++ joined (othersIn v) ≡ textIn v
 unfolding firstIn othersIn textIn joined
 joined-in [] = refl
-joined-in (b ∷ v) = go (eqb b 44) (joined-in v)
+joined-in (b ∷ v) = go (eqb b comma) (joined-in v)
   where
     go : (q : Bool) → firstIn v ++ joined (othersIn v) ≡ textIn v → pick q [] (b ∷ firstIn v) ++ joined (pick q (firstIn v ∷ othersIn v) (othersIn v)) ≡ pick q (textIn v) (b ∷ textIn v)
     go true e = e
@@ -215,7 +215,7 @@ joined-in (b ∷ v) = go (eqb b 44) (joined-in v)
 ends-in : (n : ℕ) (v : List ℕ) → (n + length (firstIn v)) ∷ endsOf (n + length (firstIn v)) (othersIn v) ≡ marksIn n v
 unfolding firstIn othersIn cutsIn textIn endsOf
 ends-in n [] = refl
-ends-in n (b ∷ v) = go (eqb b 44) (ends-in n v) (ends-in (n + 1) v)
+ends-in n (b ∷ v) = go (eqb b comma) (ends-in n v) (ends-in (n + 1) v)
   where
     go : (q : Bool) → (n + length (firstIn v)) ∷ endsOf (n + length (firstIn v)) (othersIn v) ≡ marksIn n v
         → (n + 1 + length (firstIn v)) ∷ endsOf (n + 1 + length (firstIn v)) (othersIn v) ≡ marksIn (n + 1) v
@@ -230,7 +230,7 @@ ends-in n (b ∷ v) = go (eqb b 44) (ends-in n v) (ends-in (n + 1) v)
 many-in : (v : List ℕ) → length (othersIn v) ≡ commasIn v
 unfolding othersIn commasIn
 many-in [] = refl
-many-in (b ∷ v) = go (eqb b 44) (many-in v)
+many-in (b ∷ v) = go (eqb b comma) (many-in v)
   where
     go : (q : Bool) → length (othersIn v) ≡ commasIn v → length (pick q (firstIn v ∷ othersIn v) (othersIn v)) ≡ pick q 1 0 + commasIn v
     go true e = omega (arith, e)
@@ -244,11 +244,11 @@ record Begun (v : List ℕ) (c : ℕ) (r : List ℕ) (ws : List (List ℕ)) (s :
   head : NonEscaped (v ++ (c ∷ r)) (firstIn v) rest
   whole : {bs f : List ℕ} → Field bs f rest → Record bs (f ∷ (othersIn v ++ ws)) s
 
-text-of : (b : ℕ) → isStop b ≡ false → eqb b 44 ≡ false → isText b ≡ true
+text-of : (b : ℕ) → isStop b ≡ false → eqb b comma ≡ false → isText b ≡ true
 unfolding isStop isText
-text-of b s c = go (eqb b 34) (eqb b 10) s
+text-of b s c = go (eqb b quote) (eqb b lineFeed) s
   where
-    go : (p q : Bool) → (p || q) ≡ false → not (p || (eqb b 44 || q)) ≡ true
+    go : (p q : Bool) → (p || q) ≡ false → not (p || (eqb b comma || q)) ≡ true
     go true q e = absurd (let z : _≡_ {A = ℕ} 0 1 = cc in omega arith)
     go false true e = absurd (let z : _≡_ {A = ℕ} 0 1 = cc in omega arith)
     go false false e = simp c
@@ -258,12 +258,12 @@ module _ (c : ℕ) (r : List ℕ) (ws : List (List ℕ)) (s : List ℕ) (behind 
   begun : (v : List ℕ) → anyStop v ≡ false → Begun v c r ws s
   unfolding anyStop firstIn othersIn
   begun [] e = record { rest = c ∷ r; head = none; whole = λ {bs} {f} h. behind bs f h }
-  begun (b ∷ v) e = go (eqb b 44) refl (begun v (neither (isStop b) (anyStop v) e .1))
+  begun (b ∷ v) e = go (eqb b comma) refl (begun v (neither (isStop b) (anyStop v) e .1))
     where
-      go : (q : Bool) → eqb b 44 ≡ q → Begun v c r ws s → Begun (b ∷ v) c r ws s
+      go : (q : Bool) → eqb b comma ≡ q → Begun v c r ws s → Begun (b ∷ v) c r ws s
       go true d w =
-          let k : b ≡ 44 = eqb-true b 44 d in
-          rw k (record { rest = 44 ∷ (v ++ (c ∷ r)); head = none; whole = λ f. more f (w .whole (nonEscaped (w .head))) })
+          let k : b ≡ comma = eqb-true b comma d in
+          rw k (record { rest = comma ∷ (v ++ (c ∷ r)); head = none; whole = λ f. more f (w .whole (nonEscaped (w .head))) })
       go false d w =
           let n : isText b ≡ true = text-of b (neither (isStop b) (anyStop v) e .0) d in
           let h : NonEscaped (b ∷ (v ++ (c ∷ r))) (b ∷ firstIn v) (w .rest) = text n (w .head) in
@@ -323,9 +323,9 @@ line-parts t e p = let m : length (take (e - 0) (drop 0 t)) ≡ e = ap length (l
 
 -- ---- a quoted value, from stop to stop
 
-pub no-quote : (b : ℕ) → isStop b ≡ false → eqb b 34 ≡ false
+pub no-quote : (b : ℕ) → isStop b ≡ false → eqb b quote ≡ false
 unfolding isStop
-no-quote b e = neither (eqb b 34) (eqb b 10) e .0
+no-quote b e = neither (eqb b quote) (eqb b lineFeed) e .0
 
 run-piece : (bs : List ℕ) (k n : ℕ) → add k (pieceOf n (inner bs)) ≡ add (k + length (lineOf bs)) (pieceOf n (inner (drop (length (lineOf bs)) bs)))
 unfolding inner lineOf
@@ -347,18 +347,18 @@ turn-run t i e k q =
 
 -- ---- values without quotes before a place
 
-pub text-comma : (u : List ℕ) → textIn (u ++ (44 ∷ [])) ≡ textIn u
+pub text-comma : (u : List ℕ) → textIn (u ++ (comma ∷ [])) ≡ textIn u
 unfolding textIn
 text-comma [] = refl
-text-comma (b ∷ u) = ap (λ (l : List ℕ). pick (eqb b 44) l (b ∷ l)) (text-comma u)
+text-comma (b ∷ u) = ap (λ (l : List ℕ). pick (eqb b comma) l (b ∷ l)) (text-comma u)
 
-cuts-comma : (n : ℕ) (u : List ℕ) → cutsIn n (u ++ (44 ∷ [])) ≡ marksIn n u
+cuts-comma : (n : ℕ) (u : List ℕ) → cutsIn n (u ++ (comma ∷ [])) ≡ marksIn n u
 unfolding cutsIn textIn
 cuts-comma n [] = rw (add-zero n)
-cuts-comma n (b ∷ u) = go (eqb b 44) (cuts-comma n u) (cuts-comma (n + 1) u)
+cuts-comma n (b ∷ u) = go (eqb b comma) (cuts-comma n u) (cuts-comma (n + 1) u)
   where
-    go : (q : Bool) → cutsIn n (u ++ (44 ∷ [])) ≡ marksIn n u → cutsIn (n + 1) (u ++ (44 ∷ [])) ≡ marksIn (n + 1) u
-        → pick q (n ∷ cutsIn n (u ++ (44 ∷ []))) (cutsIn (n + 1) (u ++ (44 ∷ []))) ≡ pick q (n ∷ cutsIn n u) (cutsIn (n + 1) u) ++ ((n + length (pick q (textIn u) (b ∷ textIn u))) ∷ [])
+    go : (q : Bool) → cutsIn n (u ++ (comma ∷ [])) ≡ marksIn n u → cutsIn (n + 1) (u ++ (comma ∷ [])) ≡ marksIn (n + 1) u
+        → pick q (n ∷ cutsIn n (u ++ (comma ∷ []))) (cutsIn (n + 1) (u ++ (comma ∷ []))) ≡ pick q (n ∷ cutsIn n u) (cutsIn (n + 1) u) ++ ((n + length (pick q (textIn u) (b ∷ textIn u))) ∷ [])
     go true e f = ap (λ (l : List ℕ). n ∷ l) e
     go false e f = let y : n + suc (length (textIn u)) ≡ n + 1 + length (textIn u) = omega arith in rw y f
 
@@ -368,10 +368,10 @@ clean-front [] w e = refl
 clean-front (b ∷ u) w e = let p = neither (isStop b) (anyStop (u ++ w)) e in rw (p .0) (clean-front u w (p .1))
 
 -- before the first stop
-pub opens : (t : List ℕ) (e n : ℕ) → e ≡ length (lineOf t) → ((e ≡ 0 → ⊥) → getD t (e - 1) 0 ≡ 44) → n ≡ commasIn (take (e - 0) (drop 0 t)) → Opens t e n
+pub opens : (t : List ℕ) (e n : ℕ) → e ≡ length (lineOf t) → ((e ≡ 0 → ⊥) → getD t (e - 1) 0 ≡ comma) → n ≡ commasIn (take (e - 0) (drop 0 t)) → Opens t e n
 opens t e n p q r =
     let m : take e t ≡ lineOf t = rw p (line-take t) in
-    record { inside = omega (arith, p, line-size t); clean = rw m (line-clean t); comma = q; count = r ∙ rw (front-part t e) }
+    record { inside = omega (arith, p, line-size t); clean = rw m (line-clean t); afterComma = q; count = r ∙ rw (front-part t e) }
 
 pub opens-size : {t : List ℕ} {e n : ℕ} → Opens t e n → (n ≤ e) × (length (textIn (take (e - 0) (drop 0 t))) ≡ e - n) × (commasIn (take (e - 0) (drop 0 t)) ≡ n)
 opens-size {t} {e} {n} o =
@@ -379,7 +379,7 @@ opens-size {t} {e} {n} o =
     let m = length-take e t in
     rw (front-part t e) (omega (arith, o .count, k, m), omega (arith, o .count, o .inside, k, m), sym (o .count))
 
-pub more-of : {bs v cs r : List ℕ} {ws : List (List ℕ)} → Field bs v (44 ∷ cs) → Record cs ws r → Record bs (v ∷ ws) r
+pub more-of : {bs v cs r : List ℕ} {ws : List (List ℕ)} → Field bs v (comma ∷ cs) → Record cs ws r → Record bs (v ∷ ws) r
 more-of f (last g e) = more f (last g e)
 more-of f (more g p) = more f (more g p)
 
@@ -398,15 +398,15 @@ before t (suc m) n o =
     let u = take m t in
     let h : m < length t = omega (arith, o .inside) in
     let z : suc m - 1 ≡ m = omega arith in
-    let g : getD t m 0 ≡ 44 = rw z at (o .comma (λ q. absurd (omega arith))) in
-    let w : take (suc m) t ≡ u ++ (44 ∷ []) = rw g at (take-suc t m 0 h) in
-    let a : t ≡ u ++ (44 ∷ drop (suc m) t) = rw g at (split-at t m 0 h) in
-    let c : anyStop u ≡ false = clean-front u (44 ∷ []) (rw w at (o .clean)) in
+    let g : getD t m 0 ≡ comma = rw z at (o .afterComma (λ q. absurd (omega arith))) in
+    let w : take (suc m) t ≡ u ++ (comma ∷ []) = rw g at (take-suc t m 0 h) in
+    let a : t ≡ u ++ (comma ∷ drop (suc m) t) = rw g at (split-at t m 0 h) in
+    let c : anyStop u ≡ false = clean-front u (comma ∷ []) (rw w at (o .clean)) in
     let k : commasIn u + 1 ≡ n =
-    omega (arith, o .count, ap commasIn w, text-size u, text-size (u ++ (44 ∷ [])), ap length (text-comma u), length-append u (44 ∷ [])) in
+    omega (arith, o .count, ap commasIn w, text-size u, text-size (u ++ (comma ∷ [])), ap length (text-comma u), length-append u (comma ∷ [])) in
     record {
       values = valuesIn u;
-      on = λ {vs} {r} q. rw (← a) at (plain-row 44 (drop (suc m) t) vs r (λ bs g f. more-of f q) u c);
+      on = λ {vs} {r} q. rw (← a) at (plain-row comma (drop (suc m) t) vs r (λ bs g f. more-of f q) u c);
       many = omega (arith, many-in u, k);
       bytes = ap textIn w ∙ text-comma u ∙ sym (joined-in u);
       marks = ap (cutsIn 0) w ∙ cuts-comma 0 u ∙ sym (ends-in 0 u);
@@ -414,16 +414,16 @@ before t (suc m) n o =
 
 -- ---- a row without quotes
 
-pub line-holds : (t : List ℕ) (e n width : ℕ) (out ends o s : List ℕ) → e ≡ length (lineOf t) → getD t e 0 ≡ 10 → n ≡ commasIn (take (e - 0) (drop 0 t)) → n + 1 ≡ width
+pub line-holds : (t : List ℕ) (e n width : ℕ) (out ends o s : List ℕ) → e ≡ length (lineOf t) → getD t e 0 ≡ lineFeed → n ≡ commasIn (take (e - 0) (drop 0 t)) → n + 1 ≡ width
     → e - n ≤ length out → width ≤ length ends → o ≡ sets out 0 (textIn (take (e - 0) (drop 0 t))) → s ≡ sets ends 0 (marksIn 0 (take (e - 0) (drop 0 t))) → Holds t 0 0 0 width out ends o s (e + 1) (e - n)
 unfolding joined endsOf
 line-holds t e n width out ends o s p q c w l m x y =
     let v = lineOf t in
     let f : take (e - 0) (drop 0 t) ≡ v = line-part t e p in
     let i : e < length t = past t e 9 q in
-    let d : drop e t ≡ 10 ∷ drop (e + 1) t = rw (add-one e) (drop-cons t e 0 i ∙ rw q) in
-    let a : v ++ (10 ∷ drop (e + 1) t) ≡ t = rw (← d, p) (line-all t) in
-    let r : Record t (valuesIn v ++ []) (drop (e + 1) t) = rw a at (plain-row 10 (drop (e + 1) t) [] (drop (e + 1) t) (λ bs g f. last f lf) v (line-clean t)) in
+    let d : drop e t ≡ lineFeed ∷ drop (e + 1) t = rw (add-one e) (drop-cons t e 0 i ∙ rw q) in
+    let a : v ++ (lineFeed ∷ drop (e + 1) t) ≡ t = rw (← d, p) (line-all t) in
+    let r : Record t (valuesIn v ++ []) (drop (e + 1) t) = rw a at (plain-row lineFeed (drop (e + 1) t) [] (drop (e + 1) t) (λ bs g f. last f lf) v (line-clean t)) in
     let k : n ≡ commasIn v = c ∙ rw f in
     record {
       values = valuesIn v;

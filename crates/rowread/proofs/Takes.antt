@@ -9,7 +9,7 @@ use mathlib.Core.List.{List, [], _∷_, _++_, append-nil, append-assoc}
 use lib.ListN.{length, take, drop, getD, set, length-append, length-set, length-take, take-append-drop}
 use lib.Seq.{sets, length-sets, sets-eq, drop-cons, take-at, take-take, getD-take, drop-append-le}
 use borrow.Author.Tests.{ne-eqb}
-use Rattle.csv.specs.Csv.{Inner, close, byte, twice, Field, escaped, lf, last}
+use Rattle.csv.specs.Csv.{Inner, close, byte, twice, Field, escaped, lf, last, quote, comma, lineFeed}
 use Rattle.csv.specs.Read.{plainValue, plainRest}
 use Rattle.csv.proofs.Grammar.{field-sound}
 use Rattle.csv.proofs.Places.{field-place}
@@ -65,16 +65,16 @@ module _ {t : List ℕ} {from : ℕ} {out : List ℕ} {to : ℕ} {o : List ℕ} 
         inside = l;
       }
 
-  pub gone-byte : p < length t → (getD t p 0 ≡ 34 → ⊥) → Gone t from out to (set o n (getD t p 0)) (p + 1) (n + 1)
+  pub gone-byte : p < length t → (getD t p 0 ≡ quote → ⊥) → Gone t from out to (set o n (getD t p 0)) (p + 1) (n + 1)
   gone-byte h e =
       let d : drop p t ≡ getD t p 0 ∷ drop (p + 1) t = rw (add-one p) (drop-cons t p 0 h) in
-      gone-more (getD t p 0 ∷ []) (p + 1) (λ v r i. rw d (byte (ne-eqb (getD t p 0) 34 e) i)) (omega arith) (omega arith)
+      gone-more (getD t p 0 ∷ []) (p + 1) (λ v r i. rw d (byte (ne-eqb (getD t p 0) quote e) i)) (omega arith) (omega arith)
 
   -- two quotes are one
-  pub gone-twice : getD t p 0 ≡ 34 → getD t (p + 1) 0 ≡ 34 → Gone t from out to (set o n (getD t p 0)) (p + 1 + 1) (n + 1)
+  pub gone-twice : getD t p 0 ≡ quote → getD t (p + 1) 0 ≡ quote → Gone t from out to (set o n (getD t p 0)) (p + 1 + 1) (n + 1)
   gone-twice e f =
       let h : p + 1 < length t = past t (p + 1) 33 f in
-      rw e (gone-more (34 ∷ []) (p + 1 + 1) (λ v r i. rw (at-place t p 33 e, at-place t (p + 1) 33 f) (twice i)) (omega arith) (omega arith))
+      rw e (gone-more (quote ∷ []) (p + 1 + 1) (λ v r i. rw (at-place t p 33 e, at-place t (p + 1) 33 f) (twice i)) (omega arith) (omega arith))
 
   -- a run without stops, as it was put out
   pub gone-run : (e m : ℕ) (q : List ℕ) → e ≡ p + length (lineOf (drop p t)) → (m ≡ n + (e - p)) × (q ≡ sets o n (take (e - p) (drop p t))) → Gone t from out to q e m
@@ -88,7 +88,7 @@ module _ {t : List ℕ} {from : ℕ} {out : List ℕ} {to : ℕ} {o : List ℕ} 
   pub gone-room : to + (length t - from) ≤ length out → p < length t → n < length o
   gone-room h l = omega (arith, gone-same, g .upto, g .grows)
 
-  pub gone-close : (size : ℕ) → n ≡ to + size → getD t p 0 ≡ 34 → Into Inner t from out to o (p + 1) size
+  pub gone-close : (size : ℕ) → n ≡ to + size → getD t p 0 ≡ quote → Into Inner t from out to o (p + 1) size
   gone-close size m e =
       let z : size ≡ length (g .value) = omega (arith, m, g .upto) in
       let i : Inner (drop from t) (g .value ++ []) (drop (p + 1) t) = g .on (rw (at-place t p 33 e) close) in
@@ -102,7 +102,7 @@ module _ {t : List ℕ} {from : ℕ} {out : List ℕ} {to : ℕ} {o : List ℕ} 
       }
 
 -- behind its opening quote it is a field
-pub quoted : {t : List ℕ} {from : ℕ} {out : List ℕ} {to : ℕ} {o : List ℕ} {next size : ℕ} → getD t from 0 ≡ 34 → Into Inner t (from + 1) out to o next size → Into Field t from out to o next size
+pub quoted : {t : List ℕ} {from : ℕ} {out : List ℕ} {to : ℕ} {o : List ℕ} {next size : ℕ} → getD t from 0 ≡ quote → Into Inner t (from + 1) out to o next size → Into Field t from out to o next size
 quoted {t} {from} e i =
     record {
       value = i .value;
@@ -113,11 +113,11 @@ quoted {t} {from} e i =
       bytes = i .bytes;
     }
 
-pub quoted-took : (t : List ℕ) (from : ℕ) (out : List ℕ) (to : ℕ) (o : List ℕ) (p : Piece) → getD t from 0 ≡ 34 → Took Inner t (from + 1) out to o p → Took Field t from out to o p
+pub quoted-took : (t : List ℕ) (from : ℕ) (out : List ℕ) (to : ℕ) (o : List ℕ) (p : Piece) → getD t from 0 ≡ quote → Took Inner t (from + 1) out to o p → Took Field t from out to o p
 quoted-took t from out to o (Value next size) e i = quoted e i
 quoted-took t from out to o Bad e i = tt
 
-pub plain-into : (t : List ℕ) (from : ℕ) (out : List ℕ) (to : ℕ) (o : List ℕ) (next size : ℕ) → from ≤ length t → (getD t from 0 ≡ 34 → ⊥) → o ≡ sets out to (plainValue (drop from t))
+pub plain-into : (t : List ℕ) (from : ℕ) (out : List ℕ) (to : ℕ) (o : List ℕ) (next size : ℕ) → from ≤ length t → (getD t from 0 ≡ quote → ⊥) → o ≡ sets out to (plainValue (drop from t))
     → next ≡ from + length (plainValue (drop from t)) → size ≡ length (plainValue (drop from t)) → Into Field t from out to o next size
 plain-into t from out to o next size h e x y z =
     let q = field-plain t from e in
@@ -130,10 +130,10 @@ plain-into t from out to o next size h e x y z =
 
 -- one value, and those that follow it
 module _ {t : List ℕ} {from to : ℕ} {out q : List ℕ} {next size : ℕ} (i : Into Field t from out to q next size) where
-  pub holds-more : {ends : List ℕ} {k width : ℕ} {o s : List ℕ} {last all : ℕ} → getD t next 0 ≡ 44 → Holds t (next + 1) (to + size) (k + 1) width q (set ends k (to + size)) o s last all → Holds t from to k width out ends o s last all
+  pub holds-more : {ends : List ℕ} {k width : ℕ} {o s : List ℕ} {last all : ℕ} → getD t next 0 ≡ comma → Holds t (next + 1) (to + size) (k + 1) width q (set ends k (to + size)) o s last all → Holds t from to k width out ends o s last all
   unfolding joined endsOf
   holds-more {ends} {k} {width} {o} {s} {last} {all} e x =
-      let f : Field (drop from t) (i .value) (44 ∷ drop (next + 1) t) = rw (at-place t next 43 e) at (i .read) in
+      let f : Field (drop from t) (i .value) (comma ∷ drop (next + 1) t) = rw (at-place t next 43 e) at (i .read) in
       let n = i .sized in
       record {
         values = i .value ∷ x .values;
@@ -147,10 +147,10 @@ module _ {t : List ℕ} {from to : ℕ} {out q : List ℕ} {next size : ℕ} (i 
         marks = x .marks ∙ rw (add-one k, n);
       }
 
-  pub holds-last : {ends : List ℕ} {k : ℕ} (width end all : ℕ) → k + 1 ≡ width → end ≡ next + 1 → all ≡ to + size → getD t next 0 ≡ 10 → all ≤ length out → width ≤ length ends → Holds t from to k width out ends q (set ends k all) end all
+  pub holds-last : {ends : List ℕ} {k : ℕ} (width end all : ℕ) → k + 1 ≡ width → end ≡ next + 1 → all ≡ to + size → getD t next 0 ≡ lineFeed → all ≤ length out → width ≤ length ends → Holds t from to k width out ends q (set ends k all) end all
   unfolding joined endsOf
   holds-last {ends} {k} width end all w x y e l m =
-      let f : Field (drop from t) (i .value) (10 ∷ drop (next + 1) t) = rw (at-place t next 9 e) at (i .read) in
+      let f : Field (drop from t) (i .value) (lineFeed ∷ drop (next + 1) t) = rw (at-place t next 9 e) at (i .read) in
       let z : all ≡ to + length (i .value) = omega (arith, y, i .sized) in
       record {
         values = i .value ∷ [];
@@ -208,7 +208,7 @@ module _ (t : List ℕ) (e n : ℕ) (h : Opens t e n) (out ends o s : List ℕ) 
   took-before width p q Broken w = tt
 
   -- from there on: one quoted value, with no stop inside
-  pub quote-before : (c size : ℕ) (p : List ℕ) → getD t e 0 ≡ 34 → Closes t e c → size ≡ to + (c - (e + 1)) → p ≡ sets o to (take (c - (e + 1)) (drop (e + 1) t)) → size ≤ length out → n < length ends
+  pub quote-before : (c size : ℕ) (p : List ℕ) → getD t e 0 ≡ quote → Closes t e c → size ≡ to + (c - (e + 1)) → p ≡ sets o to (take (c - (e + 1)) (drop (e + 1) t)) → size ≤ length out → n < length ends
       → Holds t 0 0 0 (n + 1) out ends p (set s n size) (c + 2) size
   quote-before c size p q k z w l r =
       let g = gone-run (gone-start t (e + 1) o to (omega (arith, past t e 33 q))) c size p (k .0) (z, w) in
@@ -264,6 +264,6 @@ opens-front m {t} {e} {n} o h =
     record {
       inside = omega (arith, o .inside, length-take m t);
       clean = rw w (o .clean);
-      comma = λ z. getD-take m t (e - 1) 0 (omega (arith, z)) ∙ o .comma z;
+      afterComma = λ z. getD-take m t (e - 1) 0 (omega (arith, z)) ∙ o .afterComma z;
       count = rw w (o .count);
     }

@@ -7,7 +7,7 @@ use lib.Dec.{eqb}
 use lib.ListN.{length, take, drop, getD}
 use lib.Seq.{sets}
 use Rattle.base.specs.Number.{pick}
-use Rattle.csv.specs.Csv.{Record}
+use Rattle.csv.specs.Csv.{Record, quote, comma, lineFeed}
 use Rattle.csv.specs.Read.{Got, got, bad, Row, row, malformed, values}
 use Rattle.rowread.specs.declared.Piece.{Piece}
 use Rattle.rowread.specs.declared.Piece.the-variants.{Value, Bad}
@@ -50,7 +50,7 @@ IsRow malformed = ⊥
 
 -- a byte before which it stops: a quote or LF
 unfoldable pub isStop : ℕ → Bool
-isStop b = eqb b 34 || eqb b 10
+isStop b = eqb b quote || eqb b lineFeed
 
 -- the bytes before the first one
 unfoldable pub lineOf : List ℕ → List ℕ
@@ -64,15 +64,15 @@ FirstStop v n = (n ≤ 32) × (n ≡ 32 → length (lineOf v) ≡ length v) × (
 -- how many of them are commas, which are the others, and where among these the values end: those that a comma follows, and all
 unfoldable pub commasIn : List ℕ → ℕ
 commasIn [] = 0
-commasIn (b ∷ v) = pick (eqb b 44) 1 0 + commasIn v
+commasIn (b ∷ v) = pick (eqb b comma) 1 0 + commasIn v
 
 unfoldable pub textIn : List ℕ → List ℕ
 textIn [] = []
-textIn (b ∷ v) = pick (eqb b 44) (textIn v) (b ∷ textIn v)
+textIn (b ∷ v) = pick (eqb b comma) (textIn v) (b ∷ textIn v)
 
 unfoldable pub cutsIn : ℕ → List ℕ → List ℕ
 cutsIn n [] = []
-cutsIn n (b ∷ v) = pick (eqb b 44) (n ∷ cutsIn n v) (cutsIn (n + 1) v)
+cutsIn n (b ∷ v) = pick (eqb b comma) (n ∷ cutsIn n v) (cutsIn (n + 1) v)
 
 abbrev pub marksIn : ℕ → List ℕ → List ℕ
 marksIn n v = cutsIn n v ++ ((n + length (textIn v)) ∷ [])
@@ -87,12 +87,12 @@ anyStop (b ∷ v) = isStop b || anyStop v
 pub record Opens (t : List ℕ) (e n : ℕ) : Type 0 where
   pub inside : e ≤ length t
   pub clean : anyStop (take e t) ≡ false
-  pub comma : (e ≡ 0 → ⊥) → getD t (e - 1) 0 ≡ 44
+  pub afterComma : (e ≡ 0 → ⊥) → getD t (e - 1) 0 ≡ comma
   pub count : n ≡ commasIn (take e t)
 
 -- the value whose opening quote stands at e is closed at c, has no stop inside, and ends the row
 abbrev pub Closes : List ℕ → ℕ → ℕ → Type 0
-Closes t e c = (c ≡ e + 1 + length (lineOf (drop (e + 1) t))) × (getD t c 0 ≡ 34) × (getD t (c + 1) 0 ≡ 10)
+Closes t e c = (c ≡ e + 1 + length (lineOf (drop (e + 1) t))) × (getD t c 0 ≡ quote) × (getD t (c + 1) 0 ≡ lineFeed)
 
 -- the value by a rule of the grammar that stands at a place of t was put into out
 pub record Into (Rule : List ℕ → List ℕ → List ℕ → Type 0) (t : List ℕ) (from : ℕ) (out : List ℕ) (to : ℕ) (o : List ℕ) (next size : ℕ) : Type 0 where

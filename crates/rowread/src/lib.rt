@@ -5,10 +5,15 @@ ghost use Prim.Native.Nat.{_+_, _-_, _≤_, _<_, min};
 ghost use lib.ListN.{length, take, drop, getD};
 ghost use lib.Seq.{sets};
 ghost use Rattle.base.specs.Number.{pick};
-ghost use Rattle.csv.specs.Csv.{isText, Inner, Field};
+ghost use Rattle.csv.specs.Csv.{isText, Inner, Field, quote, comma, maxRow, maxColumns, lineFeed};
 ghost use Rattle.csv.specs.Read.{plainValue, inner, fieldAt, rowEnd, values};
 ghost use Rattle.rowread.specs.Stored.{valuesOf, valuesAt, joined, endsOf, readAnswer, after};
 ghost use Rattle.rowread.specs.Steps.{pieceOf, valueOf, restOf, IsGot, scanOf, IsRow, isStop, FirstStop, lineOf, commasIn, textIn, cutsIn, marksIn, Opens, Closes, Took, TookRow, Within, Handed, Quickly};
+use csv::COMMA;
+use csv::LF;
+use csv::MAX_COLUMNS;
+use csv::MAX_ROW;
+use csv::QUOTE;
 use refusal::Refusal;
 
 pub enum ReadAnswer {
@@ -54,7 +59,7 @@ fn at(s: &[u8], i: usize) -> u8
 fn is_text(b: u8) -> bool
     ensures { λ r. ⌜ r ≡ isText b ⌝ }
 {
-    !((b == 34) | ((b == 44) | (b == 10)))
+    !((b == QUOTE) | ((b == COMMA) | (b == LF)))
 }
 
 // Where the value without quotes ends that starts at a place.
@@ -76,7 +81,7 @@ fn plain_end(t: &[u8], from: usize) -> usize
 fn is_stop(b: u8) -> bool
     ensures { λ r. ⌜ r ≡ isStop b ⌝ }
 {
-    (b == 34) | (b == 10)
+    (b == QUOTE) | (b == LF)
 }
 
 // Where at most so many bytes end from a place on.
@@ -154,7 +159,7 @@ fn sparse(t: &[u8], from: usize) -> bool
         return false;
     }
     let end = from + 16;
-    few(&t[from..end], 34) == 0
+    few(&t[from..end], QUOTE) == 0
 }
 
 // The value behind the opening quote before a place, byte by byte.
@@ -165,9 +170,9 @@ fn inner_bytes(t: &[u8], from: usize) -> Piece
     let mut i = from;
     let mut size: usize = 0;
     while i < t.len() {
-        if t[i] == 34 {
+        if t[i] == QUOTE {
             i += 1;
-            if at(t, i) != 34 {
+            if at(t, i) != QUOTE {
                 return Piece::Value { next: i, size };
             }
         }
@@ -190,9 +195,9 @@ fn inner_runs(t: &[u8], from: usize) -> Piece
             return Piece::Bad;
         }
         size += e - i;
-        if t[e] == 34 {
+        if t[e] == QUOTE {
             e += 1;
-            if at(t, e) != 34 {
+            if at(t, e) != QUOTE {
                 return Piece::Value { next: e, size };
             }
         }
@@ -218,7 +223,7 @@ fn scan_field(t: &[u8], from: usize) -> Piece
     requires { ⌜ from ≤ length (now t) ⌝ }
     ensures { λ r. ⌜ r ≡ pieceOf (length (now (t .entry))) (fieldAt (drop from (now (t .entry)))) ⌝ }
 {
-    if at(t, from) == 34 {
+    if at(t, from) == QUOTE {
         return inner_end(t, from + 1);
     }
     let e = plain_end(t, from);
@@ -233,7 +238,7 @@ fn row_end(t: &[u8], i: usize) -> usize
     requires { ⌜ i ≤ length (now t) ⌝ }
     ensures { λ r. ⌜ r ≡ rowEnd (drop i (now (t .entry))) ⌝ }
 {
-    if at(t, i) == 10 { 1 } else { 0 }
+    if at(t, i) == LF { 1 } else { 0 }
 }
 
 // The row of so many values at the front.
@@ -250,7 +255,7 @@ fn scan_row(t: &[u8], width: usize) -> Scan
         let Piece::Value { next, size: n } = scan_field(t, from) else {
             return Scan::Broken;
         };
-        if at(t, next) != 44 {
+        if at(t, next) != COMMA {
             return Scan::Broken;
         }
         size += n;
@@ -314,8 +319,8 @@ fn copy_bytes(t: &[u8], from: usize, out: &mut [u8], to: usize) -> Copied
     while p < t.len() {
         let b = t[p];
         p += 1;
-        if b == 34 {
-            if at(t, p) != 34 {
+        if b == QUOTE {
+            if at(t, p) != QUOTE {
                 return Copied { next: p, to: n };
             }
             p += 1;
@@ -338,8 +343,8 @@ fn copy_runs(t: &[u8], from: usize, out: &mut [u8], to: usize) -> Copied
         n = copy_part(t, p, e, out, n);
         let last = t[e];
         p = e + 1;
-        if last == 34 {
-            if at(t, p) != 34 {
+        if last == QUOTE {
+            if at(t, p) != QUOTE {
                 return Copied { next: p, to: n };
             }
             p += 1;
@@ -366,7 +371,7 @@ fn copy_field(t: &[u8], from: usize, out: &mut [u8], to: usize) -> Copied
     requires { ⌜ (from ≤ length (now t)) × IsGot (fieldAt (drop from (now t))) × (to + length (valueOf (fieldAt (drop from (now t)))) ≤ length (now out)) ⌝ }
     ensures { λ r. ⌜ (now (out .exit) ≡ sets (now (out .entry)) to (valueOf (fieldAt (drop from (now (t .entry)))))) × (r .next ≡ length (now (t .entry)) - length (restOf (fieldAt (drop from (now (t .entry)))))) × (r .to ≡ to + length (valueOf (fieldAt (drop from (now (t .entry)))))) ⌝ }
 {
-    if at(t, from) == 34 {
+    if at(t, from) == QUOTE {
         return copy_inner(t, from + 1, out, to);
     }
     copy_plain(t, from, out, to)
@@ -397,7 +402,7 @@ fn few_commas(v: &[u8]) -> u8
     let mut n: u8 = 0;
     let mut i: usize = 0;
     while i < v.len() {
-        if v[i] == 44 {
+        if v[i] == COMMA {
             n += 1;
         }
         i += 1;
@@ -407,7 +412,7 @@ fn few_commas(v: &[u8]) -> u8
 
 // How many commas there are.
 fn commas(v: &[u8]) -> usize
-    requires { ⌜ length (now v) ≤ 8192 ⌝ }
+    requires { ⌜ length (now v) ≤ maxRow ⌝ }
     ensures { λ r. ⌜ r ≡ commasIn (now (v .entry)) ⌝ }
 {
     let mut n: usize = 0;
@@ -430,7 +435,7 @@ fn copy_before(v: &[u8], out: &mut [u8], ends: &mut [usize]) -> usize
     let mut j: usize = 0;
     while j < v.len() {
         let b = v[j];
-        if b == 44 {
+        if b == COMMA {
             ends[k] = n;
             k += 1;
         } else {
@@ -455,12 +460,12 @@ fn copy_line(v: &[u8], out: &mut [u8], ends: &mut [usize])
 // Whether the bytes before a place are none or end in a comma.
 fn after_comma(t: &[u8], e: usize) -> bool
     requires { ⌜ e ≤ length (now t) ⌝ }
-    ensures { λ r. ⌜ (r ≡ true → (e ≡ 0 → ⊥) → getD (now (t .entry)) (e - 1) 0 ≡ 44) ⌝ }
+    ensures { λ r. ⌜ (r ≡ true → (e ≡ 0 → ⊥) → getD (now (t .entry)) (e - 1) 0 ≡ comma) ⌝ }
 {
     if e == 0 {
         return true;
     }
-    t[e - 1] == 44
+    t[e - 1] == COMMA
 }
 
 // Where the value is closed whose opening quote stands at e, if it has no stop inside and ends the row; else 0.
@@ -469,8 +474,8 @@ fn close_place(t: &[u8], e: usize) -> usize
     ensures { λ r. ⌜ ((r ≡ 0 → ⊥) → Closes (now (t .entry)) e r) ⌝ }
 {
     let c = stop_from(t, e + 1);
-    if at(t, c) == 34 {
-        if at(t, c + 1) == 10 {
+    if at(t, c) == QUOTE {
+        if at(t, c + 1) == LF {
             return c;
         }
     }
@@ -479,7 +484,7 @@ fn close_place(t: &[u8], e: usize) -> usize
 
 // A row of n values without quotes and a last one that starts at e and is closed at c.
 fn quote_last(t: &[u8], e: usize, c: usize, n: usize, out: &mut [u8], ends: &mut [usize]) -> Quick
-    requires { ⌜ Opens (now t) e n × (getD (now t) e 0 ≡ 34) × Closes (now t) e c ⌝ }
+    requires { ⌜ Opens (now t) e n × (getD (now t) e 0 ≡ quote) × Closes (now t) e c ⌝ }
     ensures { λ r. ⌜ Quickly (now (t .entry)) (n + 1) (now (out .entry)) (now (ends .entry)) (now (out .exit)) (now (ends .exit)) r ⌝ }
 {
     if out.len() < e - n + (c - (e + 1)) {
@@ -504,8 +509,8 @@ fn take_bytes(t: &[u8], from: usize, room: &mut [u8], to: usize) -> Piece
     while p < t.len() {
         let byte = t[p];
         p += 1;
-        if byte == 34 {
-            if at(t, p) != 34 {
+        if byte == QUOTE {
+            if at(t, p) != QUOTE {
                 return Piece::Value {
                     next: p,
                     size: n - to,
@@ -534,8 +539,8 @@ fn take_runs(t: &[u8], from: usize, room: &mut [u8], to: usize) -> Piece
         }
         let last = t[e];
         p = e + 1;
-        if last == 34 {
-            if at(t, p) != 34 {
+        if last == QUOTE {
+            if at(t, p) != QUOTE {
                 return Piece::Value {
                     next: p,
                     size: n - to,
@@ -565,7 +570,7 @@ fn take_field(t: &[u8], from: usize, room: &mut [u8], to: usize) -> Piece
     requires { ⌜ (from ≤ length (now t)) × (to + (length (now t) - from) ≤ length (now room)) ⌝ }
     ensures { λ r. ⌜ Took Field (now (t .entry)) from (now (room .entry)) to (now (room .exit)) r ⌝ }
 {
-    if at(t, from) == 34 {
+    if at(t, from) == QUOTE {
         return take_inner(t, from + 1, room, to);
     }
     let c = copy_plain(t, from, room, to);
@@ -600,7 +605,7 @@ fn take_rest(
         k += 1;
         let behind = at(t, next);
         if k == width {
-            if behind == 10 {
+            if behind == LF {
                 return Scan::Whole {
                     next: next + 1,
                     size: to,
@@ -608,7 +613,7 @@ fn take_rest(
             }
             return Scan::Broken;
         }
-        if behind != 44 {
+        if behind != COMMA {
             return Scan::Broken;
         }
         from = next + 1;
@@ -697,21 +702,21 @@ fn by_little(
     out: &mut [u8],
     ends: &mut [usize],
 ) -> Quick
-    requires { ⌜ Opens (now t) e n × (n < width) × (width ≤ 10) × (length (now t) ≤ 256) ⌝ }
+    requires { ⌜ Opens (now t) e n × (n < width) × (width ≤ maxColumns) × (length (now t) ≤ 256) ⌝ }
     ensures { λ r. ⌜ Quickly (now (t .entry)) width (now (out .entry)) (now (ends .entry)) (now (out .exit)) (now (ends .exit)) r ⌝ }
 {
     let mut room = [0u8; 256];
-    let mut marks = [0usize; 10];
+    let mut marks = [0usize; MAX_COLUMNS];
     through(t, width, e, n, &mut room, &mut marks, out, ends)
 }
 
 // The same, by way of much.
 fn by_much(t: &[u8], width: usize, e: usize, n: usize, out: &mut [u8], ends: &mut [usize]) -> Quick
-    requires { ⌜ Opens (now t) e n × (n < width) × (width ≤ 10) × (length (now t) ≤ 1024) ⌝ }
+    requires { ⌜ Opens (now t) e n × (n < width) × (width ≤ maxColumns) × (length (now t) ≤ 1024) ⌝ }
     ensures { λ r. ⌜ Quickly (now (t .entry)) width (now (out .entry)) (now (ends .entry)) (now (out .exit)) (now (ends .exit)) r ⌝ }
 {
     let mut room = [0u8; 1024];
-    let mut marks = [0usize; 10];
+    let mut marks = [0usize; MAX_COLUMNS];
     through(t, width, e, n, &mut room, &mut marks, out, ends)
 }
 
@@ -723,7 +728,7 @@ fn short(t: &[u8], from: usize) -> bool
         return true;
     }
     let end = from + 64;
-    few(&t[from..end], 10) != 0
+    few(&t[from..end], LF) != 0
 }
 
 // The row of so many values, of which n without quotes stand before e, by way of room of our own.
@@ -731,7 +736,7 @@ fn by_room(t: &[u8], width: usize, e: usize, n: usize, out: &mut [u8], ends: &mu
     requires { ⌜ Opens (now t) e n × (n < width) ⌝ }
     ensures { λ r. ⌜ Quickly (now (t .entry)) width (now (out .entry)) (now (ends .entry)) (now (out .exit)) (now (ends .exit)) r ⌝ }
 {
-    if 10 < width {
+    if MAX_COLUMNS < width {
         return Quick::Not;
     }
     if short(t, e) {
@@ -750,7 +755,7 @@ fn by_room(t: &[u8], width: usize, e: usize, n: usize, out: &mut [u8], ends: &mu
 
 // A row whose first stop, at e, is a quote.
 fn quick_quoted(t: &[u8], width: usize, e: usize, out: &mut [u8], ends: &mut [usize]) -> Quick
-    requires { ⌜ (length (now t) ≤ 8192) × (e ≡ length (lineOf (now t))) × (getD (now t) e 0 ≡ 34) ⌝ }
+    requires { ⌜ (length (now t) ≤ maxRow) × (e ≡ length (lineOf (now t))) × (getD (now t) e 0 ≡ quote) ⌝ }
     ensures { λ r. ⌜ Quickly (now (t .entry)) width (now (out .entry)) (now (ends .entry)) (now (out .exit)) (now (ends .exit)) r ⌝ }
 {
     if !after_comma(t, e) {
@@ -771,7 +776,7 @@ fn quick_quoted(t: &[u8], width: usize, e: usize, out: &mut [u8], ends: &mut [us
 
 // A row whose first stop, at e, is its LF.
 fn quick_line(t: &[u8], width: usize, e: usize, out: &mut [u8], ends: &mut [usize]) -> Quick
-    requires { ⌜ (length (now t) ≤ 8192) × (e ≡ length (lineOf (now t))) × (getD (now t) e 0 ≡ 10) ⌝ }
+    requires { ⌜ (length (now t) ≤ maxRow) × (e ≡ length (lineOf (now t))) × (getD (now t) e 0 ≡ lineFeed) ⌝ }
     ensures { λ r. ⌜ Quickly (now (t .entry)) width (now (out .entry)) (now (ends .entry)) (now (out .exit)) (now (ends .exit)) r ⌝ }
 {
     let n = commas(&t[0..e]);
@@ -793,15 +798,15 @@ fn quick_line(t: &[u8], width: usize, e: usize, out: &mut [u8], ends: &mut [usiz
 
 // The row of so many values at the front, where it is read quickly.
 fn quick_row(t: &[u8], width: usize, out: &mut [u8], ends: &mut [usize]) -> Quick
-    requires { ⌜ length (now t) ≤ 8192 ⌝ }
+    requires { ⌜ length (now t) ≤ maxRow ⌝ }
     ensures { λ r. ⌜ Quickly (now (t .entry)) width (now (out .entry)) (now (ends .entry)) (now (out .exit)) (now (ends .exit)) r ⌝ }
 {
     let e = stop_from(t, 0);
     let first = at(t, e);
-    if first == 10 {
+    if first == LF {
         return quick_line(t, width, e, out, ends);
     }
-    if first == 34 {
+    if first == QUOTE {
         return quick_quoted(t, width, e, out, ends);
     }
     Quick::Not
@@ -823,7 +828,7 @@ pub fn read_row(
     if place == table.len() {
         return ReadAnswer::End;
     }
-    let end = near(table.len(), place, 8192);
+    let end = near(table.len(), place, MAX_ROW);
     let t = &table[place..end];
     let quick = quick_row(t, width, out, ends);
     if let Quick::Read { next, size } = quick {

@@ -12,7 +12,7 @@ use Rattle.refusal.specs.declared.Refusal.the-variants.{Region, Argument, Sourc
 use Rattle.base.specs.Lists.{each, fill}
 use Rattle.record.specs.declared.Source.{Source}
 use Rattle.record.specs.Record.{noSource}
-use Rattle.header.specs.Header.{recordsOf}
+use Rattle.header.specs.Header.{recordsOf, maxSources}
 use Rattle.header.specs.declared.Bank.{Bank}
 use Rattle.header.specs.declared.Validated.the-variants.{Good, Refused as Bad}
 use Rattle.region.specs.Region.{regionSize, bankOf}
@@ -66,13 +66,13 @@ module _ (region : List ℕ) (n : ℕ) where
   sources-bad r h = sym (ap (thenSources region) h)
 
 -- a bank that passed has at most three sources
-count-by : (fits t : Bool) (region : List ℕ) (n : ℕ) (b : Bank) → eqb (length region) regionSize ≡ t → namedIf fits region n ≡ Good b → b .count ≤ 3
+count-by : (fits t : Bool) (region : List ℕ) (n : ℕ) (b : Bank) → eqb (length region) regionSize ≡ t → namedIf fits region n ≡ Good b → b .count ≤ maxSources
 unfolding namedIf
 count-by true t region n b e h = span-count b (passed n (bankOf region n) b (named-passes region n b h .header) .span)
 count-by false true region n b e h = no-refusal Argument b (unfit region n e ∙ h)
 count-by false false region n b e h = no-refusal Region b (unfit-no-region region n e ∙ h)
 
-pub few : (fits : Bool) (region : List ℕ) (n : ℕ) (b : Bank) → namedIf fits region n ≡ Good b → b .count ≤ 3
+pub few : (fits : Bool) (region : List ℕ) (n : ℕ) (b : Bank) → namedIf fits region n ≡ Good b → b .count ≤ maxSources
 few fits region n b h = count-by fits (eqb (length region) regionSize) region n b refl h
 
 module _ (region : List ℕ) (n : ℕ) (days : Days) (now : ℤ) where

@@ -5,7 +5,7 @@ ghost use lib.Dec.{leb};
 ghost use lib.IntN.{pos};
 ghost use lib.Signed.{leZ};
 ghost use Prim.Native.Nat.{_≤_};
-ghost use Rattle.header.specs.Header.{recordsOf};
+ghost use Rattle.header.specs.Header.{recordsOf, maxSources};
 ghost use Rattle.base.specs.Number.{pick};
 ghost use Rattle.base.specs.Lists.{each};
 ghost use Rattle.snapshot.specs.Freshness as Fresh;
@@ -171,7 +171,7 @@ fn checked_at(now: i64, checked: i64) -> i64
 }
 
 fn fresh_in(region: &[u8], b: Bank, days: Days, at: i64) -> Freshness
-    requires { ⌜ b .count ≤ 3 ⌝ }
+    requires { ⌜ b .count ≤ maxSources ⌝ }
     ensures { λ r. ⌜ r ≡ Fresh.freshness (now (region .entry)) b days at ⌝ }
 {
     let l = bank_of(region, b.number);

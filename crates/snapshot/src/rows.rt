@@ -5,10 +5,11 @@ ghost use lib.ListN.{length, getD};
 ghost use Rattle.record.specs.Record.{noBlock};
 ghost use Rattle.rowread.specs.Stored.{joined, endsOf, after};
 ghost use Rattle.snapshot.specs.Rows.{bytesOf, valuesIn, askedRow};
+ghost use Rattle.base.specs.Table.{lastTable};
 use crate::Outcome;
 use base::slice::part;
+use base::table::LAST_TABLE;
 use record::Block;
-use record::LAST_TABLE;
 use record::Source;
 use refusal::Refusal;
 use region::REGION_SIZE;
@@ -20,7 +21,7 @@ use rowread::read_row;
 
 // The block of a table.
 fn block_of(s: Source, table: u32) -> Block
-    requires { ⌜ table ≤ 7 ⌝ }
+    requires { ⌜ table ≤ lastTable ⌝ }
     ensures { λ r. ⌜ r ≡ getD (s .tables) table noBlock ⌝ }
 {
     let tables = s.tables;

@@ -42,6 +42,8 @@ use Rattle.run.specs.Run.{Lower, source, table, end, close, lowerStep, lowerOps
 use Rattle.run.specs.Feed.{dues, feed}
 use Rattle.upper.specs.Upper.{Upper, runOf, argumentOk, orderOk, rowOk, allFits, refusalOf, runIf, upperRun, answered, upperStep, upperRegion, beginRefusal, keyBytes, beginRun, beganWith, beginStep, beginRegion}
 use Rattle.run.proofs.Laws.{feed-append, then-writer, then-region}
+use Rattle.csv.specs.Csv.{maxRow}
+use Rattle.base.specs.Table.{lastTable}
 
 -- what is due, then a lower call that does no operation, then others
 abbrev pub Still : Lower → Type 0
@@ -135,7 +137,7 @@ pub start-is : (bs out : List ℕ) → length bs ≤ length out → take (length
 unfolding written
 start-is bs out h = rw (le-leb (0 + length bs) (length out) (omega arith)) (take-at bs (drop (0 + length bs) out) (length bs) refl)
 
-pub names-fit : (t : ℕ) → t ≤ 7 → length (namesLine t) ≤ 128
+pub names-fit : (t : ℕ) → t ≤ lastTable → length (namesLine t) ≤ 128
 unfolding columnsOf columns line
 names-fit zero h = omega arith
 names-fit (suc zero) h = omega arith
@@ -147,7 +149,7 @@ names-fit (suc (suc (suc (suc (suc (suc zero)))))) h = omega arith
 names-fit (suc (suc (suc (suc (suc (suc (suc zero))))))) h = omega arith
 names-fit (suc (suc (suc (suc (suc (suc (suc (suc n)))))))) h = absurd (omega arith)
 
-module _ (t : ℕ) (out o : List ℕ) (a : RowAnswer) (h : t ≤ 7) (l : length out ≡ 128) (e : a ≡ namesAnswer t (length out)) (k : o ≡ after a (namesLine t) out) where
+module _ (t : ℕ) (out o : List ℕ) (a : RowAnswer) (h : t ≤ lastTable) (l : length out ≡ 128) (e : a ≡ namesAnswer t (length out)) (k : o ≡ after a (namesLine t) out) where
   names-room : length (namesLine t) ≤ length out
   names-room = omega (arith, names-fit t h)
 
@@ -181,23 +183,23 @@ by-three true true false m n e = (cc, cc, cc)
 by-three true false r m n e = (cc, cc, cc)
 by-three false q r m n e = (cc, cc, cc)
 
-module _ (t : ℕ) (texts lengths out o : List ℕ) (a : RowAnswer) (h : t ≤ 7) (e : a ≡ rowAnswer t texts lengths (length out)) (k : o ≡ after a (rowOf (handed texts lengths)) out) where
+module _ (t : ℕ) (texts lengths out o : List ℕ) (a : RowAnswer) (h : t ≤ lastTable) (e : a ≡ rowAnswer t texts lengths (length out)) (k : o ≡ after a (rowOf (handed texts lengths)) out) where
   abbrev row-size : ℕ
   row-size = length (rowOf (handed texts lengths))
 
   abbrev row-ok : Bool
-  row-ok = eqb (length lengths) (columnCount t) && leb row-size 8192
+  row-ok = eqb (length lengths) (columnCount t) && leb row-size maxRow
 
-  row-answer : a ≡ pick (eqb (length lengths) (columnCount t)) (pick (leb row-size 8192) (pick (leb row-size (length out)) (Written row-size) (RowRefused Small)) (RowRefused Row)) (RowRefused Row)
+  row-answer : a ≡ pick (eqb (length lengths) (columnCount t)) (pick (leb row-size maxRow) (pick (leb row-size (length out)) (Written row-size) (RowRefused Small)) (RowRefused Row)) (RowRefused Row)
   unfolding rowAnswer within
   row-answer = e ∙ rw (le-leb t 7 h)
 
-  pub row-not : length out ≡ 8192 → (x : Refusal) → a ≡ RowRefused x → row-ok ≡ false
-  row-not l x f = by-two (eqb (length lengths) (columnCount t)) (leb row-size 8192) row-size x (sym (rw l at row-answer) ∙ f)
+  pub row-not : length out ≡ maxRow → (x : Refusal) → a ≡ RowRefused x → row-ok ≡ false
+  row-not l x f = by-two (eqb (length lengths) (columnCount t)) (leb row-size maxRow) row-size x (sym (rw l at row-answer) ∙ f)
 
   module _ (n : ℕ) (f : a ≡ Written n) where
     row-all : (row-ok ≡ true) × (n ≡ row-size) × (leb row-size (length out) ≡ true)
-    row-all = by-three (eqb (length lengths) (columnCount t)) (leb row-size 8192) (leb row-size (length out)) row-size n (sym row-answer ∙ f)
+    row-all = by-three (eqb (length lengths) (columnCount t)) (leb row-size maxRow) (leb row-size (length out)) row-size n (sym row-answer ∙ f)
 
     pub row-written : (row-ok ≡ true) × (n ≡ row-size)
     row-written = (row-all .0, row-all .1)
@@ -313,7 +315,7 @@ module _ (region : List ℕ) (comparing : Bool) (now : ℤ) (id b l : List ℕ) 
         )
 
 -- an open table is one of the eight
-pub open-fits : (w : Writer) → (mayTake w && isOpen (w .tables)) ≡ true → w .tables .table ≤ 7
+pub open-fits : (w : Writer) → (mayTake w && isOpen (w .tables)) ≡ true → w .tables .table ≤ lastTable
 open-fits w e =
     let m = and-left (mayTake w) (isOpen (w .tables)) e in
     open-table (position (w .taken)) (w .tables) (ranged w (and-left (inRange w) (not (w .taken .closed)) m) .tables) (and-right (mayTake w) (isOpen (w .tables)) e) .0

@@ -10,7 +10,9 @@ ghost use Rattle.run.specs.Feed as Feed;
 ghost use Rattle.run.specs.Parts as Partly;
 ghost use Rattle.upper.specs.Upper as Upper;
 ghost use Rattle.region.specs.Region.{regionSize};
+ghost use Rattle.base.specs.Table.{lastTable};
 use crate::fits;
+use csv::MAX_ROW;
 use lower::is_open;
 use lower::may_take_parts;
 use refusal::Refusal;
@@ -37,11 +39,11 @@ fn run_row(p: Parts, region: &mut [u8], bytes: &[u8], n: usize) -> Parts
 
 // Feeds a row of the open table, where it is one and fits, of up to 8,192 bytes.
 fn long_row(p: Parts, region: &mut [u8], texts: &[u8], lengths: &[u32]) -> PartsStep
-    requires { ⌜ (length (now region) ≡ regionSize) × ((ss : List Source) → Upper.orderOk (withSources p ss) (Upper.row (now texts) (now lengths)) ≡ true) × (p .tables .table ≤ 7) ⌝ }
+    requires { ⌜ (length (now region) ≡ regionSize) × ((ss : List Source) → Upper.orderOk (withSources p ss) (Upper.row (now texts) (now lengths)) ≡ true) × (p .tables .table ≤ lastTable) ⌝ }
     ensures { λ r. ⌜ ((ss : List Source) → (stepWith r ss ≡ Upper.upperStep (now (region .entry)) (withSources p ss) (Upper.row (now (texts .entry)) (now (lengths .entry)))) × (now (region .exit) ≡ Upper.upperRegion (now (region .entry)) (withSources p ss) (Upper.row (now (texts .entry)) (now (lengths .entry))))) ⌝ }
 {
     let x = p.tables;
-    let mut out = [0u8; 8192];
+    let mut out = [0u8; MAX_ROW];
     let a = row::row(x.table, texts, lengths, &mut out);
     let RowAnswer::Written(n) = a else {
         return parts_stay(p, Refusal::Row);
@@ -55,7 +57,7 @@ fn long_row(p: Parts, region: &mut [u8], texts: &[u8], lengths: &[u32]) -> Parts
 
 // Feeds a row of the open table, where it is one and fits; first tried in few bytes, which are quickly made.
 fn row_in(p: Parts, region: &mut [u8], texts: &[u8], lengths: &[u32]) -> PartsStep
-    requires { ⌜ (length (now region) ≡ regionSize) × ((ss : List Source) → Upper.orderOk (withSources p ss) (Upper.row (now texts) (now lengths)) ≡ true) × (p .tables .table ≤ 7) ⌝ }
+    requires { ⌜ (length (now region) ≡ regionSize) × ((ss : List Source) → Upper.orderOk (withSources p ss) (Upper.row (now texts) (now lengths)) ≡ true) × (p .tables .table ≤ lastTable) ⌝ }
     ensures { λ r. ⌜ ((ss : List Source) → (stepWith r ss ≡ Upper.upperStep (now (region .entry)) (withSources p ss) (Upper.row (now (texts .entry)) (now (lengths .entry)))) × (now (region .exit) ≡ Upper.upperRegion (now (region .entry)) (withSources p ss) (Upper.row (now (texts .entry)) (now (lengths .entry))))) ⌝ }
 {
     let x = p.tables;

@@ -19,8 +19,9 @@ ghost use lib.ListN.{length, take};
 ghost use Rattle.row.specs.Columns.{namesLine};
 ghost use Rattle.run.specs.Run as Run;
 ghost use Rattle.run.specs.Feed as Feed;
+ghost use Rattle.base.specs.Table.{lastTable};
+use base::table::LAST_TABLE;
 use lower::may_begin;
-use record::LAST_TABLE;
 use region::REGION_SIZE;
 use row::RowAnswer;
 
@@ -54,7 +55,7 @@ struct Line {
 }
 
 fn names(table: u32) -> Line
-    requires { ⌜ table ≤ 7 ⌝ }
+    requires { ⌜ table ≤ lastTable ⌝ }
     ensures { λ r. ⌜ (r .n ≤ 128) × (r .n ≡ length (namesLine table)) × (take (r .n) (r .bytes) ≡ namesLine table) ⌝ }
 {
     let mut bytes = [0u8; 128];

@@ -10,6 +10,8 @@ use Rattle.writer.specs.declared.Writer.{Writer}
 use Rattle.base.proofs.Bools.{and-left, and-right}
 use Rattle.writer.specs.State.{position, aligned, openOk, isOpen, inRange, activeOk, takenOk, tablesOk, stageOk, tailSize}
 use Rattle.region.specs.Region.{capacity}
+use Rattle.base.specs.Table.{lastTable}
+use Rattle.header.specs.Header.{maxSources}
 
 -- what a state within its ranges has
 pub record Ranged (w : Writer) : Type 0 where
@@ -40,7 +42,7 @@ module _ (t : Taken) where
   position-fits e = leb-true (position t) capacity (and-left (leb (position t) capacity) (aligned t) (and-right (leb (t .fill) tailSize) (leb (position t) capacity && aligned t) e))
 
 module _ (n : ℕ) (s : Tables) where
-  pub count-fits : tablesOk n s ≡ true → s .count ≤ 3
+  pub count-fits : tablesOk n s ≡ true → s .count ≤ maxSources
   unfolding tablesOk
   count-fits e = leb-true (s .count) 3 (and-left (leb (s .count) 3) (eqb (s .table) 8 || openOk n s) e)
 
@@ -49,7 +51,7 @@ module _ (n : ℕ) (s : Tables) where
   by-table false e h o = h
 
   -- an open table has a source, and starts at or before the position
-  pub open-table : tablesOk n s ≡ true → isOpen s ≡ true → (s .table ≤ 7) × (1 ≤ s .count) × (s .start ≤ n)
+  pub open-table : tablesOk n s ≡ true → isOpen s ≡ true → (s .table ≤ lastTable) × (1 ≤ s .count) × (s .start ≤ n)
   unfolding tablesOk
   open-table e o =
       let c = leb 1 (s .count) in

@@ -6,7 +6,6 @@ use Rattle.base.specs.Number.{pick}
 use Rattle.leaf.specs.Generation.{next}
 use Rattle.refusal.specs.declared.Refusal.{Refusal}
 use Rattle.region.specs.Region.{capacity, sectorSize}
-use Rattle.record.specs.Record.{maxTables, lastTable}
 use Rattle.header.specs.Header.{maxSources}
 use Rattle.bank.specs.declared.Loaded.{Loaded}
 use Rattle.bank.specs.declared.Loaded.the-variants.{Found, Nothing, Refused as NotRead}
@@ -19,10 +18,15 @@ use Rattle.writer.specs.declared.Tables.{Tables}
 use Rattle.writer.specs.declared.Writer.{Writer}
 use Rattle.writer.specs.declared.Answer.the-variants.{Done, Refused}
 use Rattle.writer.specs.declared.Step.{Step}
+use Rattle.base.specs.Table.{maxTables, lastTable}
 
 -- the bytes that the tail holds at the most
 abbrev pub tailSize : ℕ
 tailSize = 256
+
+-- the offset of the last full write
+abbrev pub lastWrite : ℕ
+lastWrite = capacity - tailSize
 
 -- how many bytes were taken: those written and those in the tail
 abbrev pub position : Taken → ℕ

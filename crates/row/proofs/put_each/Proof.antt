@@ -9,6 +9,7 @@ use Rattle.row.proofs.Laws.{doubled-quote, doubled-byte, doubled-out, s
 use borrow.Author.Needs.{needs}
 use Rattle.row.proofs.put_each.Statement.{statement}
 use Rattle.row.proofs.put_each.Tie as tie
+use Rattle.csv.specs.Csv.{quote}
 
 abbrev Inv-loop : tie.InvT-loop
 Inv-loop v out₀ to n₀ i₀ out n i = (i ≤ length v) × (length out ≡ length out₀) × (n + length (doubled (drop i v)) ≡ to + length (doubled v)) × (sets out₀ to (doubled v) ≡ sets out n (doubled (drop i v)))
@@ -47,7 +48,7 @@ slice-write-out-2 c =
     ⊎-elim
     (λ w.
     let q = doubled-quote v (l .i) (omega arith) (w .0 .taken) in
-    omega (arith, p, l .inv .1, l .inv .2, ap length q, ap length (w .1), length-set (l .out) (l .n) 34, w .2))
+    omega (arith, p, l .inv .1, l .inv .2, ap length q, ap length (w .1), length-set (l .out) (l .n) quote, w .2))
     (λ w.
     let q = doubled-byte v (l .i) (omega arith) (w .0 .left) in
     omega (arith, p, l .inv .1, l .inv .2, ap length q, ap length (w .1), w .2))
@@ -62,7 +63,7 @@ add-n-2 c =
     ⊎-elim
     (λ w.
     let q = doubled-quote v (l .i) (omega arith) (w .0 .taken) in
-    omega (arith, p, l .inv .1, l .inv .2, ap length q, ap length (w .1), length-set (l .out) (l .n) 34, w .2))
+    omega (arith, p, l .inv .1, l .inv .2, ap length q, ap length (w .1), length-set (l .out) (l .n) quote, w .2))
     (λ w.
     let q = doubled-byte v (l .i) (omega arith) (w .0 .left) in
     omega (arith, p, l .inv .1, l .inv .2, ap length q, ap length (w .1), w .2))
@@ -83,7 +84,7 @@ loop-again c =
     ⊎-elim
     (λ w.
     let q = doubled-quote v (l .i) (omega arith) (w .0 .taken) in
-    rw (w .1, w .2) (omega arith, twice-set (l .out) (l .n) 34 (l .n + 1) (getD v (l .i) 0) _ (l .inv .1), omega (arith, l .inv .2, ap length q), l .inv .3 ∙ sets-two (l .out) (l .n) 34 (getD v (l .i) 0) (doubled (drop (l .i) v)) _ q))
+    rw (w .1, w .2) (omega arith, twice-set (l .out) (l .n) quote (l .n + 1) (getD v (l .i) 0) _ (l .inv .1), omega (arith, l .inv .2, ap length q), l .inv .3 ∙ sets-two (l .out) (l .n) quote (getD v (l .i) 0) (doubled (drop (l .i) v)) _ q))
     (λ w.
     let q = doubled-byte v (l .i) (omega arith) (w .0 .left) in
     rw (w .1, w .2) (omega arith, length-set (l .out) (l .n) (getD v (l .i) 0) ∙ l .inv .1, omega (arith, l .inv .2, ap length q), l .inv .3 ∙ sets-one (l .out) (l .n) (getD v (l .i) 0) (doubled (drop (l .i) v)) _ q))

@@ -9,6 +9,7 @@ use Rattle.row.proofs.Laws.{field-plain, field-special, quoted-size, qu
 use borrow.Author.Needs.{needs}
 use Rattle.row.proofs.put_field.Statement.{statement}
 use Rattle.row.proofs.put_field.Tie as tie
+use Rattle.csv.specs.Csv.{quote}
 
 copy-requires : tie.Need-copy-requires
 copy-requires c κs = search needs
@@ -47,7 +48,7 @@ put-inner-requires c κs =
     let p = c .before .before .before .before .pre in
     let q : anySpecial (a .v .now) ≡ true = field-special (a .v .now) (λ e. c .before .if1 .left (p .0 ∙ e)) in
     let z = quoted-size (a .v .now) q in
-    (omega arith, omega (arith, length-set (a .out .now) (a .to) 34))
+    (omega arith, omega (arith, length-set (a .out .now) (a .to) quote))
 
 add-out : tie.Need-add-out
 add-out c = search needs
@@ -67,13 +68,13 @@ slice-write-out-2 c =
     let q : anySpecial (a .v .now) ≡ true = field-special (a .v .now) (λ e. c .before .before .before .before .if1 .left (p .0 ∙ e)) in
     let z = quoted-size (a .v .now) q in
     let e = c .before .before .put-inner .ensures in
-    omega (arith, ap length e, length-sets (set (a .out .now) (a .to) 34) (a .to + 1) (doubled (a .v .now)), length-set (a .out .now) (a .to) 34)
+    omega (arith, ap length e, length-sets (set (a .out .now) (a .to) quote) (a .to + 1) (doubled (a .v .now)), length-set (a .out .now) (a .to) quote)
 
 same-length-2 : tie.Need-same-length-2
 same-length-2 c =
     let a = c .before .before .before .before .before .before .before .args in
     let e = c .before .before .put-inner .ensures in
-    simp length-set (ap length e ∙ length-sets (set (a .out .now) (a .to) 34) (a .to + 1) (doubled (a .v .now)) ∙ length-set (a .out .now) (a .to) 34)
+    simp length-set (ap length e ∙ length-sets (set (a .out .now) (a .to) quote) (a .to + 1) (doubled (a .v .now)) ∙ length-set (a .out .now) (a .to) quote)
 
 returns-2 : tie.Need-returns-2
 returns-2 c =

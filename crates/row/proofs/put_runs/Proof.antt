@@ -8,6 +8,7 @@ use Rattle.csv.specs.Write.{doubled}
 use Rattle.row.proofs.Laws.{ran, run-quote, rest-is, doubled-less, doubled-same, sets-pair, twice-set}
 use Rattle.row.proofs.put_runs.Statement.{statement}
 use Rattle.row.proofs.put_runs.Tie as tie
+use Rattle.csv.specs.Csv.{quote}
 
 abbrev Inv-loop : tie.InvT-loop
 Inv-loop v size out₀ to n₀ i₀ out n i = (i ≤ length v) × (length out ≡ length out₀) × (n + length (doubled (drop i v)) ≡ to + length (doubled v)) × (sets out₀ to (doubled v) ≡ sets out n (doubled (drop i v)))
@@ -91,7 +92,7 @@ slice-write-out-2 c =
     let q = run-quote v (l .out) _ (l .i) (l .n) _ x (c .if1 .taken) (λ y. c .before .before .before .before .before .before .loop-test .taken (omega (arith, s .pre .0, l .inv .2, y))) in
     let o = c .before .before .before .put-run .last .1 .0 in
     let m = l .n + c .before .before .before .put-run .result in
-    omega (arith, s .pre .0, s .pre .1, l .inv .1, l .inv .2, x .size, x .room, ap length (q .1), length-set o m 34)
+    omega (arith, s .pre .0, s .pre .1, l .inv .1, l .inv .2, x .size, x .room, ap length (q .1), length-set o m quote)
 
 add-n-2 : tie.Need-add-n-2 Inv-loop μ-loop
 add-n-2 c =
@@ -133,7 +134,7 @@ loop-again c =
     let q = run-quote v (l .out) _ (l .i) (l .n) _ x (c .if1 .taken) (λ y. c .before .before .before .before .before .before .loop-test .taken (omega (arith, s .pre .0, l .inv .2, y))) in
     let o = c .before .before .before .put-run .last .1 .0 in
     let r = c .before .before .before .put-run .result in
-    (omega (arith, q .0), twice-set o (l .n + r) 34 (l .n + r + 1) 34 _ (x .room ∙ l .inv .1), omega (arith, l .inv .2, x .size, ap length (q .1)), l .inv .3 ∙ x .is ∙ sets-pair o (l .n + r) 34 34 (doubled (drop (l .i + r) v)) _ (q .1))
+    (omega (arith, q .0), twice-set o (l .n + r) quote (l .n + r + 1) quote _ (x .room ∙ l .inv .1), omega (arith, l .inv .2, x .size, ap length (q .1)), l .inv .3 ∙ x .is ∙ sets-pair o (l .n + r) quote quote (doubled (drop (l .i + r) v)) _ (q .1))
 
 loop-less-2 : tie.Need-loop-less-2 Inv-loop μ-loop
 loop-less-2 c =

@@ -9,9 +9,10 @@ use borrow.Author.Needs.{needs}
 use Rattle.row.proofs.Laws.{left, left-turn, left-none, size-turn, value-size, none-size, field-less, field-bound, Known, known-start, known-turn, known-end}
 use Rattle.row.proofs.row_size.Statement.{statement}
 use Rattle.row.proofs.row_size.Tie as tie
+use Rattle.csv.specs.Csv.{maxRow}
 
 abbrev Inv-loop : tie.InvT-loop
-Inv-loop texts lengths sizes₀ total₀ from₀ k₀ sizes total from k = (k ≤ length lengths) × (from ≤ length texts) × (total ≤ 8192) × (length (rowOf (handed texts lengths)) ≡ total + length (rowOf (left texts lengths k from))) × (length sizes ≡ length sizes₀) × Known sizes k (handed texts lengths) (left texts lengths k from)
+Inv-loop texts lengths sizes₀ total₀ from₀ k₀ sizes total from k = (k ≤ length lengths) × (from ≤ length texts) × (total ≤ maxRow) × (length (rowOf (handed texts lengths)) ≡ total + length (rowOf (left texts lengths k from))) × (length sizes ≡ length sizes₀) × Known sizes k (handed texts lengths) (left texts lengths k from)
 
 abbrev μ-loop : tie.MeasureT-loop
 μ-loop texts lengths sizes₀ total₀ from₀ k₀ sizes total from k = length lengths - k

@@ -10,6 +10,7 @@ use Rattle.rowread.specs.Steps.{valueOf, restOf}
 use Rattle.rowread.proofs.Copies.{Has, copy-inside, copy-byte, copy-twice, copy-close, sets-turn, sets-done}
 use Rattle.rowread.proofs.copy_bytes.Statement.{statement}
 use Rattle.rowread.proofs.copy_bytes.Tie as tie
+use Rattle.csv.specs.Csv.{quote}
 
 abbrev Inv-loop : tie.InvT-loop
 Inv-loop t from out₀ to p₀ n₀ out p n = (p ≤ length t) × (length out ≡ length out₀) × Has (inner (drop p t)) (restOf (inner (drop from t))) × (n + length (valueOf (inner (drop p t))) ≡ to + length (valueOf (inner (drop from t)))) × (sets out₀ to (valueOf (inner (drop from t))) ≡ sets out n (valueOf (inner (drop p t))))
@@ -61,7 +62,7 @@ slice-write-out c =
     let r = restOf (inner (drop (a .from) t)) in
     ⊎-elim
     (λ w.
-    let d : getD t (l .p + 1) 0 ≡ 34 = sym (w .1 .ensures) ∙ w .2 .left in
+    let d : getD t (l .p + 1) 0 ≡ quote = sym (w .1 .ensures) ∙ w .2 .left in
     let q = copy-twice t (l .p) r (l .inv .2) (w .0 .taken) d in
     omega (arith, p .2, l .inv .1, l .inv .3, ap length (q .2)))
     (λ w.
@@ -78,7 +79,7 @@ add-n c =
     let r = restOf (inner (drop (a .from) t)) in
     ⊎-elim
     (λ w.
-    let d : getD t (l .p + 1) 0 ≡ 34 = sym (w .1 .ensures) ∙ w .2 .left in
+    let d : getD t (l .p + 1) 0 ≡ quote = sym (w .1 .ensures) ∙ w .2 .left in
     let q = copy-twice t (l .p) r (l .inv .2) (w .0 .taken) d in
     omega (arith, p .2, l .inv .1, l .inv .3, ap length (q .2)))
     (λ w.
@@ -98,7 +99,7 @@ loop-again c =
     let r = restOf (inner (drop (a .from) t)) in
     ⊎-elim
     (λ w.
-    let d : getD t (l .p + 1) 0 ≡ 34 = sym (w .1 .ensures) ∙ w .2 .left in
+    let d : getD t (l .p + 1) 0 ≡ quote = sym (w .1 .ensures) ∙ w .2 .left in
     let q = copy-twice t (l .p) r (l .inv .2) (w .0 .taken) d in
     rw (w .3) (omega (arith, q .0), simp length-set (l .inv .1), q .1, omega (arith, l .inv .3, ap length (q .2)), l .inv .4 ∙ sets-turn (l .out) (l .n) (getD t (l .p) 0) (valueOf (inner (drop (l .p) t))) (valueOf (inner (drop (l .p + 1 + 1) t))) (q .2)))
     (λ w.

@@ -10,6 +10,7 @@ use Rattle.rowread.proofs.Copies.{plain-place}
 use borrow.Author.Needs.{needs}
 use Rattle.rowread.proofs.copy_field.Statement.{statement}
 use Rattle.rowread.proofs.copy_field.Tie as tie
+use Rattle.csv.specs.Csv.{quote}
 
 at-requires : tie.Need-at-requires
 at-requires c κs = search needs
@@ -21,7 +22,7 @@ copy-inner-requires : tie.Need-copy-inner-requires
 copy-inner-requires c κs =
     let a = c .before .before .before .before .before .args in
     let p = c .before .before .before .before .before .pre in
-    let q : getD (a .t .now) (a .from) 0 ≡ 34 = sym (c .before .before .at .ensures) ∙ c .before .if1 .taken in
+    let q : getD (a .t .now) (a .from) 0 ≡ quote = sym (c .before .before .at .ensures) ∙ c .before .if1 .taken in
     let e = field-quote (a .t .now) (a .from) q in
     (omega (arith, past (a .t .now) (a .from) 33 q), rw e at (p .1), rw e at (p .2))
 
@@ -31,7 +32,7 @@ same-length c = search needs
 returns : tie.Need-returns
 returns c =
     let a = c .before .before .before .before .before .before .before .before .args in
-    let q : getD (a .t .now) (a .from) 0 ≡ 34 = sym (c .before .before .before .before .before .at .ensures) ∙ c .before .before .before .before .if1 .taken in
+    let q : getD (a .t .now) (a .from) 0 ≡ quote = sym (c .before .before .before .before .before .at .ensures) ∙ c .before .before .before .before .if1 .taken in
     rw (field-quote (a .t .now) (a .from) q) (c .before .before .copy-inner .ensures)
 
 copy-plain-requires : tie.Need-copy-plain-requires
@@ -48,7 +49,7 @@ returns-2 : tie.Need-returns-2
 returns-2 c =
     let a = c .before .before .before .before .before .before .before .before .args in
     let p = c .before .before .before .before .before .before .before .before .pre in
-    let i : getD (a .t .now) (a .from) 0 ≡ 34 → ⊥ = λ q. c .before .before .before .before .if1 .left (c .before .before .before .before .before .at .ensures ∙ q) in
+    let i : getD (a .t .now) (a .from) 0 ≡ quote → ⊥ = λ q. c .before .before .before .before .if1 .left (c .before .before .before .before .before .at .ensures ∙ q) in
     let e = field-plain (a .t .now) (a .from) i in
     let w = c .before .before .copy-plain .ensures in
     (w .0 ∙ ap (λ (g : Got). sets (a .out .now) (a .to) (valueOf g)) (sym e), w .1 ∙ plain-place (a .t .now) (a .from) (p .0) i, w .2 ∙ ap (λ (g : Got). a .to + length (valueOf g)) (sym e))

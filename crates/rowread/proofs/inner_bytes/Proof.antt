@@ -9,6 +9,7 @@ use Rattle.rowread.proofs.Laws.{add, add-zero-piece, turn-byte, turn-tw
 use borrow.Author.Needs.{needs}
 use Rattle.rowread.proofs.inner_bytes.Statement.{statement}
 use Rattle.rowread.proofs.inner_bytes.Tie as tie
+use Rattle.csv.specs.Csv.{quote}
 
 abbrev Inv-loop : tie.InvT-loop
 Inv-loop t from i₀ size₀ i size = (i ≤ length t) × (size ≤ i) × (pieceOf (length t) (inner (drop from t)) ≡ add size (pieceOf (length t) (inner (drop i t))))
@@ -49,7 +50,7 @@ loop-again c =
     let t = c .before .before .before .before .before .before .args .t .now in
     ⊎-elim
     (λ w.
-    let q : getD t (l .i + 1) 0 ≡ 34 = sym (w .1 .ensures) ∙ w .2 .left in
+    let q : getD t (l .i + 1) 0 ≡ quote = sym (w .1 .ensures) ∙ w .2 .left in
     let h : l .i + 1 < length t = past t (l .i + 1) 33 q in
     rw (w .3) (omega arith, omega arith, l .inv .2 ∙ turn-twice t (l .i) (l .size) (omega arith) (w .0 .taken) q))
     (λ w. rw (w .1) (omega arith, omega arith, l .inv .2 ∙ turn-byte t (l .i) (l .size) (omega arith) (w .0 .left)))

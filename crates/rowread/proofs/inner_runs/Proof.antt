@@ -10,6 +10,7 @@ use Rattle.rowread.proofs.Lines.{stop-inside, stop-less, turn-run}
 use borrow.Author.Needs.{needs}
 use Rattle.rowread.proofs.inner_runs.Statement.{statement}
 use Rattle.rowread.proofs.inner_runs.Tie as tie
+use Rattle.csv.specs.Csv.{quote}
 
 abbrev Inv-loop : tie.InvT-loop
 Inv-loop t from i₀ size₀ i size = (i ≤ length t) × (size ≤ i) × (pieceOf (length t) (inner (drop from t)) ≡ add size (pieceOf (length t) (inner (drop i t))))
@@ -113,7 +114,7 @@ loop-again c =
     let z = l .inv .2 ∙ turn-run t (l .i) e (l .size) q in
     ⊎-elim
     (λ w.
-    let d : getD t (e + 1) 0 ≡ 34 = sym (w .1 .ensures) ∙ w .2 .left in
+    let d : getD t (e + 1) 0 ≡ quote = sym (w .1 .ensures) ∙ w .2 .left in
     let g : e + 1 < length t = past t (e + 1) 33 d in
     rw (w .3) (omega (arith, g), omega (arith, l .inv .1, j .0), z ∙ turn-twice t e k h (w .0 .taken) d))
     (λ w. rw (w .1) (omega (arith, h), omega (arith, l .inv .1, j .0), z ∙ turn-byte t e k h (w .0 .left)))

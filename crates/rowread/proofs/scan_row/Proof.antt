@@ -8,6 +8,7 @@ use Rattle.rowread.specs.Steps.{scanOf, scanFrom}
 use Rattle.rowread.proofs.Laws.{IsValue, is-value, is-bad, scan-none, scan-turn, scan-no-comma, scan-bad, scan-last, scan-no-end, end-inside, past}
 use Rattle.rowread.proofs.scan_row.Statement.{statement}
 use Rattle.rowread.proofs.scan_row.Tie as tie
+use Rattle.csv.specs.Csv.{comma}
 
 abbrev Inv-loop : tie.InvT-loop
 Inv-loop t width size₀ from₀ k₀ size from k = (k + 1 ≤ width) × (from ≤ length t) × (size ≤ from) × (scanOf width t ≡ scanFrom (length t) size (values (width - k) (drop from t)))
@@ -86,7 +87,7 @@ loop-again c =
     let t = a .t .now in
     let g = c .before .before .before .next .given in
     let v : IsValue t (l .from) (g .0 .0) (g .0 .1 .0) = is-value t (l .from) (g .0 .0) (g .0 .1 .0) (l .inv .1) (sym (g .1) ∙ c .before .before .before .before .before .scan-field .ensures) in
-    let q : getD t (g .0 .0) 0 ≡ 44 = sym (c .before .at .ensures) ∙ c .if2 .left in
+    let q : getD t (g .0 .0) 0 ≡ comma = sym (c .before .at .ensures) ∙ c .if2 .left in
     let h : g .0 .0 < length t = past t (g .0 .0) 43 q in
     let n : a .width - l .k ≡ suc (suc (a .width - l .k - 2)) = omega arith in
     let m : a .width - (l .k + 1) ≡ suc (a .width - l .k - 2) = omega arith in

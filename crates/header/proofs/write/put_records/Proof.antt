@@ -12,9 +12,10 @@ use Rattle.record.proofs.Laws.{length-source}
 use Rattle.header.proofs.Writing.{noSource}
 use Rattle.header.proofs.write.put_records.Statement.{statement}
 use Rattle.header.proofs.write.put_records.Tie as tie
+use Rattle.header.specs.Header.{headerSize}
 
 abbrev Inv-loop : tie.InvT-loop
-Inv-loop out₀ n ss i₀ out i = (i ≤ n) × (length out ≡ 1200) × (length (puts sourceBytes (take i ss)) ≡ i * 384) × (out ≡ sets out₀ 48 (puts sourceBytes (take i ss)))
+Inv-loop out₀ n ss i₀ out i = (i ≤ n) × (length out ≡ headerSize) × (length (puts sourceBytes (take i ss)) ≡ i * 384) × (out ≡ sets out₀ 48 (puts sourceBytes (take i ss)))
 
 abbrev μ-loop : tie.MeasureT-loop
 μ-loop out₀ n ss i₀ out i = n - i

@@ -1,9 +1,10 @@
 use mir.ValLaws.{toZ-ofZ}
 use mir.Syntax.{w64}
-use Rattle.record.specs.Record.{noBlock, maxTables}
+use Rattle.record.specs.Record.{noBlock}
 use Rattle.base.proofs.Lists.{replicate-fill}
 use Rattle.lower.proofs.source.emptied.Statement.{statement}
 use Rattle.lower.proofs.source.emptied.Tie as tie
+use Rattle.base.specs.Table.{maxTables}
 
 returns : tie.Need-returns
 returns c =

@@ -15,6 +15,7 @@ use borrow.Author.Needs.{needs}
 use Rattle.upper.proofs.rows.long_row.Statement.{statement}
 use Rattle.upper.proofs.rows.long_row.Tie as tie
 use Rattle.region.specs.Region.{capacity}
+use Rattle.csv.specs.Csv.{maxRow}
 
 slice-aggregate-row : tie.Need-slice-aggregate-row
 slice-aggregate-row c = search needs
@@ -36,7 +37,7 @@ returns c = λ ss.
     let r = c .before .before .before .before in
     let s = r .before .before .before .before .before .before in
     let y = s .args in
-    let d = upper-row (y .region .now) (withSources (y .p) ss) (row (y .texts .now) (y .lengths .now)) (s .pre .0) refl (s .pre .1 ss) (row-not (y .p .tables .table) (y .texts .now) (y .lengths .now) (replicate 8192 0) (r .row .last .1 .1 .1 .0) (r .row .result) (s .pre .2) (r .row .ensures .0) (r .row .ensures .1) (length-replicate {A = ℕ} 8192 0) (c .before .enum-told .given .0 .0) (c .before .enum-told .given .1)) in
+    let d = upper-row (y .region .now) (withSources (y .p) ss) (row (y .texts .now) (y .lengths .now)) (s .pre .0) refl (s .pre .1 ss) (row-not (y .p .tables .table) (y .texts .now) (y .lengths .now) (replicate maxRow 0) (r .row .last .1 .1 .1 .0) (r .row .result) (s .pre .2) (r .row .ensures .0) (r .row .ensures .1) (length-replicate {A = ℕ} maxRow 0) (c .before .enum-told .given .0 .0) (c .before .enum-told .given .1)) in
     (ap (λ (z : PartsStep). stepWith z ss) (c .parts-stay .ensures) ∙ d .0, d .1)
 
 fits-requires : tie.Need-fits-requires
@@ -51,7 +52,7 @@ run-row-requires c κs =
     let s = r .before .before .before .before .before .before in
     let y = s .args in
     let n = c .before .before .before .before .before .a .given in
-    let k = row-length (y .p .tables .table) (y .texts .now) (y .lengths .now) (replicate 8192 0) (r .row .last .1 .1 .1 .0) (r .row .result) (s .pre .2) (r .row .ensures .0) (r .row .ensures .1) (n .0 .0) (n .1) in
+    let k = row-length (y .p .tables .table) (y .texts .now) (y .lengths .now) (replicate maxRow 0) (r .row .last .1 .1 .1 .0) (r .row .result) (s .pre .2) (r .row .ensures .0) (r .row .ensures .1) (n .0 .0) (n .1) in
     omega (arith, k)
 
 parts-did-requires : tie.Need-parts-did-requires
@@ -70,8 +71,8 @@ returns-2 c = λ ss.
     let t = x .before .before .before in
     let f = t .before in
     let n = f .before .before .a .given in
-    let w = row-written (y .p .tables .table) (y .texts .now) (y .lengths .now) (replicate 8192 0) (r .row .last .1 .1 .1 .0) (r .row .result) (s .pre .2) (r .row .ensures .0) (r .row .ensures .1) (n .0 .0) (n .1) in
-    let b = row-there (y .p .tables .table) (y .texts .now) (y .lengths .now) (replicate 8192 0) (r .row .last .1 .1 .1 .0) (r .row .result) (s .pre .2) (r .row .ensures .0) (r .row .ensures .1) (n .0 .0) (n .1) in
+    let w = row-written (y .p .tables .table) (y .texts .now) (y .lengths .now) (replicate maxRow 0) (r .row .last .1 .1 .1 .0) (r .row .result) (s .pre .2) (r .row .ensures .0) (r .row .ensures .1) (n .0 .0) (n .1) in
+    let b = row-there (y .p .tables .table) (y .texts .now) (y .lengths .now) (replicate maxRow 0) (r .row .last .1 .1 .1 .0) (r .row .result) (s .pre .2) (r .row .ensures .0) (r .row .ensures .1) (n .0 .0) (n .1) in
     let d =
     upper-done (y .region .now) (withSources (y .p) ss) (row (y .texts .now) (y .lengths .now)) (s .pre .0) refl (s .pre .1 ss) (w .0)
     (ap (λ (k : ℕ). leb (position (y .p .taken) + k) capacity) (sym (w .1)) ∙ sym (f .fits2 .ensures) ∙ t .if1 .taken)
@@ -93,7 +94,7 @@ returns-3 c = λ ss.
     let t = c .before in
     let f = t .before in
     let n = f .before .before .a .given in
-    let w = row-written (y .p .tables .table) (y .texts .now) (y .lengths .now) (replicate 8192 0) (r .row .last .1 .1 .1 .0) (r .row .result) (s .pre .2) (r .row .ensures .0) (r .row .ensures .1) (n .0 .0) (n .1) in
+    let w = row-written (y .p .tables .table) (y .texts .now) (y .lengths .now) (replicate maxRow 0) (r .row .last .1 .1 .1 .0) (r .row .result) (s .pre .2) (r .row .ensures .0) (r .row .ensures .1) (n .0 .0) (n .1) in
     let d = upper-full (y .region .now) (withSources (y .p) ss) (row (y .texts .now) (y .lengths .now)) (s .pre .0) refl (s .pre .1 ss) (w .0) (ap (λ (k : ℕ). leb (position (y .p .taken) + k) capacity) (sym (w .1)) ∙ sym (f .fits2 .ensures) ∙ t .if1 .left) in
     (ap (λ (z : PartsStep). stepWith z ss) (c .parts-stay2 .ensures) ∙ d .0, d .1)
 
