@@ -6,8 +6,8 @@ ghost use lib.Seq.{sets};
 ghost use Rattle.record.specs.Types.{Sized};
 ghost use Rattle.record.specs.Record.{sourceBytes};
 ghost use Rattle.base.specs.Lists.{puts, fill};
-ghost use Rattle.header.specs.WriteHeader.{
 ghost use Rattle.header.specs.Header.{headerSize};
+ghost use Rattle.header.specs.WriteHeader.{
   firstBytes,
   secondBytes,
   headerBytes,
@@ -25,6 +25,7 @@ use crate::SOURCES;
 use crate::SOURCES_32;
 use crate::source_ok;
 use crate::span_ok;
+use base::table::TABLES;
 use leaf::bytes::put;
 use leaf::bytes::put_time;
 use leaf::crc::crc32;
@@ -34,7 +35,6 @@ use record::ORIGINAL_WORDS;
 use record::RECORD_SIZE;
 use record::STAMP_SIZE;
 use record::Source;
-use base::table::TABLES;
 use record::VALIDATOR_SIZE;
 use record::encode;
 
