@@ -19,6 +19,7 @@ use Rattle.due.specs.Due.{withStage}
 use Rattle.due.proofs.Laws.{target-fits}
 use Rattle.commit.specs.declared.Stamp.{Stamp}
 use Rattle.commit.specs.Commit.{bankFor, recordsFor, isHeaded, mayCommit, isCurrent, commitStep, commitOps, commitRegion, wordStep, wordOps, wordRegion}
+use Rattle.header.specs.Header.{commitOffset}
 
 and-false : (a : Bool) → (a && false) ≡ false
 and-false true = refl
@@ -39,7 +40,7 @@ module _ (region : List ℕ) (w : Writer) where
   unfolding wordStep
   word-region e = rw (ne-eqb (length region) regionSize e)
 
-  pub word-written : length region ≡ regionSize → (inRange w && isHeaded (w .stage)) ≡ true → performed (target (w .beginning .active)) (write 44 commitBytes ∷ []) region ≡ wordRegion region w
+  pub word-written : length region ≡ regionSize → (inRange w && isHeaded (w .stage)) ≡ true → performed (target (w .beginning .active)) (write commitOffset commitBytes ∷ []) region ≡ wordRegion region w
   unfolding wordRegion wordOps
   word-written e h = rw (eq-eqb (length region) regionSize e, h)
 

@@ -18,6 +18,8 @@ use key::SameKey;
 use record::Block;
 use record::Source;
 use region::BANK_SIZE;
+use region::CAPACITY;
+use region::SECTOR_SIZE;
 use snapshot::freshness::FreshAnswer;
 use std::num::wrapping_add_usize;
 
@@ -59,8 +61,8 @@ fn key_lines(key: &[u8]) {
 fn keys(region: &[u8], b: Bank) {
     let data = part(
         region,
-        wrapping_add_usize(b.number as usize * BANK_SIZE, 4096),
-        487424,
+        wrapping_add_usize(b.number as usize * BANK_SIZE, SECTOR_SIZE),
+        CAPACITY,
     );
     key_lines(part(data, 0, b.key as usize));
 }

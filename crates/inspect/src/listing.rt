@@ -1,6 +1,7 @@
 // The rows of a bank's tables.
 ghost use mathlib.Core.Path.{_≡_};
 ghost use lib.ListN.{length};
+ghost use Rattle.csv.specs.Csv.{maxRow};
 use crate::options::Options;
 use crate::out::field;
 use crate::out::hex_digit;
@@ -11,16 +12,18 @@ use crate::out::table;
 use crate::text::between;
 use crate::text::put8;
 use base::slice::part;
+use csv::MAX_COLUMNS;
+use csv::MAX_ROW;
 use header::Bank;
 use row::column_count;
 use rowread::ReadAnswer;
 use std::num::wrapping_add_usize;
 
 // Zeros for a row's values: a row has at most 8,192 bytes with its LF.
-fn value_room() -> [u8; 8192]
-    ensures { λ r. ⌜ 8192 ≡ length r ⌝ }
+fn value_room() -> [u8; MAX_ROW]
+    ensures { λ r. ⌜ maxRow ≡ length r ⌝ }
 {
-    [0; 8192]
+    [0; MAX_ROW]
 }
 
 // Zeros for a row's line: four bytes for each of its values' bytes, their quotes and what stands behind them.
@@ -104,7 +107,7 @@ fn row_line(
     values: &mut [u8],
     line: &mut [u8],
 ) -> usize {
-    let mut space = [0usize; 10];
+    let mut space = [0usize; MAX_COLUMNS];
     let ends: &mut [usize] = &mut space;
     let r = snapshot::rows::bank_row(region, number, source, t, place, values, ends);
     match r {

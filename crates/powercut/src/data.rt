@@ -2,12 +2,13 @@
 use crate::text::put8;
 use leaf::bytes::get8;
 use leaf::bytes::put;
+use region::CAPACITY;
 use std::num::wrapping_add_usize;
 use std::num::wrapping_sub_usize;
 
 // Zeros for the longest update.
-pub fn room() -> [u8; 487424] {
-    [0; 487424]
+pub fn room() -> [u8; CAPACITY] {
+    [0; CAPACITY]
 }
 
 // How long the key of an update of n bytes is: so long that the last row is whole.

@@ -6,6 +6,7 @@ use crate::torn::TRY_ALL;
 use crate::torn::TRY_NONE;
 use crate::torn::TRY_SOME;
 use crate::torn::TRY_UNKNOWN;
+use region::CAPACITY;
 
 // A kind of leftover by its name; 6 is all, 7 none.
 pub fn leftover_named(s: &[u8]) -> u32 {
@@ -91,7 +92,7 @@ pub fn size(kind: u32) -> usize {
     match kind {
         0 => 255,
         1 => 257,
-        _ => 487424,
+        _ => CAPACITY,
     }
 }
 

@@ -8,11 +8,14 @@ use crate::update::run;
 use bank::Loaded;
 use base::slice::part;
 use header::Bank;
+use header::RECORDS_OFFSET;
+use header::SOURCES;
 use leaf::bytes::get;
 use leaf::bytes::put;
 use leaf::crc::crc32;
 use record::source_size;
 use region::BANK_SIZE;
+use region::CAPACITY;
 use std::num::wrapping_add_usize;
 use std::num::wrapping_sub_u32;
 
@@ -35,7 +38,14 @@ fn header_crc(region: &[u8], at: usize) -> u32 {
     let zeros = [0u8; 8];
     let x = crc32(0, part(region, at, 40));
     let y = crc32(x, &zeros);
-    crc32(y, part(region, wrapping_add_usize(at, 48), size * 3))
+    crc32(
+        y,
+        part(
+            region,
+            wrapping_add_usize(at, RECORDS_OFFSET),
+            size * SOURCES,
+        ),
+    )
 }
 
 // The active bank again, a generation older.
@@ -60,8 +70,8 @@ fn older(region: &mut [u8], l: Loaded) {
 
 // Another full update, cut after so many operations.
 fn cut_update(region: &mut [u8], data: &mut [u8], operations: u32) {
-    make(data, 487424, 5000);
-    let u = begin(region, 487424, false, false);
+    make(data, CAPACITY, 5000);
+    let u = begin(region, CAPACITY, false, false);
     run(u, region, data, operations);
 }
 

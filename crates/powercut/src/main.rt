@@ -21,7 +21,9 @@ use crate::options::Options;
 use crate::trial::Count;
 use base::slice::part;
 use libc::STDERR_FILENO;
+use region::CAPACITY;
 use region::REGION_SIZE;
+use region::SECTOR_SIZE;
 use std::num::wrapping_add_u32;
 
 // Zeros for an argument: Linux hands over none of more bytes.
@@ -85,7 +87,7 @@ fn tried(
     t: Tally,
 ) -> Tally {
     let p = trial::planned(region, data, leftover, update, o.torn, o.progress);
-    let mut space = [strips::UNTRIED; 4096];
+    let mut space = [strips::UNTRIED; SECTOR_SIZE];
     let marks: &mut [u8] = &mut space;
     let c = trial::trial(region, image, again, data, marks, p);
     clear(o.progress);
@@ -196,7 +198,7 @@ fn trials(
     image: &[u8],
     region: &mut [u8; REGION_SIZE],
     again: &mut [u8; REGION_SIZE],
-    data: &mut [u8; 487424],
+    data: &mut [u8; CAPACITY],
     o: Options,
     fd: i32,
     name: &[u8],

@@ -2,13 +2,13 @@
 use crate::text::put8;
 use crate::torn::COMMIT_WORD;
 use crate::torn::DATA;
-use crate::torn::HEADER;
 use crate::torn::HEADER_ERASE;
 use crate::torn::NONE;
-use crate::torn::SECTOR;
 use crate::torn::Span;
 use crate::torn::WORD;
+use header::HEADER_SIZE;
 use leaf::bytes::get8;
+use region::SECTOR_SIZE;
 use std::num::wrapping_add_u32;
 
 // A cell that no cut was tried for.
@@ -34,9 +34,9 @@ pub fn bytes(kind: u32) -> u32 {
         return WORD as u32;
     }
     if kind == HEADER_ERASE {
-        SECTOR as u32
+        SECTOR_SIZE as u32
     } else {
-        HEADER as u32
+        HEADER_SIZE as u32
     }
 }
 

@@ -1,4 +1,8 @@
 // A flash operation cut inside: which bytes of the region it is about, and after which of them the cut is tried.
+use header::COMMIT_OFFSET;
+use header::HEADER_SIZE;
+use region::SECTOR_SIZE;
+use region::SECTOR_SIZE_32;
 use std::num::wrapping_add_u32;
 use std::num::wrapping_add_usize;
 
@@ -13,12 +17,7 @@ pub const COMMIT_WORD: u32 = 3;
 
 pub const DATA: u32 = 4;
 
-pub const SECTOR: usize = 4096;
-
-pub const HEADER: usize = 1200;
-// Where the commit word is in the header, and its bytes.
-pub const WORD_AT: usize = 44;
-
+// The bytes of the commit word.
 pub const WORD: usize = 4;
 
 // Which cuts inside operations are tried: none, all in the header's three operations and some in the others, or all.
@@ -58,18 +57,18 @@ pub fn erase(bank: usize, sector: u32) -> Span {
     let kind = if sector == 0 { HEADER_ERASE } else { DATA };
     Span {
         kind,
-        at: wrapping_add_usize(bank, (sector % 256) as usize * SECTOR),
-        size: SECTOR,
+        at: wrapping_add_usize(bank, (sector % 256) as usize * SECTOR_SIZE),
+        size: SECTOR_SIZE,
     }
 }
 
 // A write of n bytes, made a multiple of 4, at an offset of the data.
 pub fn write(bank: usize, offset: u32, n: u32) -> Span {
-    let data = wrapping_add_usize(bank, SECTOR);
+    let data = wrapping_add_usize(bank, SECTOR_SIZE);
     Span {
         kind: DATA,
         at: wrapping_add_usize(data, offset as usize),
-        size: ((n % 4096) as usize + 3) / 4 * 4,
+        size: ((n % SECTOR_SIZE_32) as usize + 3) / 4 * 4,
     }
 }
 
@@ -77,14 +76,14 @@ pub fn header(bank: usize) -> Span {
     Span {
         kind: HEADER_WRITE,
         at: bank,
-        size: HEADER,
+        size: HEADER_SIZE,
     }
 }
 
 pub fn word(bank: usize) -> Span {
     Span {
         kind: COMMIT_WORD,
-        at: wrapping_add_usize(bank, WORD_AT),
+        at: wrapping_add_usize(bank, COMMIT_OFFSET),
         size: WORD,
     }
 }
@@ -113,7 +112,7 @@ pub fn is_tried(choice: u32, s: Span, j: usize, k: u32) -> bool {
 // Whether the update is begun again after a cut: in the header's write after its first byte and around the commit word, in the word
 // after each byte, and after every 509th cut inside an operation. `before` is the number of those before this one.
 pub fn is_sampled(s: Span, j: usize, before: u32) -> bool {
-    let around = (WORD_AT <= j) & (j <= WORD_AT + WORD);
+    let around = (COMMIT_OFFSET <= j) & (j <= COMMIT_OFFSET + WORD);
     let in_header = (s.kind == HEADER_WRITE) & ((j == 1) | around);
     in_header | (s.kind == COMMIT_WORD) | (wrapping_add_u32(before, 1) % AGAIN == 0)
 }

@@ -11,7 +11,6 @@ use crate::text::paste;
 use crate::text::put8;
 use crate::text::same_bytes;
 use crate::torn::NONE;
-use crate::torn::SECTOR;
 use crate::torn::Span;
 use crate::torn::TRY_NONE;
 use crate::torn::is_sampled as is_sampled_inside;
@@ -31,6 +30,7 @@ use header::Validated;
 use leaf::bytes::get8;
 use leaf::crc::crc32;
 use libc::STDERR_FILENO;
+use region::SECTOR_SIZE;
 use region::bank_of;
 use std::num::wrapping_add_u32;
 use std::num::wrapping_add_usize;
@@ -139,7 +139,7 @@ fn is_good(v: Validated, b: Bank) -> bool {
 // Whether a bank is there whole: validate passes, and its data are the bytes of the update.
 fn is_whole(region: &[u8], data: &[u8], b: Bank, n: usize) -> bool {
     let v = bank::validate(region, b.number);
-    let held = part(bank_of(region, b.number), 4096, n);
+    let held = part(bank_of(region, b.number), SECTOR_SIZE, n);
     is_good(v, b) & same_bytes(held, part(data, 0, n))
 }
 
@@ -379,7 +379,7 @@ fn inside(
     p: Plan,
     c: Count,
 ) -> Count {
-    let mut space = [0u8; SECTOR];
+    let mut space = [0u8; SECTOR_SIZE];
     let left: &mut [u8] = &mut space;
     copy(part(region, s.at, s.size), left);
     paste(was, s.size, region, s.at);
@@ -475,7 +475,7 @@ fn turn(
     marks: &mut [u8],
     p: Plan,
 ) -> Tried {
-    let mut space = [0u8; SECTOR];
+    let mut space = [0u8; SECTOR_SIZE];
     let was: &mut [u8] = &mut space;
     let u = t.update;
     let c = t.count;

@@ -29,7 +29,7 @@ use Rattle.header.specs.declared.Validated.{Validated}
 use Rattle.header.specs.declared.Validated.the-variants.{Good, Refused as Bad}
 use Rattle.region.specs.Region.{regionSize, bankOf, dataOf, sectorSize}
 use Rattle.header.specs.Header as Header
-use Rattle.header.specs.Header.{headerOf, spanOk, sourceOk, lengthOk, keyOk, countOk}
+use Rattle.header.specs.Header.{headerOf, spanOk, sourceOk, lengthOk, keyOk, countOk, commitOffset}
 use Rattle.header.proofs.Laws.{span-length, span-key}
 use Rattle.base.proofs.Bools.{and-left, and-right}
 use Rattle.header.specs.WriteHeader.{headerBytes, blankWord, commitBytes, isFit}
@@ -278,14 +278,14 @@ module _ (region : List ℕ) (hd : Loaded) (rs : List Source) (im : Image) (w : 
     n = target (w .beginning .active)
 
     r′ : List ℕ
-    r′ = applied (target (w .beginning .active)) (write 44 commitBytes) region
+    r′ = applied (target (w .beginning .active)) (write commitOffset commitBytes) region
 
     rest : List ℕ
     rest = fill 255 2896 ++ (u .data· ++ place .1 .rest)
 
     length-new : length r′ ≡ regionSize
     unfolding r′
-    length-new = length-applied region (target (w .beginning .active)) (k .size) (target-fits (w .beginning .active)) (write 44 commitBytes)
+    length-new = length-applied region (target (w .beginning .active)) (k .size) (target-fits (w .beginning .active)) (write commitOffset commitBytes)
 
     few : length (recordsOf u) ≤ 3
     unfolding bankFrom
@@ -294,8 +294,8 @@ module _ (region : List ℕ) (hd : Loaded) (rs : List Source) (im : Image) (w : 
     bank-new : bankOf r′ n ≡ headerBytes (bankFrom u) (recordsOf u) commitBytes ++ rest
     unfolding r′ n rest
     bank-new =
-        bank-at region hd (w .beginning .active) rs im k (place .0) (write 44 commitBytes)
-        ∙ ap (λ (x : List ℕ). done (length commitBytes) (write 44 commitBytes) x) (place .1 .lies)
+        bank-at region hd (w .beginning .active) rs im k (place .0) (write commitOffset commitBytes)
+        ∙ ap (λ (x : List ℕ). done (length commitBytes) (write commitOffset commitBytes) x) (place .1 .lies)
         ∙ word-write (bankFrom u) (recordsOf u) (place .1 .proper) few (fill 255 2896 ++ (u .data· ++ place .1 .rest))
 
     number-is : bankFrom u .number ≡ n
@@ -340,8 +340,8 @@ module _ (region : List ℕ) (hd : Loaded) (rs : List Source) (im : Image) (w : 
     other-new : orElse (validated r′ (1 - target (w .beginning .active))) Nothing ≡ w .beginning .active
     unfolding r′
     other-new =
-        let v = live-at region hd (w .beginning .active) rs im k (place .0) (write 44 commitBytes) in
-        subst (λ (x : Loaded). orElse (validated (applied (target (w .beginning .active)) (write 44 commitBytes) region) (1 - target x)) Nothing ≡ x) (sym (place .0 .active)) (v .other)
+        let v = live-at region hd (w .beginning .active) rs im k (place .0) (write commitOffset commitBytes) in
+        subst (λ (x : Loaded). orElse (validated (applied (target (w .beginning .active)) (write commitOffset commitBytes) region) (1 - target x)) Nothing ≡ x) (sym (place .0 .active)) (v .other)
 
     loads-new : loaded r′ ≡ Found (bankFrom u)
     unfolding n
@@ -355,7 +355,7 @@ module _ (region : List ℕ) (hd : Loaded) (rs : List Source) (im : Image) (w : 
         ap (λ (x : List ℕ). Header.recordsOf 3 x (length (recordsOf u))) (bank-number ∙ bank-new)
         ∙ records-are (bankFrom u) (recordsOf u) refl (place .1 .numbers) (place .1 .proper) few rest
 
-    pub word-kept : Kept (applied (target (w .beginning .active)) (write 44 commitBytes) region) (heldNew u) (recordsOf u) (imageNew (applied (target (w .beginning .active)) (write 44 commitBytes) region) u)
+    pub word-kept : Kept (applied (target (w .beginning .active)) (write commitOffset commitBytes) region) (heldNew u) (recordsOf u) (imageNew (applied (target (w .beginning .active)) (write commitOffset commitBytes) region) u)
     unfolding bankFrom r′
     word-kept =
         record {
@@ -368,17 +368,17 @@ module _ (region : List ℕ) (hd : Loaded) (rs : List Source) (im : Image) (w : 
         }
 
     -- the word's write cut before its last byte: byte 47 is still 255
-    pub word-torn : (j : ℕ) → j < 4 → Kept (torn (target (w .beginning .active)) j (write 44 commitBytes) region) hd rs im
+    pub word-torn : (j : ℕ) → j < 4 → Kept (torn (target (w .beginning .active)) j (write commitOffset commitBytes) region) hd rs im
     word-torn j l =
         let a = w .beginning .active in
         let b = bankOf region (target a) in
         let lb = length-bank region (target a) (k .size) (target-fits a) in
         let e : byte b 47 ≡ 255 =
         ap (λ (x : List ℕ). byte x 47) (place .1 .lies) ∙ byte-47 (bankFrom u) (recordsOf u) (fill 255 2896 ++ (u .data· ++ place .1 .rest)) in
-        kept-unmarked-at region hd a rs im k (place .0) (write 44 commitBytes) j
-        (unmarked (done j (write 44 commitBytes) b) (write-past j 44 3 commitBytes b (omega arith) (inl (omega arith)) ∙ e))
+        kept-unmarked-at region hd a rs im k (place .0) (write commitOffset commitBytes) j
+        (unmarked (done j (write commitOffset commitBytes) b) (write-past j 44 3 commitBytes b (omega arith) (inl (omega arith)) ∙ e))
 
-    pub word-open : Open (applied (target (w .beginning .active)) (write 44 commitBytes) region) (heldNew u) (withStage w Committed) u
+    pub word-open : Open (applied (target (w .beginning .active)) (write commitOffset commitBytes) region) (heldNew u) (withStage w Committed) u
     word-open =
         let rg = ranged w (o .tied .range) in
         record {
@@ -393,6 +393,6 @@ module _ (region : List ℕ) (hd : Loaded) (rs : List Source) (im : Image) (w : 
                 tailed = o .tied .tailed;
               };
           mode =
-              subst (λ (x : Bool). Mode x Committed (applied (target (w .beginning .active)) (write 44 commitBytes) region) (heldNew u) (w .beginning .active) (w .taken) (w .tail) u)
+              subst (λ (x : Bool). Mode x Committed (applied (target (w .beginning .active)) (write commitOffset commitBytes) region) (heldNew u) (w .beginning .active) (w .taken) (w .tail) u)
               (sym (ended .writing)) (tt, tt);
         }

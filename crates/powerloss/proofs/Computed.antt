@@ -23,7 +23,7 @@ use Rattle.base.specs.Lists.{fill, each}
 use Rattle.record.specs.Types.{All, U32, Block32}
 use Rattle.base.proofs.Lists.{drop-fill, length-fill}
 use Rattle.header.specs.declared.Validated.{Validated}
-use Rattle.header.specs.Header.{marked, spanOk, sourceOk, judge, maxSources}
+use Rattle.header.specs.Header.{marked, spanOk, sourceOk, judge, maxSources, commitOffset}
 use Rattle.region.specs.Region.{regionSize, bankSize, sectorSize}
 use Rattle.region.specs.Region as Region
 use Rattle.header.specs.WriteHeader.{isFit, headerBytes, blankWord, commitBytes}
@@ -129,7 +129,7 @@ module _ (hd : Loaded) (ok : activeOk hd ≡ true) (region : List ℕ) (ss : Lis
     unfolding lowerStep lowerOps dueStep dueOps operated inRange takenOk tablesOk stageOk operationOk isDue
     does-write = rw (eq-eqb (length region) regionSize l, ok) (refl, refl)
 
-    does-word : Does word region (st hd Headed (tk 12 0 a true) (tb 1 8 9 b 1) ss tail) Done (st hd Committed (tk 12 0 a true) (tb 1 8 9 b 1) ss tail) (write 44 commitBytes ∷ [])
+    does-word : Does word region (st hd Headed (tk 12 0 a true) (tb 1 8 9 b 1) ss tail) Done (st hd Committed (tk 12 0 a true) (tb 1 8 9 b 1) ss tail) (write commitOffset commitBytes ∷ [])
     unfolding lowerStep lowerOps wordStep wordOps inRange takenOk tablesOk stageOk isDue
     does-word = rw (eq-eqb (length region) regionSize l, ok) (refl, refl)
 
@@ -306,7 +306,7 @@ module _ (hd : Loaded) (ok : activeOk hd ≡ true) (rs : List Source) (im : Imag
   abbrev atWord : Run
   atWord = at hd rs im region (last· hd) (upd hd data· notes)
 
-  word-does : Does word region (last· hd) Done (st hd Committed (tk 12 0 crcData true) (tb 1 8 9 crcRoutes 1) (sources2 crcRoutes) tail3) (write 44 commitBytes ∷ [])
+  word-does : Does word region (last· hd) Done (st hd Committed (tk 12 0 crcData true) (tb 1 8 9 crcRoutes 1) (sources2 crcRoutes) tail3) (write commitOffset commitBytes ∷ [])
   word-does = does-word hd ok region (sources2 crcRoutes) tail3 crcData crcRoutes l
 
   by-word : next atWord (call word) .history .held ≡ theNew hd
@@ -337,9 +337,9 @@ module _ (hd : Loaded) (ok : activeOk hd ≡ true) (rs : List Source) (im : Imag
   unfolding next onCut afterLowerCut committed doneAt
   by-cut-after = rw (word-does .1) (ap Found (noted-bank hd))
 
-  three-bytes : next atWord (cut word 0 3) .region ≡ torn (target hd) 3 (write 44 commitBytes) region
+  three-bytes : next atWord (cut word 0 3) .region ≡ torn (target hd) 3 (write commitOffset commitBytes) region
   unfolding next onCut
-  three-bytes = rw (word-does .1, cut-inside (target hd) (write 44 commitBytes) [] region 3) refl
+  three-bytes = rw (word-does .1, cut-inside (target hd) (write commitOffset commitBytes) [] region 3) refl
 
   by-erase-cut : (next (at hd rs im region (dueFirst hd) (upd hd data· notes)) (cut due 0 100) .region ≡ torn (target hd) 100 (erase 0) region)
       × (next (at hd rs im region (dueFirst hd) (upd hd data· notes)) (cut due 0 100) .history .held ≡ hd)
@@ -400,7 +400,7 @@ threeBytesWritten region l =
     let q = headed-by hd ok (found region) refl refl l [] ∙ none-left _ in
     ap (λ (x : Run). x .region) (before hd ok (found region) refl refl l (cut word 0 3))
     ∙ three-bytes hd ok rs im g (l4 hd region l)
-    ∙ ap (λ (x : Run). torn (target hd) 3 (write 44 commitBytes) (x .region)) (sym q)
+    ∙ ap (λ (x : Run). torn (target hd) 3 (write commitOffset commitBytes) (x .region)) (sym q)
 
 -- the header sector's erase, cut
 pub cutInTheErase : CutInTheErase
@@ -573,12 +573,12 @@ module _ (hd : Loaded) (ok : activeOk hd ≡ true) (region : List ℕ) (l : leng
   abbrev s2 : List Source
   s2 = sources2 crcRoutes
 
-  ops-word : ranOps (region4 hd region l) (last· hd) (word ∷ []) ≡ write 44 commitBytes ∷ []
+  ops-word : ranOps (region4 hd region l) (last· hd) (word ∷ []) ≡ write commitOffset commitBytes ∷ []
   unfolding ranOps
   ops-word = rw (does-word hd ok (region4 hd region l) s2 tail3 crcData crcRoutes (l4 hd region l) .1)
 
   ops-commit : ranOps (region3 hd region l) (ready hd tail3 crcData crcRoutes) (commit Missing true ∷ word ∷ [])
-      ≡ write 0 (headerBytes (updated hd) (written ∷ []) blankWord) ∷ write 44 commitBytes ∷ []
+      ≡ write 0 (headerBytes (updated hd) (written ∷ []) blankWord) ∷ write commitOffset commitBytes ∷ []
   ops-commit =
       ran hd (commit Missing true) (region3 hd region l) _ _ _ _ _ _ _ _ (word ∷ []) (does-commit hd ok (region3 hd region l) tail3 crcData crcRoutes (l3 hd region l))
       ∙ (λ i. header-op hd i ++ ops-word i)
@@ -587,7 +587,7 @@ module _ (hd : Loaded) (ok : activeOk hd ≡ true) (region : List ℕ) (l : leng
   committing = commit Missing true ∷ word ∷ []
 
   ops-due : ranOps region (dueFirst hd) (due ∷ due ∷ due ∷ committing)
-      ≡ erase 0 ∷ erase sectorSize ∷ write sectorSize data· ∷ write 0 (headerBytes (updated hd) (written ∷ []) blankWord) ∷ write 44 commitBytes ∷ []
+      ≡ erase 0 ∷ erase sectorSize ∷ write sectorSize data· ∷ write 0 (headerBytes (updated hd) (written ∷ []) blankWord) ∷ write commitOffset commitBytes ∷ []
   ops-due =
       ran hd due region _ _ _ _ _ _ _ _ (due ∷ due ∷ committing) (does-header hd ok region s2 tail3 crcData crcRoutes l)
       ∙ ap (λ (ops : List Op). erase 0 ∷ ops)
@@ -618,7 +618,7 @@ fiveOperations region l =
     ∙ ran hd end region _ _ _ _ _ _ _ _ _ (does-end hd ok region sources1 tail3 crcData crcRoutes)
     ∙ ran hd close region _ _ _ _ _ _ _ _ _ (does-close hd ok region (sources2 crcRoutes) tail3 crcData crcRoutes)
     ∙ ops-due hd ok region l
-    ∙ (λ i. erase 0 ∷ erase sectorSize ∷ write sectorSize data· ∷ write 0 (headerBytes (updated hd) (written ∷ []) (blank-is i)) ∷ write 44 (word-is i) ∷ [])
+    ∙ (λ i. erase 0 ∷ erase sectorSize ∷ write sectorSize data· ∷ write 0 (headerBytes (updated hd) (written ∷ []) (blank-is i)) ∷ write commitOffset (word-is i) ∷ [])
 
 -- ---- an erased region
 

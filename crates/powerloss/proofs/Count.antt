@@ -36,6 +36,7 @@ use Rattle.powerloss.proofs.Quiet.{only-idle}
 use Rattle.powerloss.proofs.Commits.{is-idle, is-headed, fit-length}
 use Rattle.powerloss.specs.Operations.{sectors, writes}
 use Rattle.powerloss.proofs.Exactly.{compare-ops, ops-are}
+use Rattle.header.specs.Header.{commitOffset}
 
 -- in writing mode, with n bytes written: before the first erase none
 abbrev pub soFar : Stage → ℕ → ℕ
@@ -259,7 +260,7 @@ module _ (region : List ℕ) (w : Writer) (ops m : ℕ) (l : length region ≡ r
   unfolding wordStep wordOps
   word-at q =
       let e = eq-eqb (length region) regionSize l in
-      rw (e, r) (word-tally (write 44 commitBytes) (isHeaded (w .stage)) refl (rw (e, r) at q))
+      rw (e, r) (word-tally (write commitOffset commitBytes) (isHeaded (w .stage)) refl (rw (e, r) at q))
 
   pub call-tally : (c : Lower) → m ≡ ops + length (lowerOps region w c) → TallyOf m (lowerStep region w c .writer)
   unfolding lowerStep lowerOps

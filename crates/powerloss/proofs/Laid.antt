@@ -12,7 +12,7 @@ use Rattle.record.specs.Types.{All}
 use Rattle.base.proofs.Lists.{length-fill, fill-split}
 use Rattle.header.specs.declared.Bank.{Bank}
 use Rattle.region.specs.Region.{bankSize, sectorSize, dataOf, capacity}
-use Rattle.header.specs.Header.{marked}
+use Rattle.header.specs.Header.{marked, commitOffset}
 use Rattle.header.specs.WriteHeader.{headerBytes, blankWord, commitBytes, recordBytes}
 use Rattle.header.specs.Types.{Bytes, Proper}
 use Rattle.header.proofs.WriteLaws.{unmarked, no-magic, blank-47, length-header, bytes-header, bytes-blank-word, length-blank-word, length-commit-bytes, bytes-commit-bytes, bytes-append, header-split, topBytes, length-top}
@@ -216,7 +216,7 @@ module _ (k : Bank) (ss : List Source) (ps : All Proper ss) (n : length ss ≤ 3
             ∙ ap (λ (x : List ℕ). hw ++ (fill 255 2896 ++ (x ++ y))) f,
       )
 
-  pub word-write : (y : List ℕ) → done (length commitBytes) (write 44 commitBytes) (headerBytes k ss blankWord ++ y) ≡ headerBytes k ss commitBytes ++ y
+  pub word-write : (y : List ℕ) → done (length commitBytes) (write commitOffset commitBytes) (headerBytes k ss blankWord ++ y) ≡ headerBytes k ss commitBytes ++ y
   unfolding blankWord
   word-write y =
       let t = topBytes k ss in
@@ -226,7 +226,7 @@ module _ (k : Bank) (ss : List Source) (ps : All Proper ss) (n : length ss ≤ 3
       ∙ append-assoc t (blankWord ++ r) y
       ∙ ap (λ (x : List ℕ). t ++ x) (append-assoc blankWord r y)
       ∙ ap (λ (m : ℕ). t ++ (fill 255 m ++ (r ++ y))) (sym length-commit-bytes) in
-      ap (λ (x : List ℕ). done (length commitBytes) (write 44 commitBytes) x) e
+      ap (λ (x : List ℕ). done (length commitBytes) (write commitOffset commitBytes) x) e
       ∙ write-over t commitBytes (r ++ y) 44 (length-top k ss) bytes-commit-bytes
       ∙ ap (λ (x : List ℕ). t ++ x) (sym (append-assoc commitBytes r y))
       ∙ sym (append-assoc t (commitBytes ++ r) y)

@@ -48,7 +48,7 @@ use Rattle.powerloss.proofs.Quiet.{on-source, on-table, on-end, on-unch
 use Rattle.powerloss.proofs.Take.{on-bytes, on-close}
 use Rattle.powerloss.proofs.Dues.{Carried, no-ops, on-due}
 use Rattle.powerloss.proofs.Commits.{is-headed, on-commit, word-kept, word-torn, word-open}
-use Rattle.header.specs.Header.{maxSources}
+use Rattle.header.specs.Header.{maxSources, commitOffset}
 
 -- a lower call that isn't the commit word
 abbrev pub Plain : Lower → Type 0
@@ -103,10 +103,10 @@ module _ (region : List ℕ) (hd : Loaded) (rs : List Source) (im : Image) (w : 
   -- the commit word
   word-by : (b : Bool) → isHeaded (w .stage) ≡ b
       → Inv (record {
-        region = performed (target (w .beginning .active)) (pick b (write 44 commitBytes ∷ []) []) region;
+        region = performed (target (w .beginning .active)) (pick b (write commitOffset commitBytes ∷ []) []) region;
         state = some (pick b (did (withStage w Committed)) (stays w Turn) .writer);
         history = afterLower word (pick b (did (withStage w Committed)) (stays w Turn) .answer) (record { held = hd; records = rs; open· = some u }) (some u);
-        image = imageAfter true (isDone (pick b (did (withStage w Committed)) (stays w Turn) .answer)) (some u) (performed (target (w .beginning .active)) (pick b (write 44 commitBytes ∷ []) []) region) im;
+        image = imageAfter true (isDone (pick b (did (withStage w Committed)) (stays w Turn) .answer)) (some u) (performed (target (w .beginning .active)) (pick b (write commitOffset commitBytes ∷ []) []) region) im;
       })
   unfolding performed afterLower committed imageAfter updateAfter
   word-by true e =
@@ -132,7 +132,7 @@ module _ (region : List ℕ) (hd : Loaded) (rs : List Source) (im : Image) (w : 
   bank = target (w .beginning .active)
 
   abbrev word-write : Op
-  word-write = write 44 commitBytes
+  word-write = write commitOffset commitBytes
 
   -- with the word written the update is committed, without it nothing has changed for load
   left-written : isHeaded (w .stage) ≡ true → Inv (word-left (applied bank word-write region) 1)

@@ -8,6 +8,7 @@ use Rattle.due.proofs.Laws.{target-fits, one-op}
 use borrow.Author.Needs.{needs}
 use Rattle.commit.proofs.write_word.Statement.{statement}
 use Rattle.commit.proofs.write_word.Tie as tie
+use Rattle.header.specs.Header.{commitOffset}
 
 target-requires : tie.Need-target-requires
 target-requires c κs = search needs
@@ -40,7 +41,7 @@ returns c =
     let l = a .w .beginning .active in
     let k : length (x .commit-bytes .result) ≡ 4 = search needs in (
       c .did .ensures ∙ ap did (c .before .committed .ensures),
-      v .write .ensures ∙ (λ i. writtenIn (a .region .now) (t .target .ensures i) 44 (x .commit-bytes .ensures i)) ∙ one-op (a .region .now) (target l) (write 44 commitBytes) (s .pre) (target-fits l) (omega (arith, k, ap length (x .commit-bytes .ensures))),
+      v .write .ensures ∙ (λ i. writtenIn (a .region .now) (t .target .ensures i) 44 (x .commit-bytes .ensures i)) ∙ one-op (a .region .now) (target l) (write commitOffset commitBytes) (s .pre) (target-fits l) (omega (arith, k, ap length (x .commit-bytes .ensures))),
     )
 
 pub write-word-spec : {M : Type 1} → statement M
