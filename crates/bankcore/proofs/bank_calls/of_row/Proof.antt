@@ -1,0 +1,32 @@
+use Rattle.bankcore.specs.Answers.{ofRow}
+use Prim.Native.Nat.{ℕ}
+use mathlib.Core.Path.{sym, ap, _∙_}
+use borrow.Author.Needs.{needs}
+use Rattle.bankcore.proofs.bank_calls.of_row.Statement.{statement}
+use Rattle.bankcore.proofs.bank_calls.of_row.Tie as tie
+
+enum-known-x : tie.Need-enum-known-x
+enum-known-x c = search needs
+
+enum-told : tie.Need-enum-told
+enum-told c = search needs
+
+enum-known-x-2 : tie.Need-enum-known-x-2
+enum-known-x-2 c = search needs
+
+number-of-requires : tie.Need-number-of-requires
+number-of-requires c κs = search needs
+
+returns : tie.Need-returns
+returns c = sym (ap ofRow (c .before .x .given .1))
+
+returns-2 : tie.Need-returns-2
+returns-2 c = sym (ap ofRow (c .enum-told .given .1))
+
+returns-3 : tie.Need-returns-3
+returns-3 c = ap (λ (n : ℕ). record { refusal = n; found = 0; next = 0; size = 0 }) (c .number-of .ensures) ∙ sym (ap ofRow (c .before .before .x2 .given .1))
+
+pub of-row-spec : {M : Type 1} → statement M
+of-row-spec =
+    tie.close
+    (tie.spec enum-known-x enum-told enum-known-x-2 number-of-requires returns returns-2 returns-3)

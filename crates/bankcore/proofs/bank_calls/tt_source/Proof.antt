@@ -1,0 +1,67 @@
+use Rattle.snapshot.specs.Source.{askedSource}
+use Rattle.snapshot.specs.declared.source.Asked.{Asked}
+use Rattle.record.specs.Record.{sourceBytes}
+use Rattle.leaf.specs.Bytes.{written}
+use lib.ListN.{length}
+use Rattle.bankcore.specs.Answers.{refusalOf, outputOf}
+use mathlib.Core.Path.{sym, ap, _∙_}
+use borrow.Author.Needs.{needs}
+use Rattle.bankcore.proofs.bank_calls.tt_source.Statement.{statement}
+use Rattle.bankcore.proofs.bank_calls.tt_source.Tie as tie
+
+fits-requires : tie.Need-fits-requires
+fits-requires c κs = search needs
+
+source-requires : tie.Need-source-requires
+source-requires c κs = search needs
+
+enum-told : tie.Need-enum-told
+enum-told c = search needs
+
+encode-requires : tie.Need-encode-requires
+encode-requires c κs = search needs
+
+enum-known-o : tie.Need-enum-known-o
+enum-known-o c = search needs
+
+number-of-requires : tie.Need-number-of-requires
+number-of-requires c κs = search needs
+
+same-length : tie.Need-same-length
+same-length c = search needs
+
+returns : tie.Need-returns
+returns c =
+    let k = c .before .before in
+    let t = k .before .before in
+    let s = t .before .before in
+    let f = s .before in
+    let a = f .before .before .before .args in
+    let out = a .out .now in
+    let e = sym (ap (λ (x : Asked). x .outcome) (s .source .ensures)) ∙ t .enum-told .given .1 in (
+      f .fits2 .ensures ∙ sym (ap (refusalOf (length out)) e),
+      k .encode .ensures ∙ ap (λ (x : Asked). written out 0 (sourceBytes (x .source))) (s .source .ensures) ∙ sym (ap (outputOf out (askedSource (a .region .now) (a .bank) (a .index))) e),
+    )
+
+returns-2 : tie.Need-returns-2
+returns-2 c =
+    let o = c .before .before in
+    let s = o .before .before in
+    let a = s .before .before .before .before .args in
+    let out = a .out .now in
+    let e = sym (ap (λ (x : Asked). x .outcome) (s .source .ensures)) ∙ o .o .given .1 in
+    (c .number-of .ensures ∙ sym (ap (refusalOf (length out)) e), sym (ap (outputOf out (askedSource (a .region .now) (a .bank) (a .index))) e))
+
+pub tt-source-spec : {M : Type 1} → statement M
+tt-source-spec =
+    tie.close
+    (tie.spec
+    fits-requires
+    source-requires
+    enum-told
+    encode-requires
+    enum-known-o
+    number-of-requires
+    same-length
+    returns
+    returns-2)

@@ -1,0 +1,397 @@
+// Keys and banks under C names, for the firmware in Rust to link. A slice passes as a pointer and a length, an answer as a struct of
+// numbers; rust/binding declares them. No call asks anything of its caller.
+ghost use mathlib.Core.Path.{_≡_};
+ghost use lib.Dec.{leb};
+ghost use lib.ListN.{length};
+ghost use Rattle.base.specs.Number.{pick};
+ghost use Rattle.refusal.specs.Refusal.{numberOf};
+ghost use Rattle.key.specs.Layout as Keys;
+ghost use Rattle.key.specs.Picks as Picks;
+ghost use Rattle.bank.specs.Bank as Banks;
+ghost use Rattle.bank.specs.Turns as Turns;
+ghost use Rattle.snapshot.specs.Source as Sources;
+ghost use Rattle.snapshot.specs.Freshness as Freshness;
+ghost use Rattle.snapshot.specs.KeyMatch as Matches;
+ghost use Rattle.rowread.specs.Stored as Stored;
+ghost use Rattle.snapshot.specs.Rows as Rows;
+ghost use Rattle.bankcore.specs.Answers as Answers;
+use bank::Loaded;
+use bank::turns::Checking;
+use bank::turns::Progress;
+use bank::turns::Turn;
+use header::Bank;
+use header::Validated;
+use key::KeyAnswer;
+use key::SameKey;
+use refusal::Refusal;
+use rowread::ReadAnswer;
+use snapshot::Outcome;
+use snapshot::freshness::Day;
+use snapshot::freshness::Days;
+use snapshot::freshness::FreshAnswer;
+
+// A bank's numbers, if found; `key` is the key's length.
+#[repr(C)]
+pub struct BankNumbers {
+    pub refusal: u32,
+    pub found: u32,
+    pub number: u32,
+    pub version: u32,
+    pub generation: u32,
+    pub length: u32,
+    pub crc: u32,
+    pub count: u32,
+    pub key: u32,
+    pub checked: i64,
+}
+
+#[repr(C)]
+pub struct FreshNumbers {
+    pub refusal: u32,
+    pub checked: i64,
+    pub updated: i64,
+}
+
+#[repr(C)]
+pub struct KeyNumbers {
+    pub refusal: u32,
+    pub length: usize,
+}
+
+#[repr(C)]
+pub struct MatchNumbers {
+    pub refusal: u32,
+    pub same: u32,
+}
+
+// A turn's refusal, verdict or count, and the state after it.
+#[repr(C)]
+pub struct TurnNumbers {
+    pub refusal: u32,
+    pub verdict: u32,
+    pub count: u32,
+    pub bank: u32,
+    pub position: u32,
+    pub crc: u32,
+}
+
+// Whether there is a row; where the next one starts, and how many bytes its values have.
+#[repr(C)]
+pub struct BankRowNumbers {
+    pub refusal: u32,
+    pub found: u32,
+    pub next: usize,
+    pub size: usize,
+}
+
+fn number_of(r: Refusal) -> u32
+    ensures { λ n. ⌜ n ≡ numberOf r ⌝ }
+{
+    base::number::wide(refusal::number(r))
+}
+
+fn no_bank(r: u32) -> BankNumbers
+    ensures { λ x. ⌜ x ≡ Answers.noBank r ⌝ }
+{
+    BankNumbers {
+        refusal: r,
+        found: 0,
+        number: 0,
+        version: 0,
+        generation: 0,
+        length: 0,
+        crc: 0,
+        count: 0,
+        key: 0,
+        checked: 0,
+    }
+}
+
+fn of_bank(b: Bank) -> BankNumbers
+    ensures { λ x. ⌜ x ≡ Answers.ofBank b ⌝ }
+{
+    BankNumbers {
+        refusal: 0,
+        found: 1,
+        number: b.number,
+        version: b.version,
+        generation: b.generation,
+        length: b.length,
+        crc: b.crc,
+        count: b.count,
+        key: b.key,
+        checked: b.checked,
+    }
+}
+
+fn of_validated(v: Validated) -> BankNumbers
+    ensures { λ x. ⌜ x ≡ Answers.ofValidated v ⌝ }
+{
+    match v {
+        Validated::Good(b) => of_bank(b),
+        Validated::Refused(r) => no_bank(number_of(r)),
+    }
+}
+
+fn of_loaded(l: Loaded) -> BankNumbers
+    ensures { λ x. ⌜ x ≡ Answers.ofLoaded l ⌝ }
+{
+    match l {
+        Loaded::Found(b) => of_bank(b),
+        Loaded::Nothing => no_bank(0),
+        Loaded::Refused(r) => no_bank(number_of(r)),
+    }
+}
+
+fn of_fresh(f: FreshAnswer) -> FreshNumbers
+    ensures { λ x. ⌜ x ≡ Answers.ofFresh f ⌝ }
+{
+    match f {
+        FreshAnswer::Fresh(f) => FreshNumbers {
+            refusal: 0,
+            checked: f.checked,
+            updated: f.updated,
+        },
+        FreshAnswer::Refused(r) => FreshNumbers {
+            refusal: number_of(r),
+            checked: i64::MIN,
+            updated: i64::MIN,
+        },
+    }
+}
+
+fn of_key(k: KeyAnswer) -> KeyNumbers
+    ensures { λ x. ⌜ x ≡ Answers.ofKey k ⌝ }
+{
+    match k {
+        KeyAnswer::Written(n) => KeyNumbers {
+            refusal: 0,
+            length: n,
+        },
+        KeyAnswer::Refused(r) => KeyNumbers {
+            refusal: number_of(r),
+            length: 0,
+        },
+    }
+}
+
+fn of_match(m: SameKey) -> MatchNumbers
+    ensures { λ x. ⌜ x ≡ Answers.ofMatch m ⌝ }
+{
+    match m {
+        SameKey::Same => MatchNumbers {
+            refusal: 0,
+            same: 1,
+        },
+        SameKey::Other => MatchNumbers {
+            refusal: 0,
+            same: 0,
+        },
+        SameKey::Refused(r) => MatchNumbers {
+            refusal: number_of(r),
+            same: 0,
+        },
+    }
+}
+
+fn turn_of(s: Checking, refusal: u32, verdict: u32, count: u32) -> TurnNumbers
+    ensures { λ x. ⌜ x ≡ record { refusal = refusal; verdict = verdict; count = count; bank = s .bank; position = s .position; crc = s .crc } ⌝ }
+{
+    TurnNumbers {
+        refusal,
+        verdict,
+        count,
+        bank: s.bank,
+        position: s.position,
+        crc: s.crc,
+    }
+}
+
+fn of_turn(t: Turn) -> TurnNumbers
+    ensures { λ x. ⌜ x ≡ Answers.ofTurn t ⌝ }
+{
+    let p = t.progress;
+    match p {
+        Progress::Hashed(n) => turn_of(t.next, 0, 0, n),
+        Progress::Yes => turn_of(t.next, 0, 1, 0),
+        Progress::Refused(r) => turn_of(t.next, number_of(r), 0, 0),
+    }
+}
+
+fn of_row(x: ReadAnswer) -> BankRowNumbers
+    ensures { λ r. ⌜ r ≡ Answers.ofRow x ⌝ }
+{
+    match x {
+        ReadAnswer::Stored { next, size } => BankRowNumbers {
+            refusal: 0,
+            found: 1,
+            next,
+            size,
+        },
+        ReadAnswer::End => BankRowNumbers {
+            refusal: 0,
+            found: 0,
+            next: 0,
+            size: 0,
+        },
+        ReadAnswer::Refused(r) => BankRowNumbers {
+            refusal: number_of(r),
+            found: 0,
+            next: 0,
+            size: 0,
+        },
+    }
+}
+
+// All tests of a bank but its data's CRC, refusals 1 to 6, and its numbers.
+#[no_mangle]
+pub extern "C" fn tt_header(region: &[u8], bank: u32) -> BankNumbers
+    ensures { λ r. ⌜ r ≡ Answers.ofValidated (Banks.named (now (region .entry)) bank) ⌝ }
+{
+    of_validated(bank::header(region, bank))
+}
+
+// All tests of a bank, refusals 1 to 7, and its numbers.
+#[no_mangle]
+pub extern "C" fn tt_validate(region: &[u8], bank: u32) -> BankNumbers
+    ensures { λ r. ⌜ r ≡ Answers.ofValidated (Banks.validated (now (region .entry)) bank) ⌝ }
+{
+    of_validated(bank::validate(region, bank))
+}
+
+// The bank in use: the first to pass, the newer one tried first; found is 0 where none passes.
+#[no_mangle]
+pub extern "C" fn tt_load(region: &[u8]) -> BankNumbers
+    ensures { λ r. ⌜ r ≡ Answers.ofLoaded (Banks.loaded (now (region .entry))) ⌝ }
+{
+    of_loaded(bank::load(region))
+}
+
+// Begins checking a bank's data in turns.
+#[no_mangle]
+pub extern "C" fn tt_check_start(region: &[u8], bank: u32) -> TurnNumbers
+    ensures { λ r. ⌜ r ≡ Answers.ofTurn (Turns.started (now (region .entry)) bank) ⌝ }
+{
+    of_turn(bank::turns::check_start(region, bank))
+}
+
+// One turn of at most n bytes from the state given; with nothing left it gives the verdict, 1 or refusal 7.
+#[no_mangle]
+pub extern "C" fn tt_check_turn(
+    region: &[u8],
+    bank: u32,
+    position: u32,
+    crc: u32,
+    n: u32,
+) -> TurnNumbers
+    ensures { λ r. ⌜ r ≡ Answers.ofTurn (Turns.turned (now (region .entry)) (record { bank = bank; position = position; crc = crc }) n) ⌝ }
+{
+    of_turn(bank::turns::check_turn(
+        region,
+        Checking {
+            bank,
+            position,
+            crc,
+        },
+        n,
+    ))
+}
+
+// The key of an identity and picks into out; five lengths to a pick: line, route, stop code, stop, stop name.
+#[no_mangle]
+pub extern "C" fn tt_key(
+    identity: &[u8],
+    texts: &[u8],
+    lengths: &[u32],
+    out: &mut [u8],
+) -> KeyNumbers
+    ensures { λ r. ⌜ r ≡ Answers.ofKey (Keys.keyAnswer (now (identity .entry)) (now (texts .entry)) (now (lengths .entry)) (length (now (out .entry)))) ⌝ }
+    ensures { λ _. ⌜ now (out .exit) ≡ Keys.after (Keys.keyAnswer (now (identity .entry)) (now (texts .entry)) (now (lengths .entry)) (length (now (out .entry)))) (Keys.keyOf (now (identity .entry)) (Picks.handed (now (texts .entry)) (now (lengths .entry)))) (now (out .entry)) ⌝ }
+{
+    of_key(key::key(identity, texts, lengths, out))
+}
+
+// Whether a bank's key is that of an identity and picks.
+#[no_mangle]
+pub extern "C" fn tt_same_key(
+    region: &[u8],
+    bank: u32,
+    identity: &[u8],
+    texts: &[u8],
+    lengths: &[u32],
+) -> MatchNumbers
+    ensures { λ r. ⌜ r ≡ Answers.ofMatch (Matches.askedKey (now (region .entry)) bank (now (identity .entry)) (now (texts .entry)) (now (lengths .entry))) ⌝ }
+{
+    of_match(snapshot::keymatch::same_key(region, bank, identity, texts, lengths))
+}
+
+fn day(date: u32, wanted: bool) -> Day
+    ensures { λ r. ⌜ r ≡ record { date = date; wanted = wanted } ⌝ }
+{
+    Day { date, wanted }
+}
+
+// When a bank was checked and the sources of the wanted days were updated; the lowest number is not known.
+#[no_mangle]
+pub extern "C" fn tt_fresh(
+    region: &[u8],
+    bank: u32,
+    day0: u32,
+    day1: u32,
+    day2: u32,
+    wanted0: bool,
+    wanted1: bool,
+    wanted2: bool,
+    at: i64,
+) -> FreshNumbers
+    ensures { λ r. ⌜ r ≡ Answers.ofFresh (Freshness.askedFresh (now (region .entry)) bank (record { first = record { date = day0; wanted = wanted0 }; second = record { date = day1; wanted = wanted1 }; third = record { date = day2; wanted = wanted2 } }) at) ⌝ }
+{
+    let days = Days {
+        first: day(day0, wanted0),
+        second: day(day1, wanted1),
+        third: day(day2, wanted2),
+    };
+    of_fresh(snapshot::freshness::fresh(region, bank, days, at))
+}
+
+fn fits(room: usize) -> u32
+    ensures { λ r. ⌜ r ≡ pick (leb 384 room) 0 9 ⌝ }
+{
+    if room < 384 { 9 } else { 0 }
+}
+
+// A source's record into the first 384 bytes of out, in version 3's form.
+#[no_mangle]
+pub extern "C" fn tt_source(region: &[u8], bank: u32, index: u32, out: &mut [u8]) -> u32
+    ensures { λ r. ⌜ r ≡ Answers.refusalOf (length (now (out .entry))) (Sources.askedSource (now (region .entry)) bank index .outcome) ⌝ }
+    ensures { λ _. ⌜ now (out .exit) ≡ Answers.outputOf (now (out .entry)) (Sources.askedSource (now (region .entry)) bank index) (Sources.askedSource (now (region .entry)) bank index .outcome) ⌝ }
+{
+    let small = fits(out.len());
+    let a = snapshot::source::source(region, bank, index);
+    let o = a.outcome;
+    match o {
+        Outcome::Done => {
+            record::encode(a.source, out, 0);
+            small
+        }
+        Outcome::Refused(r) => number_of(r),
+    }
+}
+
+// The row at a place of a table of a source: its values joined into out, where each ends into ends.
+#[no_mangle]
+pub extern "C" fn tt_bank_row(
+    region: &[u8],
+    bank: u32,
+    source: u32,
+    table: u32,
+    place: usize,
+    out: &mut [u8],
+    ends: &mut [usize],
+) -> BankRowNumbers
+    ensures { λ r. ⌜ r ≡ Answers.ofRow (Rows.askedRow (now (region .entry)) bank source table place (length (now (out .entry))) (length (now (ends .entry)))) ⌝ }
+    ensures { λ _. ⌜ now (out .exit) ≡ Stored.after (Rows.askedRow (now (region .entry)) bank source table place (length (now (out .entry))) (length (now (ends .entry)))) (Stored.joined (Rows.valuesIn (now (region .entry)) bank source table place)) (now (out .entry)) ⌝ }
+    ensures { λ _. ⌜ now (ends .exit) ≡ Stored.after (Rows.askedRow (now (region .entry)) bank source table place (length (now (out .entry))) (length (now (ends .entry)))) (Stored.endsOf 0 (Rows.valuesIn (now (region .entry)) bank source table place)) (now (ends .entry)) ⌝ }
+{
+    of_row(snapshot::rows::bank_row(region, bank, source, table, place, out, ends))
+}

@@ -1,0 +1,94 @@
+// The core's functions under C names, for the firmware in Rust to link. A slice passes as a pointer and a length; rust/binding
+// declares them. No call asks anything of its caller.
+ghost use mathlib.Core.Path.{_≡_};
+ghost use Rattle.leaf.specs.Bytes as Bytes;
+ghost use Rattle.leaf.specs.Crc as Crc;
+ghost use Rattle.leaf.specs.Date as Dates;
+ghost use Rattle.leaf.specs.Generation as Generation;
+ghost use Rattle.base.specs.Number.{rotateLeft32};
+ghost use Rattle.bankcore.specs.Export.{dateOrZero};
+use leaf::date::Date;
+use leaf::date::NewDate;
+
+// The number of four bytes at i, little-endian; bytes past the end read 0.
+#[no_mangle]
+pub extern "C" fn tt_get(b: &[u8], i: usize) -> u32
+    ensures { λ r. ⌜ r ≡ Bytes.word (now (b .entry)) i ⌝ }
+{
+    leaf::bytes::get(b, i)
+}
+
+// Writes the number n at i, four bytes little-endian; where they don't fit nothing changes.
+#[no_mangle]
+pub extern "C" fn tt_put(b: &mut [u8], i: usize, n: u32)
+    ensures { λ _. ⌜ now (b .exit) ≡ Bytes.written (now (b .entry)) i (Bytes.le32 n) ⌝ }
+{
+    leaf::bytes::put(b, i, n)
+}
+
+// The signed 64-bit time at i, little-endian; bytes past the end read 0.
+#[no_mangle]
+pub extern "C" fn tt_get_time(b: &[u8], i: usize) -> i64
+    ensures { λ r. ⌜ r ≡ Bytes.time (now (b .entry)) i ⌝ }
+{
+    leaf::bytes::get_time(b, i)
+}
+
+// Writes the time z at i, eight bytes little-endian; where they don't fit nothing changes.
+#[no_mangle]
+pub extern "C" fn tt_put_time(b: &mut [u8], i: usize, z: i64)
+    ensures { λ _. ⌜ now (b .exit) ≡ Bytes.written (now (b .entry)) i (Bytes.le64 z) ⌝ }
+{
+    leaf::bytes::put_time(b, i, z)
+}
+
+// The CRC-32 of bytes, continued from the CRC of those before; 0 to begin.
+#[no_mangle]
+pub extern "C" fn tt_crc32(start: u32, bytes: &[u8]) -> u32
+    ensures { λ r. ⌜ r ≡ Crc.crc32 start (now (bytes .entry)) ⌝ }
+{
+    leaf::crc::crc32(start, bytes)
+}
+
+// Whether generation a is newer than b, wrapping.
+#[no_mangle]
+pub extern "C" fn tt_newer(a: u32, b: u32) -> bool
+    ensures { λ r. ⌜ r ≡ Generation.newer a b ⌝ }
+{
+    leaf::generation::newer(a, b)
+}
+
+// The generation after g; 0 follows 4294967295.
+#[no_mangle]
+pub extern "C" fn tt_next(g: u32) -> u32
+    ensures { λ r. ⌜ r ≡ Generation.next g ⌝ }
+{
+    leaf::generation::next(g)
+}
+
+// A date's number, year × 10000 + month × 100 + day; 0 where there is no such date.
+#[no_mangle]
+pub extern "C" fn tt_date_new(year: u16, month: u8, day: u8) -> u32
+    ensures { λ r. ⌜ r ≡ dateOrZero year month day ⌝ }
+{
+    match Date::new(year, month, day) {
+        NewDate::Made(d) => d.0,
+        NewDate::InvalidDate => 0,
+    }
+}
+
+// Whether d is a date's number.
+#[no_mangle]
+pub extern "C" fn tt_valid_date(d: u32) -> bool
+    ensures { λ r. ⌜ r ≡ Dates.validDate d ⌝ }
+{
+    leaf::date::valid_date(d)
+}
+
+// x rotated left by 13.
+#[no_mangle]
+pub extern "C" fn tt_rotate13(x: u32) -> u32
+    ensures { λ r. ⌜ r ≡ rotateLeft32 13 x ⌝ }
+{
+    base::number::rotate13(x)
+}

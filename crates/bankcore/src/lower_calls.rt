@@ -1,0 +1,152 @@
+// An update's calls under C names, for the firmware in Rust to link. The state crosses by value, as numbers of which any are allowed; a
+// slice passes as a pointer and a length; rust/binding declares the calls. No call asks anything of its caller.
+ghost use mathlib.Core.Path.{_≡_};
+ghost use Rattle.record.specs.Record.{decoded};
+ghost use Rattle.lower.specs.Lower as Lower;
+ghost use Rattle.due.specs.Due as Due;
+ghost use Rattle.commit.specs.Commit as Commit;
+ghost use Rattle.commit.specs.Unchanged as Unchanged;
+ghost use Rattle.cstate.specs.State.{writerOf};
+ghost use Rattle.cstate.specs.Answers as Answers;
+ghost use Rattle.bankcore.specs.Stamp.{stampOf};
+use commit::Stamp;
+use cstate::State;
+use cstate::UpdateStep;
+use cstate::after;
+use cstate::after_parts;
+use cstate::parts_of;
+use cstate::writer_of;
+use due::due_parts;
+use lower::append::take_parts;
+use record::VERSION;
+use record::decode;
+
+// Begins an update: loads the region; in comparing mode nothing is written. It takes no key.
+#[no_mangle]
+pub extern "C" fn tt_update_begin(
+    region: &[u8],
+    comparing: bool,
+    at: i64,
+    state: State,
+) -> UpdateStep
+    ensures { λ x. ⌜ x ≡ Answers.after (Lower.begun (now (region .entry)) comparing at) state ⌝ }
+{
+    let s = lower::begin::begin(region, comparing, at);
+    after(s, state)
+}
+
+// Begins a source; its record is version 3's, 384 bytes, and its blocks start as zero.
+#[no_mangle]
+pub extern "C" fn tt_update_source(state: State, bytes: &[u8]) -> UpdateStep
+    ensures { λ x. ⌜ x ≡ Answers.after (Lower.sourceStep (writerOf state) (decoded 3 (now (bytes .entry)))) state ⌝ }
+{
+    let r = decode(bytes, VERSION);
+    let s = lower::source::source(writer_of(state), r);
+    after(s, state)
+}
+
+// Begins a table of the last source.
+#[no_mangle]
+pub extern "C" fn tt_update_table(state: State, table: u32) -> UpdateStep
+    ensures { λ x. ⌜ x ≡ Answers.after (Lower.tableStep (writerOf state) table) state ⌝ }
+{
+    let s = lower::table::table(writer_of(state), table);
+    after(s, state)
+}
+
+// Takes bytes until the tail is full, and says how many; none while an operation is due.
+#[no_mangle]
+pub extern "C" fn tt_update_bytes(state: State, bytes: &[u8]) -> UpdateStep
+    ensures { λ x. ⌜ x ≡ Answers.after (Lower.bytesStep (writerOf state) (now (bytes .entry))) state ⌝ }
+{
+    let p = parts_of(state);
+    let s = take_parts(p, bytes);
+    // the tail is that of the parts, also where the bytes are refused
+    let q = s.parts;
+    let tail = q.tail;
+    let x = after_parts(s, state);
+    let numbers = x.numbers;
+    let mut v = x.state;
+    v.tail = tail;
+    UpdateStep { numbers, state: v }
+}
+
+// Ends the open table.
+#[no_mangle]
+pub extern "C" fn tt_update_end(state: State) -> UpdateStep
+    ensures { λ x. ⌜ x ≡ Answers.after (Lower.endStep (writerOf state)) state ⌝ }
+{
+    let s = lower::table::end(writer_of(state));
+    after(s, state)
+}
+
+// No more bytes: what the tail holds is then due.
+#[no_mangle]
+pub extern "C" fn tt_update_close(state: State) -> UpdateStep
+    ensures { λ x. ⌜ x ≡ Answers.after (Lower.closeStep (writerOf state)) state ⌝ }
+{
+    let s = lower::begin::close(writer_of(state));
+    after(s, state)
+}
+
+// Does the erase, write or comparison that is due, or says that none is.
+#[no_mangle]
+pub extern "C" fn tt_update_due(region: &mut [u8], state: State) -> UpdateStep
+    ensures { λ x. ⌜ x ≡ Answers.after (Due.dueStep (now (region .entry)) (writerOf state)) state ⌝ }
+    ensures { λ _. ⌜ now (region .exit) ≡ Due.dueRegion (now (region .entry)) (writerOf state) ⌝ }
+{
+    let p = parts_of(state);
+    let s = due_parts(p, region);
+    // the tail stays
+    let tail = state.tail;
+    let x = after_parts(s, state);
+    let numbers = x.numbers;
+    let mut v = x.state;
+    v.tail = tail;
+    UpdateStep { numbers, state: v }
+}
+
+// Whether the active bank is what was compared with it.
+#[no_mangle]
+pub extern "C" fn tt_update_unchanged(region: &[u8], state: State) -> UpdateStep
+    ensures { λ x. ⌜ x ≡ Answers.after (Unchanged.unchangedStep (now (region .entry)) (writerOf state)) state ⌝ }
+{
+    let s = commit::unchanged::unchanged(writer_of(state), region);
+    after(s, state)
+}
+
+fn stamp_of(stamped: bool, stamp: i64) -> Stamp
+    ensures { λ r. ⌜ r ≡ stampOf stamped stamp ⌝ }
+{
+    if stamped {
+        return Stamp::Given(stamp);
+    }
+    Stamp::Missing
+}
+
+// The first write of a commit: the header without its commit word.
+#[no_mangle]
+pub extern "C" fn tt_update_commit(
+    region: &mut [u8],
+    state: State,
+    stamped: bool,
+    stamp: i64,
+    current: bool,
+) -> UpdateStep
+    ensures { λ x. ⌜ x ≡ Answers.after (Commit.commitStep (now (region .entry)) (writerOf state) (stampOf stamped stamp) current) state ⌝ }
+    ensures { λ _. ⌜ now (region .exit) ≡ Commit.commitRegion (now (region .entry)) (writerOf state) (stampOf stamped stamp) current ⌝ }
+{
+    let m = stamp_of(stamped, stamp);
+    let s = commit::commit(writer_of(state), region, m, current);
+    after(s, state)
+}
+
+// The second write of a commit: the commit word.
+#[no_mangle]
+pub extern "C" fn tt_update_commit_word(region: &mut [u8], state: State) -> UpdateStep
+    ensures { λ x. ⌜ x ≡ Answers.after (Commit.wordStep (now (region .entry)) (writerOf state)) state ⌝ }
+    ensures { λ _. ⌜ now (region .exit) ≡ Commit.wordRegion (now (region .entry)) (writerOf state) ⌝ }
+{
+    let s = commit::commit_word(writer_of(state), region);
+    after(s, state)
+}

@@ -1,0 +1,161 @@
+// Rows and the trip filter under C names, for the firmware in Rust to link. A slice passes as a pointer and a length, an answer as a
+// struct of numbers; rust/binding declares them. No call asks anything of its caller.
+ghost use mathlib.Core.Path.{_≡_};
+ghost use lib.ListN.{length};
+ghost use Rattle.refusal.specs.Refusal.{numberOf};
+ghost use Rattle.csv.specs.Write.{rowOf};
+ghost use Rattle.row.specs.Columns.{columnCount, namesLine};
+ghost use Rattle.row.specs.Write as Rows;
+ghost use Rattle.rowread.specs.Stored as Stored;
+ghost use Rattle.bloom.specs.Bloom as Bloom;
+ghost use Rattle.bankcore.specs.RowCallsAnswers as Answers;
+use bloom::Filter;
+use refusal::Refusal;
+use row::RowAnswer;
+use rowread::ReadAnswer;
+
+#[repr(C)]
+pub struct RowNumbers {
+    pub refusal: u32,
+    pub length: usize,
+}
+
+// A row, if found: the place of the next one, and how many bytes its values have.
+#[repr(C)]
+pub struct ReadNumbers {
+    pub refusal: u32,
+    pub found: u32,
+    pub next: usize,
+    pub size: usize,
+}
+
+#[repr(C)]
+pub struct FilterNumbers {
+    pub refusal: u32,
+    pub present: u32,
+}
+
+fn number_of(r: Refusal) -> u32
+    ensures { λ n. ⌜ n ≡ numberOf r ⌝ }
+{
+    base::number::wide(refusal::number(r))
+}
+
+fn of_row(a: RowAnswer) -> RowNumbers
+    ensures { λ x. ⌜ x ≡ Answers.ofRow a ⌝ }
+{
+    match a {
+        RowAnswer::Written(n) => RowNumbers {
+            refusal: 0,
+            length: n,
+        },
+        RowAnswer::Refused(r) => RowNumbers {
+            refusal: number_of(r),
+            length: 0,
+        },
+    }
+}
+
+fn no_row(r: u32) -> ReadNumbers
+    ensures { λ x. ⌜ x ≡ Answers.noRow r ⌝ }
+{
+    ReadNumbers {
+        refusal: r,
+        found: 0,
+        next: 0,
+        size: 0,
+    }
+}
+
+fn of_read(a: ReadAnswer) -> ReadNumbers
+    ensures { λ x. ⌜ x ≡ Answers.ofRead a ⌝ }
+{
+    match a {
+        ReadAnswer::Stored { next, size } => ReadNumbers {
+            refusal: 0,
+            found: 1,
+            next,
+            size,
+        },
+        ReadAnswer::End => no_row(0),
+        ReadAnswer::Refused(r) => no_row(number_of(r)),
+    }
+}
+
+fn of_filter(a: Filter) -> FilterNumbers
+    ensures { λ x. ⌜ x ≡ Answers.ofFilter a ⌝ }
+{
+    match a {
+        Filter::Present => FilterNumbers {
+            refusal: 0,
+            present: 1,
+        },
+        Filter::Absent => FilterNumbers {
+            refusal: 0,
+            present: 0,
+        },
+        Filter::Refused(r) => FilterNumbers {
+            refusal: number_of(r),
+            present: 0,
+        },
+    }
+}
+
+// How many columns a table has; 0 above table 7.
+#[no_mangle]
+pub extern "C" fn tt_column_count(table: u32) -> usize
+    ensures { λ r. ⌜ r ≡ columnCount table ⌝ }
+{
+    row::column_count(table)
+}
+
+// A table's names line into out.
+#[no_mangle]
+pub extern "C" fn tt_names_line(table: u32, out: &mut [u8]) -> RowNumbers
+    ensures { λ r. ⌜ r ≡ Answers.ofRow (Rows.namesAnswer table (length (now (out .entry)))) ⌝ }
+    ensures { λ _. ⌜ now (out .exit) ≡ Rows.after (Rows.namesAnswer table (length (now (out .entry)))) (namesLine table) (now (out .entry)) ⌝ }
+{
+    of_row(row::names_line(table, out))
+}
+
+// The row of a table with these values into out; a length for each value.
+#[no_mangle]
+pub extern "C" fn tt_row(table: u32, texts: &[u8], lengths: &[u32], out: &mut [u8]) -> RowNumbers
+    ensures { λ r. ⌜ r ≡ Answers.ofRow (Rows.rowAnswer table (now (texts .entry)) (now (lengths .entry)) (length (now (out .entry)))) ⌝ }
+    ensures { λ _. ⌜ now (out .exit) ≡ Rows.after (Rows.rowAnswer table (now (texts .entry)) (now (lengths .entry)) (length (now (out .entry)))) (rowOf (Rows.handed (now (texts .entry)) (now (lengths .entry)))) (now (out .entry)) ⌝ }
+{
+    of_row(row::row(table, texts, lengths, out))
+}
+
+// The row of width values at a place of a stored table: its values joined into out, where each ends into ends.
+#[no_mangle]
+pub extern "C" fn tt_read_row(
+    table: &[u8],
+    width: usize,
+    place: usize,
+    out: &mut [u8],
+    ends: &mut [usize],
+) -> ReadNumbers
+    ensures { λ r. ⌜ r ≡ Answers.ofRead (Stored.readAnswer (now (table .entry)) width place (length (now (out .entry))) (length (now (ends .entry)))) ⌝ }
+    ensures { λ _. ⌜ now (out .exit) ≡ Stored.after (Stored.readAnswer (now (table .entry)) width place (length (now (out .entry))) (length (now (ends .entry)))) (Stored.joined (Stored.valuesAt (now (table .entry)) width place)) (now (out .entry)) ⌝ }
+    ensures { λ _. ⌜ now (ends .exit) ≡ Stored.after (Stored.readAnswer (now (table .entry)) width place (length (now (out .entry))) (length (now (ends .entry)))) (Stored.endsOf 0 (Stored.valuesAt (now (table .entry)) width place)) (now (ends .entry)) ⌝ }
+{
+    of_read(rowread::read_row(table, width, place, out, ends))
+}
+
+// Whether a trip id may be in the filter.
+#[no_mangle]
+pub extern "C" fn tt_filter_query(bits: &[u8], id: &[u8]) -> FilterNumbers
+    ensures { λ r. ⌜ r ≡ Answers.ofFilter (Bloom.query (now (bits .entry)) (now (id .entry))) ⌝ }
+{
+    of_filter(bloom::query(bits, id))
+}
+
+// Puts a trip id into the filter, and says whether it may have been there.
+#[no_mangle]
+pub extern "C" fn tt_filter_insert(bits: &mut [u8], id: &[u8]) -> FilterNumbers
+    ensures { λ r. ⌜ r ≡ Answers.ofFilter (Bloom.insertAnswer (now (bits .entry)) (now (id .entry))) ⌝ }
+    ensures { λ _. ⌜ now (bits .exit) ≡ Bloom.inserted (now (bits .entry)) (now (id .entry)) ⌝ }
+{
+    of_filter(bloom::insert(bits, id))
+}
