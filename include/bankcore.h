@@ -15,7 +15,7 @@
 extern "C" {
 #endif
 
-/* The refusals, by document 01's words and numbers. */
+/* The refusals, by the words and numbers of documents 01 and 02. No call gives 15 to 23 yet. */
 enum tt_refusal {
     TT_REFUSAL_NONE = 0,
     TT_REFUSAL_REGION = 1,
@@ -32,6 +32,15 @@ enum tt_refusal {
     TT_REFUSAL_OBSOLETE = 12,
     TT_REFUSAL_UNFIT = 13,
     TT_REFUSAL_ROW = 14,
+    TT_REFUSAL_KEY = 15,
+    TT_REFUSAL_FUTURE = 16,
+    TT_REFUSAL_LINE = 17,
+    TT_REFUSAL_RIGHTS = 18,
+    TT_REFUSAL_LAST_KEEPER = 19,
+    TT_REFUSAL_LIST = 20,
+    TT_REFUSAL_ABSENT = 21,
+    TT_REFUSAL_LAYOUT = 22,
+    TT_REFUSAL_TABLE = 23,
 };
 
 /* A refusal's word; empty for 0 and for a number that is no refusal's. */
@@ -52,6 +61,15 @@ static inline const char *tt_refusal_word(uint32_t refusal)
     case TT_REFUSAL_OBSOLETE: return "obsolete";
     case TT_REFUSAL_UNFIT: return "unfit";
     case TT_REFUSAL_ROW: return "row";
+    case TT_REFUSAL_KEY: return "key";
+    case TT_REFUSAL_FUTURE: return "future";
+    case TT_REFUSAL_LINE: return "line";
+    case TT_REFUSAL_RIGHTS: return "rights";
+    case TT_REFUSAL_LAST_KEEPER: return "last keeper";
+    case TT_REFUSAL_LIST: return "list";
+    case TT_REFUSAL_ABSENT: return "absent";
+    case TT_REFUSAL_LAYOUT: return "layout";
+    case TT_REFUSAL_TABLE: return "table";
     default: return "";
     }
 }
@@ -144,7 +162,7 @@ typedef struct TtTables {
     uint32_t begun;
 } TtTables;
 
-/* Where a table's bytes stand in the data, and their CRC. */
+/* Where a table's bytes are in the data, and their CRC. */
 typedef struct TtBlock {
     uint32_t offset;
     uint32_t length;
@@ -200,7 +218,9 @@ typedef struct TtUpdateStep {
     TtState state;
 } TtUpdateStep;
 
-/* crates/export: link libexport.a, which `rt staticlib export` makes. */
+/* Link libbankcore.a, which `rt staticlib bankcore` makes. */
+
+/* ---- The leaves: numbers in bytes, CRC-32, generations, dates. */
 
 /* The number of four bytes at i, little-endian; bytes past the end read 0. */
 uint32_t tt_get(const uint8_t *b, size_t b_length, size_t i);
@@ -232,7 +252,7 @@ bool tt_valid_date(uint32_t d);
 /* x rotated left by 13. */
 uint32_t tt_rotate13(uint32_t x);
 
-/* crates/bankexport: link libbankexport.a, which `rt staticlib bankexport` makes. */
+/* ---- Keys, and banks: load and the calls on a loaded bank. */
 
 /* All tests of a bank but its data's CRC, refusals 1 to 6, and its numbers. */
 TtBankNumbers tt_header(const uint8_t *region, size_t region_length, uint32_t bank);
@@ -317,7 +337,7 @@ TtBankRowNumbers tt_bank_row(
     size_t *ends,
     size_t ends_length);
 
-/* crates/rowexport: link librowexport.a, which `rt staticlib rowexport` makes. */
+/* ---- Rows and the trip filter. */
 
 /* How many columns a table has; 0 above table 7. */
 size_t tt_column_count(uint32_t table);
@@ -361,7 +381,7 @@ TtFilterNumbers tt_filter_insert(
     const uint8_t *id,
     size_t id_length);
 
-/* crates/updateexport: link libupdateexport.a, which `rt staticlib updateexport` makes. */
+/* ---- An update's lower calls. The state crosses by value, as numbers of which any are allowed. */
 
 /* Begins an update: loads the region; in comparing mode nothing is written. It takes no key. */
 TtUpdateStep tt_update_begin(
@@ -404,7 +424,7 @@ TtUpdateStep tt_update_commit(
 /* The second write of a commit: the commit word. */
 TtUpdateStep tt_update_commit_word(uint8_t *region, size_t region_length, TtState state);
 
-/* crates/upperexport: link libupperexport.a, which `rt staticlib upperexport` makes. */
+/* ---- An update's upper calls. Texts that belong together pass joined, with their lengths. */
 
 /* Begins an update and feeds the key of an identity and picks; five lengths to a pick. */
 TtUpdateStep tt_upper_begin(

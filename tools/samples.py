@@ -237,8 +237,8 @@ def noise(length):
 LONG_IDENTITY = b"identity " * 7281 + b"ending"
 LONG_PICKS = [(b"line%04d" % i, b"r" * 32, b"", b"s" * 32, b"n" * 64) for i in range(16)]
 OK = "passes"
-REFUSED = {n: "refusal %d %s" % (n, word) for n, word in
-           zip(range(3, 8), ["mark", "seal", "span", "source", "data"])}
+REFUSAL_WORDS = {3: "mark", 4: "seal", 5: "span", 6: "source", 7: "data"}
+REFUSED = {n: "refusal %d %s" % (n, word) for n, word in REFUSAL_WORDS.items()}
 LAST = (1 << 32) - 1
 HALF = 1 << 31
 

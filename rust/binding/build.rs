@@ -1,4 +1,4 @@
-//! Links the static libraries of the core.
+//! Links the static library of the core.
 use std::{env, path::Path};
 
 fn main() {
@@ -11,18 +11,16 @@ fn main() {
         },
         Into::into,
     );
-    for name in ["export", "bankexport", "rowexport", "updateexport", "upperexport"] {
-        let library = folder.join(format!("lib{name}.a"));
-        println!("cargo:rerun-if-changed={}", library.display());
-        if !library.is_file() {
-            eprintln!(
-                "bankcore: no static library at {}; build it with `rt staticlib {name}`, \
-                 or name its folder in BANKCORE_LIB_DIR",
-                library.display()
-            );
-            std::process::exit(1);
-        }
-        println!("cargo:rustc-link-lib=static={name}");
+    let library = folder.join("libbankcore.a");
+    println!("cargo:rerun-if-changed={}", library.display());
+    if !library.is_file() {
+        eprintln!(
+            "bankcore: no static library at {}; build it with `rt staticlib bankcore`, \
+             or name its folder in BANKCORE_LIB_DIR",
+            library.display()
+        );
+        std::process::exit(1);
     }
+    println!("cargo:rustc-link-lib=static=bankcore");
     println!("cargo:rustc-link-search=native={}", folder.display());
 }

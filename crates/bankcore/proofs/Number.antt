@@ -7,7 +7,7 @@ use Rattle.leaf.specs.Date.{isDate, dateNumber, newDate}
 use Rattle.leaf.specs.declared.date.Date.{Date}
 use Rattle.leaf.specs.declared.date.NewDate.{NewDate}
 use Rattle.leaf.specs.declared.date.NewDate.the-variants.{Made, InvalidDate}
-use Rattle.bankcore.specs.Export.{dateOrZero}
+use Rattle.bankcore.specs.LeafAnswers.{dateOrZero}
 
 abbrev numberOf : NewDate → ℕ
 numberOf (Made d) = d .0

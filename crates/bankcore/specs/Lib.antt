@@ -1,4 +1,4 @@
-pub mod Export
-pub mod Answers
-pub mod RowCallsAnswers
+pub mod LeafAnswers
+pub mod BankAnswers
+pub mod RowAnswers
 pub mod Stamp

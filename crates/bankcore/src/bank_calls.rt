@@ -1,5 +1,4 @@
-// Keys and banks under C names, for the firmware in Rust to link. A slice passes as a pointer and a length, an answer as a struct of
-// numbers; rust/binding declares them. No call asks anything of its caller.
+// Keys, and banks: load and the calls on a loaded bank.
 ghost use mathlib.Core.Path.{_≡_};
 ghost use lib.Dec.{leb};
 ghost use lib.ListN.{length};
@@ -14,7 +13,7 @@ ghost use Rattle.snapshot.specs.Freshness as Freshness;
 ghost use Rattle.snapshot.specs.KeyMatch as Matches;
 ghost use Rattle.rowread.specs.Stored as Stored;
 ghost use Rattle.snapshot.specs.Rows as Rows;
-ghost use Rattle.bankcore.specs.Answers as Answers;
+ghost use Rattle.bankcore.specs.BankAnswers as Answers;
 use bank::Loaded;
 use bank::turns::Checking;
 use bank::turns::Progress;
@@ -24,6 +23,7 @@ use header::Validated;
 use key::KeyAnswer;
 use key::SameKey;
 use refusal::Refusal;
+use refusal::number_of;
 use rowread::ReadAnswer;
 use snapshot::Outcome;
 use snapshot::freshness::Day;
@@ -82,12 +82,6 @@ pub struct BankRowNumbers {
     pub found: u32,
     pub next: usize,
     pub size: usize,
-}
-
-fn number_of(r: Refusal) -> u32
-    ensures { λ n. ⌜ n ≡ numberOf r ⌝ }
-{
-    base::number::wide(refusal::number(r))
 }
 
 fn no_bank(r: u32) -> BankNumbers
@@ -218,8 +212,8 @@ fn of_turn(t: Turn) -> TurnNumbers
     }
 }
 
-fn of_row(x: ReadAnswer) -> BankRowNumbers
-    ensures { λ r. ⌜ r ≡ Answers.ofRow x ⌝ }
+fn of_bank_row(x: ReadAnswer) -> BankRowNumbers
+    ensures { λ r. ⌜ r ≡ Answers.ofBankRow x ⌝ }
 {
     match x {
         ReadAnswer::Stored { next, size } => BankRowNumbers {
@@ -389,9 +383,9 @@ pub extern "C" fn tt_bank_row(
     out: &mut [u8],
     ends: &mut [usize],
 ) -> BankRowNumbers
-    ensures { λ r. ⌜ r ≡ Answers.ofRow (Rows.askedRow (now (region .entry)) bank source table place (length (now (out .entry))) (length (now (ends .entry)))) ⌝ }
+    ensures { λ r. ⌜ r ≡ Answers.ofBankRow (Rows.askedRow (now (region .entry)) bank source table place (length (now (out .entry))) (length (now (ends .entry)))) ⌝ }
     ensures { λ _. ⌜ now (out .exit) ≡ Stored.after (Rows.askedRow (now (region .entry)) bank source table place (length (now (out .entry))) (length (now (ends .entry)))) (Stored.joined (Rows.valuesIn (now (region .entry)) bank source table place)) (now (out .entry)) ⌝ }
     ensures { λ _. ⌜ now (ends .exit) ≡ Stored.after (Rows.askedRow (now (region .entry)) bank source table place (length (now (out .entry))) (length (now (ends .entry)))) (Stored.endsOf 0 (Rows.valuesIn (now (region .entry)) bank source table place)) (now (ends .entry)) ⌝ }
 {
-    of_row(snapshot::rows::bank_row(region, bank, source, table, place, out, ends))
+    of_bank_row(snapshot::rows::bank_row(region, bank, source, table, place, out, ends))
 }

@@ -1,12 +1,11 @@
-// The core's functions under C names, for the firmware in Rust to link. A slice passes as a pointer and a length; rust/binding
-// declares them. No call asks anything of its caller.
+// The leaves: numbers in bytes, CRC-32, generations, dates.
 ghost use mathlib.Core.Path.{_≡_};
 ghost use Rattle.leaf.specs.Bytes as Bytes;
 ghost use Rattle.leaf.specs.Crc as Crc;
 ghost use Rattle.leaf.specs.Date as Dates;
 ghost use Rattle.leaf.specs.Generation as Generation;
 ghost use Rattle.base.specs.Number.{rotateLeft32};
-ghost use Rattle.bankcore.specs.Export.{dateOrZero};
+ghost use Rattle.bankcore.specs.LeafAnswers.{dateOrZero};
 use leaf::date::Date;
 use leaf::date::NewDate;
 

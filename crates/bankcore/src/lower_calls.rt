@@ -1,5 +1,4 @@
-// An update's calls under C names, for the firmware in Rust to link. The state crosses by value, as numbers of which any are allowed; a
-// slice passes as a pointer and a length; rust/binding declares the calls. No call asks anything of its caller.
+// An update's lower calls. The state crosses by value, as numbers of which any are allowed.
 ghost use mathlib.Core.Path.{_≡_};
 ghost use Rattle.record.specs.Record.{decoded};
 ghost use Rattle.lower.specs.Lower as Lower;

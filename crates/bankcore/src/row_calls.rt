@@ -1,5 +1,4 @@
-// Rows and the trip filter under C names, for the firmware in Rust to link. A slice passes as a pointer and a length, an answer as a
-// struct of numbers; rust/binding declares them. No call asks anything of its caller.
+// Rows and the trip filter.
 ghost use mathlib.Core.Path.{_≡_};
 ghost use lib.ListN.{length};
 ghost use Rattle.refusal.specs.Refusal.{numberOf};
@@ -8,9 +7,10 @@ ghost use Rattle.row.specs.Columns.{columnCount, namesLine};
 ghost use Rattle.row.specs.Write as Rows;
 ghost use Rattle.rowread.specs.Stored as Stored;
 ghost use Rattle.bloom.specs.Bloom as Bloom;
-ghost use Rattle.bankcore.specs.RowCallsAnswers as Answers;
+ghost use Rattle.bankcore.specs.RowAnswers as Answers;
 use bloom::Filter;
 use refusal::Refusal;
+use refusal::number_of;
 use row::RowAnswer;
 use rowread::ReadAnswer;
 
@@ -33,12 +33,6 @@ pub struct ReadNumbers {
 pub struct FilterNumbers {
     pub refusal: u32,
     pub present: u32,
-}
-
-fn number_of(r: Refusal) -> u32
-    ensures { λ n. ⌜ n ≡ numberOf r ⌝ }
-{
-    base::number::wide(refusal::number(r))
 }
 
 fn of_row(a: RowAnswer) -> RowNumbers

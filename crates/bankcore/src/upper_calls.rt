@@ -1,5 +1,4 @@
-// The upper layer's calls of an update under C names. The state crosses as in updateexport; texts that belong together pass joined, with
-// their lengths. No call asks anything of its caller.
+// An update's upper calls. Texts that belong together pass joined, with their lengths.
 ghost use mathlib.Core.Path.{_≡_};
 ghost use Rattle.record.specs.Record.{decoded};
 ghost use Rattle.upper.specs.Upper as Upper;

@@ -11,6 +11,7 @@ use header::Bank;
 use header::SOURCES;
 use record::Source;
 use refusal::Refusal;
+use refusal::number_of;
 use writer::Answer;
 use writer::Beginning;
 use writer::Operation;
@@ -276,12 +277,6 @@ pub struct UpdateNumbers {
 pub struct UpdateStep {
     pub numbers: UpdateNumbers,
     pub state: State,
-}
-
-fn number_of(r: Refusal) -> u32
-    ensures { λ n. ⌜ n ≡ numberOf r ⌝ }
-{
-    base::number::wide(refusal::number(r))
 }
 
 fn done(answer: u32, count: u32) -> UpdateNumbers

@@ -68,6 +68,15 @@ fn word(r: Refusal) {
         Refusal::Obsolete => say(b" obsolete"),
         Refusal::Unfit => say(b" unfit"),
         Refusal::Row => say(b" row"),
+        Refusal::Key => say(b" key"),
+        Refusal::Future => say(b" future"),
+        Refusal::Line => say(b" line"),
+        Refusal::Rights => say(b" rights"),
+        Refusal::LastKeeper => say(b" last keeper"),
+        Refusal::List => say(b" list"),
+        Refusal::Absent => say(b" absent"),
+        Refusal::Layout => say(b" layout"),
+        Refusal::Table => say(b" table"),
     }
 }
 

@@ -1,7 +1,7 @@
--- The refusals by number: 01's table.
+-- The refusals by number: 01's table, then 02's. No call gives 15 to 23 yet: each change request brings its own.
 use Prim.Native.Nat.{ℕ}
 use Rattle.refusal.specs.declared.Refusal.{Refusal}
-use Rattle.refusal.specs.declared.Refusal.the-variants.{Region, Argument, Mark, Seal, Span, Source, Data, Identity, Small, Full, Turn, Obsolete, Unfit, Row}
+use Rattle.refusal.specs.declared.Refusal.the-variants.{Region, Argument, Mark, Seal, Span, Source, Data, Identity, Small, Full, Turn, Obsolete, Unfit, Row, Key, Future, Line, Rights, LastKeeper, List, Absent, Layout, Table}
 
 abbrev pub numberOf : Refusal → ℕ
 numberOf Region = 1
@@ -18,3 +18,12 @@ numberOf Turn = 11
 numberOf Obsolete = 12
 numberOf Unfit = 13
 numberOf Row = 14
+numberOf Key = 15
+numberOf Future = 16
+numberOf Line = 17
+numberOf Rights = 18
+numberOf LastKeeper = 19
+numberOf List = 20
+numberOf Absent = 21
+numberOf Layout = 22
+numberOf Table = 23

@@ -1,4 +1,4 @@
-// The refusals by word. Each has one number, whichever call gives it.
+// The refusals by word: document 01's to 14, and document 02's, which no call gives yet. Each has one number, whichever call gives it.
 ghost use mathlib.Core.Path.{_≡_};
 ghost use Rattle.refusal.specs.Refusal.{numberOf};
 
@@ -17,9 +17,18 @@ pub enum Refusal {
     Obsolete,
     Unfit,
     Row,
+    Key,
+    Future,
+    Line,
+    Rights,
+    LastKeeper,
+    List,
+    Absent,
+    Layout,
+    Table,
 }
 
-// A refusal's number.
+// A refusal's number, in a byte.
 pub fn number(r: Refusal) -> u8
     ensures { λ n. ⌜ n ≡ numberOf r ⌝ }
 {
@@ -38,5 +47,21 @@ pub fn number(r: Refusal) -> u8
         Refusal::Obsolete => 12,
         Refusal::Unfit => 13,
         Refusal::Row => 14,
+        Refusal::Key => 15,
+        Refusal::Future => 16,
+        Refusal::Line => 17,
+        Refusal::Rights => 18,
+        Refusal::LastKeeper => 19,
+        Refusal::List => 20,
+        Refusal::Absent => 21,
+        Refusal::Layout => 22,
+        Refusal::Table => 23,
     }
+}
+
+// The same in 32 bits, as it crosses to C.
+pub fn number_of(r: Refusal) -> u32
+    ensures { λ n. ⌜ n ≡ numberOf r ⌝ }
+{
+    number(r) as u32
 }

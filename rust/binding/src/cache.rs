@@ -6,10 +6,19 @@ use crate::{
     answers::UNKNOWN,
     banks::{self, Picks},
     get, get_time, put, put_time,
-    refusal::{Refusal, answered},
+    refusal::Refusal,
     rows::{self, Values},
     update::{self, Answer, State},
 };
+
+/// The value, or the refusal with that number; the core gives 0 for none.
+fn answered<T>(number: u32, value: T) -> Result<T, Refusal> {
+    match Refusal::of(number) {
+        Some(refusal) => Err(refusal),
+        None if number == 0 => Ok(value),
+        None => unreachable!("the core has no refusal {number}"),
+    }
+}
 
 pub use crate::update::Operation;
 

@@ -1,6 +1,7 @@
-//! The refusals, by document 01's words and numbers.
+//! The refusals, by the words and numbers of documents 01 and 02.
 
-/// Why a call was refused. `number` is document 01's.
+/// Why a call was refused. Numbers up to 14 are document 01's; those above are
+/// document 02's, which no call gives yet.
 #[derive(Clone, Copy, Debug, PartialEq, Eq)]
 pub enum Refusal {
     Region = 1,
@@ -17,10 +18,19 @@ pub enum Refusal {
     Obsolete = 12,
     Unfit = 13,
     Row = 14,
+    Key = 15,
+    Future = 16,
+    Line = 17,
+    Rights = 18,
+    LastKeeper = 19,
+    List = 20,
+    Absent = 21,
+    Layout = 22,
+    Table = 23,
 }
 
 impl Refusal {
-    pub const ALL: [Self; 14] = [
+    pub const ALL: [Self; 23] = [
         Self::Region,
         Self::Argument,
         Self::Mark,
@@ -35,6 +45,15 @@ impl Refusal {
         Self::Obsolete,
         Self::Unfit,
         Self::Row,
+        Self::Key,
+        Self::Future,
+        Self::Line,
+        Self::Rights,
+        Self::LastKeeper,
+        Self::List,
+        Self::Absent,
+        Self::Layout,
+        Self::Table,
     ];
 
     /// The refusal with a number, none for 0 and for a number that no refusal
@@ -63,6 +82,15 @@ impl Refusal {
             Self::Obsolete => "obsolete",
             Self::Unfit => "unfit",
             Self::Row => "row",
+            Self::Key => "key",
+            Self::Future => "future",
+            Self::Line => "line",
+            Self::Rights => "rights",
+            Self::LastKeeper => "last keeper",
+            Self::List => "list",
+            Self::Absent => "absent",
+            Self::Layout => "layout",
+            Self::Table => "table",
         }
     }
 }
@@ -74,12 +102,3 @@ impl core::fmt::Display for Refusal {
 }
 
 impl core::error::Error for Refusal {}
-
-/// The value, or the refusal with that number; the core gives 0 for none.
-pub(crate) fn answered<T>(number: u32, value: T) -> Result<T, Refusal> {
-    match Refusal::of(number) {
-        Some(refusal) => Err(refusal),
-        None if number == 0 => Ok(value),
-        None => unreachable!("the core has no refusal {number}"),
-    }
-}

@@ -9,7 +9,8 @@ use lifted::{
         door::{self, BankFields, EMPTY, SECTOR, SourceFields},
     },
     gtfs::{Date, Error},
-    numbered::{self, Refusal, WORDS},
+    numbered::{self, Refusal},
+    refusal,
     standins::{settings, view::View},
     timetable_display::{Config, feed::Builder},
 };
@@ -52,8 +53,8 @@ fn image(name: &OsStr) -> Result<(Vec<u8>, usize), String> {
     }
 }
 
-fn refusal(number: u32) -> String {
-    format!("refusal {number} {}", WORDS[number as usize])
+fn refused(number: u32) -> String {
+    refusal::Refusal::of(number).map_or_else(|| format!("refusal {number}"), |r| r.to_string())
 }
 
 fn time(known: Option<i64>) -> String {
@@ -76,7 +77,7 @@ fn bank(flash: &View, number: u32) -> String {
                 b.checked
             )
         }
-        Err(Refusal::Number(number)) => refusal(number),
+        Err(Refusal::Number(number)) => refused(number),
         Err(Refusal::Other(error)) => format!("the Rust says {error:?}"),
     }
 }

@@ -9,6 +9,9 @@ use standins::{download, embassy_futures, embedded_io_async, heapless};
 pub mod cache;
 pub mod gtfs;
 pub mod numbered;
+/// The words, spelled once for all of the Rust; nothing of the core is linked.
+#[path = "../../binding/src/refusal.rs"]
+pub mod refusal;
 pub mod smoke;
 
 pub mod cooperative {

@@ -16,12 +16,6 @@ pub enum Refusal {
     Other(Error),
 }
 
-/// The words of document 01's refusals, by number.
-pub const WORDS: [&str; 15] = [
-    "none", "region", "argument", "mark", "seal", "span", "source", "data", "identity", "small",
-    "full", "turn", "obsolete", "unfit", "row",
-];
-
 fn mark(header: &[u8]) -> bool {
     header[..4] == *b"TTFC" && matches!(get(header, 4), 1..=3) && get(header, 44) == door::COMMIT
 }

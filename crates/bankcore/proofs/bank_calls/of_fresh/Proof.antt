@@ -1,6 +1,6 @@
 use Rattle.snapshot.specs.Freshness.{unknown}
 use Prim.Native.Nat.{ℕ}
-use Rattle.bankcore.specs.Answers.{ofFresh}
+use Rattle.bankcore.specs.BankAnswers.{ofFresh}
 use mir.ValLaws.{toZ-ofZ}
 use mir.Syntax.{w64}
 use mathlib.Core.Path.{sym, ap, _∙_}

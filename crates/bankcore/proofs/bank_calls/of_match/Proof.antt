@@ -1,5 +1,5 @@
 use Prim.Native.Nat.{ℕ}
-use Rattle.bankcore.specs.Answers.{ofMatch}
+use Rattle.bankcore.specs.BankAnswers.{ofMatch}
 use mathlib.Core.Path.{sym, ap, _∙_}
 use borrow.Author.Needs.{needs}
 use Rattle.bankcore.proofs.bank_calls.of_match.Statement.{statement}

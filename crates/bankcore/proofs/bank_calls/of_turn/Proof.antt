@@ -1,6 +1,6 @@
 use Prim.Native.Nat.{ℕ}
 use Rattle.bank.specs.declared.turns.Progress.{Progress}
-use Rattle.bankcore.specs.Answers.{ofTurn}
+use Rattle.bankcore.specs.BankAnswers.{ofTurn}
 use mathlib.Core.Path.{sym, ap, _∙_}
 use borrow.Author.Needs.{needs}
 use Rattle.bankcore.proofs.bank_calls.of_turn.Statement.{statement}

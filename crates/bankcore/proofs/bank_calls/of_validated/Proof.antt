@@ -1,4 +1,4 @@
-use Rattle.bankcore.specs.Answers.{noBank, ofValidated}
+use Rattle.bankcore.specs.BankAnswers.{noBank, ofValidated}
 use mathlib.Core.Path.{sym, ap, _∙_}
 use borrow.Author.Needs.{needs}
 use Rattle.bankcore.proofs.bank_calls.of_validated.Statement.{statement}

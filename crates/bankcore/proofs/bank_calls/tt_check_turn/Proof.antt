@@ -1,4 +1,4 @@
-use Rattle.bankcore.specs.Answers.{ofTurn}
+use Rattle.bankcore.specs.BankAnswers.{ofTurn}
 use mathlib.Core.Path.{ap, _∙_}
 use borrow.Author.Needs.{needs}
 use Rattle.bankcore.proofs.bank_calls.tt_check_turn.Statement.{statement}

@@ -1,5 +1,5 @@
 use Rattle.snapshot.specs.Freshness.{askedFresh}
-use Rattle.bankcore.specs.Answers.{ofFresh}
+use Rattle.bankcore.specs.BankAnswers.{ofFresh}
 use mir.ValLaws.{toZ-ofZ}
 use mir.Syntax.{w64}
 use mathlib.Core.Path.{ap, _∙_}

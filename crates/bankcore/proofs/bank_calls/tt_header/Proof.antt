@@ -1,4 +1,4 @@
-use Rattle.bankcore.specs.Answers.{ofValidated}
+use Rattle.bankcore.specs.BankAnswers.{ofValidated}
 use mathlib.Core.Path.{ap, _∙_}
 use borrow.Author.Needs.{needs}
 use Rattle.bankcore.proofs.bank_calls.tt_header.Statement.{statement}

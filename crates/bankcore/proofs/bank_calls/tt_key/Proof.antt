@@ -1,7 +1,7 @@
 use Rattle.key.specs.Picks.{handed}
 use Rattle.key.specs.Layout.{after, keyOf}
 use Rattle.key.specs.declared.KeyAnswer.{KeyAnswer}
-use Rattle.bankcore.specs.Answers.{ofKey}
+use Rattle.bankcore.specs.BankAnswers.{ofKey}
 use mathlib.Core.Path.{ap, _∙_}
 use borrow.Author.Needs.{needs}
 use Rattle.bankcore.proofs.bank_calls.tt_key.Statement.{statement}

@@ -1,4 +1,4 @@
-use Rattle.bankcore.specs.Answers.{ofLoaded}
+use Rattle.bankcore.specs.BankAnswers.{ofLoaded}
 use mathlib.Core.Path.{ap, _∙_}
 use borrow.Author.Needs.{needs}
 use Rattle.bankcore.proofs.bank_calls.tt_load.Statement.{statement}

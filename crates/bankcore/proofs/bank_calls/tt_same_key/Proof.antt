@@ -1,4 +1,4 @@
-use Rattle.bankcore.specs.Answers.{ofMatch}
+use Rattle.bankcore.specs.BankAnswers.{ofMatch}
 use mathlib.Core.Path.{ap, _∙_}
 use borrow.Author.Needs.{needs}
 use Rattle.bankcore.proofs.bank_calls.tt_same_key.Statement.{statement}

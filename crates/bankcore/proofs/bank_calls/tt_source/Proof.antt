@@ -3,7 +3,7 @@ use Rattle.snapshot.specs.declared.source.Asked.{Asked}
 use Rattle.record.specs.Record.{sourceBytes}
 use Rattle.leaf.specs.Bytes.{written}
 use lib.ListN.{length}
-use Rattle.bankcore.specs.Answers.{refusalOf, outputOf}
+use Rattle.bankcore.specs.BankAnswers.{refusalOf, outputOf}
 use mathlib.Core.Path.{sym, ap, _∙_}
 use borrow.Author.Needs.{needs}
 use Rattle.bankcore.proofs.bank_calls.tt_source.Statement.{statement}

@@ -1,5 +1,5 @@
 use Prim.Native.Nat.{ℕ}
-use Rattle.bankcore.specs.RowCallsAnswers.{ofFilter}
+use Rattle.bankcore.specs.RowAnswers.{ofFilter}
 use mathlib.Core.Path.{sym, ap, _∙_}
 use borrow.Author.Needs.{needs}
 use Rattle.bankcore.proofs.row_calls.of_filter.Statement.{statement}

@@ -1,4 +1,4 @@
-use Rattle.bankcore.specs.RowCallsAnswers.{noRow, ofRead}
+use Rattle.bankcore.specs.RowAnswers.{noRow, ofRead}
 use mathlib.Core.Path.{sym, ap, _∙_}
 use borrow.Author.Needs.{needs}
 use Rattle.bankcore.proofs.row_calls.of_read.Statement.{statement}

@@ -1,5 +1,5 @@
 use Prim.Native.Nat.{ℕ}
-use Rattle.bankcore.specs.RowCallsAnswers.{ofRow}
+use Rattle.bankcore.specs.RowAnswers.{ofRow}
 use mathlib.Core.Path.{sym, ap, _∙_}
 use borrow.Author.Needs.{needs}
 use Rattle.bankcore.proofs.row_calls.of_row.Statement.{statement}

@@ -1,6 +1,6 @@
 use Rattle.rowread.specs.Stored.{valuesAt, joined, endsOf, after}
 use Rattle.rowread.specs.declared.ReadAnswer.{ReadAnswer}
-use Rattle.bankcore.specs.RowCallsAnswers.{ofRead}
+use Rattle.bankcore.specs.RowAnswers.{ofRead}
 use mathlib.Core.Path.{ap, _∙_}
 use borrow.Author.Needs.{needs}
 use Rattle.bankcore.proofs.row_calls.tt_read_row.Statement.{statement}

@@ -113,7 +113,7 @@ outputOf out a Done = written out 0 (sourceBytes (a .source))
 outputOf out a (NoSource r) = out
 
 -- a row of a bank: found is 1 where one was read; at the table's end all are 0
-abbrev pub ofRow : ReadAnswer → BankRowNumbers
-ofRow (Stored next size) = record { refusal = 0; found = 1; next = next; size = size }
-ofRow End = record { refusal = 0; found = 0; next = 0; size = 0 }
-ofRow (NoRow r) = record { refusal = numberOf r; found = 0; next = 0; size = 0 }
+abbrev pub ofBankRow : ReadAnswer → BankRowNumbers
+ofBankRow (Stored next size) = record { refusal = 0; found = 1; next = next; size = size }
+ofBankRow End = record { refusal = 0; found = 0; next = 0; size = 0 }
+ofBankRow (NoRow r) = record { refusal = numberOf r; found = 0; next = 0; size = 0 }
