@@ -1,7 +1,6 @@
 // Rows and the trip filter.
 ghost use mathlib.Core.Path.{_≡_};
 ghost use lib.ListN.{length};
-ghost use Rattle.refusal.specs.Refusal.{numberOf};
 ghost use Rattle.csv.specs.Write.{rowOf};
 ghost use Rattle.row.specs.Columns.{columnCount, namesLine};
 ghost use Rattle.row.specs.Write as Rows;
@@ -9,7 +8,6 @@ ghost use Rattle.rowread.specs.Stored as Stored;
 ghost use Rattle.bloom.specs.Bloom as Bloom;
 ghost use Rattle.bankcore.specs.RowAnswers as Answers;
 use bloom::Filter;
-use refusal::Refusal;
 use refusal::number_of;
 use row::RowAnswer;
 use rowread::ReadAnswer;

@@ -1,7 +1,6 @@
 // A writer's state and a call's answer as plain numbers, for callers outside: whatever bytes they hold are some State.
 ghost use mathlib.Core.Path.{_≡_};
 ghost use Rattle.base.specs.Number.{pick};
-ghost use Rattle.refusal.specs.Refusal.{numberOf};
 ghost use Rattle.writer.specs.declared.Stage.the-variants as Stages;
 ghost use Rattle.writer.specs.Parts.{partsOf, withSources, stepWith};
 ghost use Rattle.cstate.specs.State as Saved;

@@ -21,6 +21,7 @@ ghost use Rattle.record.specs.Record.{
   sourceBytes,
 };
 use base::number::wide;
+use base::table::TABLES;
 use leaf::bytes::get;
 use leaf::bytes::get_time;
 use leaf::bytes::get8;
