@@ -1,6 +1,7 @@
 // The refusals by word: document 01's to 14, and document 02's, which no call gives yet. Each has one number, whichever call gives it.
 ghost use mathlib.Core.Path.{_≡_};
 ghost use Rattle.refusal.specs.Refusal.{numberOf};
+use base::number::wide;
 
 pub enum Refusal {
     Region,
@@ -63,5 +64,5 @@ pub fn number(r: Refusal) -> u8
 pub fn number_of(r: Refusal) -> u32
     ensures { λ n. ⌜ n ≡ numberOf r ⌝ }
 {
-    number(r) as u32
+    wide(number(r))
 }
