@@ -1,12 +1,10 @@
-// turns
+// Data checking in turns.
 ghost use mathlib.Core.Path.{_≡_};
 ghost use Prim.Native.Nat.{_+_, _-_, _≤_};
 ghost use lib.ListN.{length};
 ghost use Rattle.bank.specs.Turns as Turns;
 use crate::data_in;
 use crate::header;
-use crate::turns::smaller;
-use crate::turns::stays;
 use base::slice::part;
 use header::Bank;
 use header::Validated;
