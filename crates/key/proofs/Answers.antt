@@ -1,5 +1,5 @@
 -- The answers of the public functions, one for each way through them.
-use mathlib.Core.Path.{_≡_, ap, _∙_, sym}
+use mathlib.Core.Path.{_≡_, refl, ap, _∙_, sym}
 use mathlib.Core.Bool.{Bool, true, false}
 use mathlib.Core.List.{List, [], _∷_, _++_, map}
 use Prim.Native.Nat.{ℕ, suc, _+_, _-_, _*_, _%_, _≤_, _<_}
@@ -9,19 +9,21 @@ use lib.Seq.{getD-take, length-take-le}
 use borrow.Author.Tests.{le-leb, lt-leb}
 use Rattle.leaf.specs.Bytes.{written}
 use Rattle.leaf.proofs.Laws.{length-written}
+use mathlib.Core.Logic.{⊎-elim}
+use Rattle.refusal.specs.declared.Refusal.{Refusal}
 use Rattle.refusal.specs.declared.Refusal.the-variants.{Argument, Identity, Small}
 use Rattle.key.specs.Order.{Text, Pick}
 use Rattle.key.specs.Picks.{text, pickOf, pickAt, count, firsts, handed, distinct}
-use Rattle.key.specs.Layout.{every, sized, fit, keyOf, within, keyAnswer, prefix, body, joined, entry}
+use Rattle.key.specs.Layout.{every, sized, fit, maxIdentity, keyOf, within, keyAnswer, prefix, body, joined, entry}
 use Rattle.key.specs.Match.{matchAnswer}
 use Rattle.base.specs.Same.{same}
-use Rattle.key.specs.Steps.{Places, Rising, between, Below, Ordered, stretch}
+use Rattle.key.specs.Steps.{Places, Rising, between, Below, Ordered, stretch, startsSize, startsOf, Ready, NotReady}
 use Rattle.key.specs.declared.KeyAnswer.the-variants.{Written, Refused}
 use Rattle.key.specs.declared.SameKey.the-variants as sameKey
-use Rattle.key.specs.declared.Matched.{Matched}
-use Rattle.key.specs.declared.Matched.the-variants.{To, Differs}
+use Rattle.key.specs.declared.matching.Matched.{Matched}
+use Rattle.key.specs.declared.matching.Matched.the-variants.{To, Differs}
 use Rattle.key.proofs.Taken.{between-is, rising, pick-same, firsts-same}
-use Rattle.key.proofs.Sizes.{every-same}
+use Rattle.key.proofs.Sizes.{every-same, entry-small}
 use Rattle.key.proofs.Put.{put-put, put-first}
 use Rattle.key.proofs.Stretch.{then-to, then-not, whole-same, whole-other}
 
@@ -70,6 +72,26 @@ module _ (b : Text) (l : List ℕ) (m : ℕ) where
     pub starts-fit : (t : Bool) → t ≡ every m (sized (between b starts)) → m ≡ count l * 5 → length l ≤ 80 → t ≡ fit b l
     starts-fit t e h w = e ∙ sizes-same starts starts-places ∙ rw h (fit-few b l w)
 
+-- what preparation has shown, once every text is within its size
+module _ (id b : Text) (l all : List ℕ) (long : length all ≡ startsSize) (few : length l ≤ 80) (given : Places b l (count l * 5) all) where
+  fewer : count l * 5 ≤ 80
+  fewer = omega (arith, few)
+
+  pub fit-known : (t : Bool) → t ≡ every (count l * 5) (sized (between b (startsOf (count l) all))) → t ≡ fit b l
+  fit-known t e = starts-fit b l (count l * 5) all long fewer given t e refl few
+
+  pub prepared : every (count l * 5) (sized (between b (startsOf (count l) all))) ≡ true → length id ≤ maxIdentity → Ready id b l all (count l)
+  prepared e h =
+      record {
+        fits = fit-known true (sym e);
+        named = h;
+        few = omega (arith, few);
+        rises = starts-rise b l (count l * 5) all long fewer given;
+        long = omega (arith, starts-length b l (count l * 5) all long fewer given);
+        small = entry-small (between b (startsOf (count l) all)) (count l) e;
+        picks = starts-picks b l (count l * 5) all long fewer given (count l) refl;
+      }
+
 -- ---- key
 
 module _ (id b : Text) (l : List ℕ) (room : ℕ) where
@@ -85,6 +107,13 @@ module _ (id b : Text) (l : List ℕ) (room : ℕ) where
     pub else-within : length id ≤ 65535 → within room (keyOf id (handed b l)) ≡ keyAnswer id b l room
     unfolding keyAnswer
     else-within h = rw (← fits, le-leb (length id) 65535 h)
+
+-- what preparation refuses
+pub key-refused : (id b : Text) (l : List ℕ) (room : ℕ) (r : Refusal) → NotReady id b l r → Refused r ≡ keyAnswer id b l room
+key-refused id b l room r =
+    ⊎-elim
+    (λ h. ap Refused (h .0) ∙ unfit id b l room (h .1))
+    (λ h. ap Refused (h .0) ∙ long-identity id b l room (h .1) (h .2))
 
 pub no-room : (room : ℕ) (key : List ℕ) → room < length key → Refused Small ≡ within room key
 unfolding within
@@ -157,6 +186,16 @@ module _ (x id b : Text) (l : List ℕ) where
     pub is-other : length id ≤ 65535 → same x (keyOf id (handed b l)) ≡ false → sameKey.Other ≡ matchAnswer x id b l
     unfolding matchAnswer
     is-other h e = rw (← fits, le-leb (length id) 65535 h, e)
+
+pub match-refused : (x id b : Text) (l : List ℕ) (r : Refusal) → NotReady id b l r → sameKey.Refused r ≡ matchAnswer x id b l
+match-refused x id b l r =
+    ⊎-elim
+    (λ h. ap sameKey.Refused (h .0) ∙ match-unfit x id b l (h .1))
+    (λ h. ap sameKey.Refused (h .0) ∙ match-identity x id b l (h .1) (h .2))
+
+-- an empty identity is never refused
+pub fit-refused : (id b : Text) (l : List ℕ) (r : Refusal) → length id ≡ 0 → NotReady id b l r → false ≡ fit b l
+fit-refused id b l r e = ⊎-elim (λ h. h .1) (λ h. absurd (omega (arith, h .2)))
 
 -- prefix, count byte and picks, one after the other
 module _ (x : List ℕ) (id : Text) (ps : List Pick) where

@@ -10,7 +10,7 @@ use lib.Seq.{take-suc, take-take, take-suc-set, drop-cons, length-take-le, take-
 use Rattle.key.specs.Order.{Pick, pickOrder}
 use Rattle.key.specs.Picks.{place, insert, distinct, firsts}
 use Rattle.key.specs.Steps.{number, Goes, Ordered, Below}
-use Rattle.key.specs.declared.Place.the-variants.{At, There}
+use Rattle.key.specs.declared.picks.Place.the-variants.{At, There}
 use Rattle.key.proofs.Taken.{firsts-length, firsts-at}
 
 is-lt : (o : Ordering) → number o ≡ 0 → o ≡ Ordering·lt

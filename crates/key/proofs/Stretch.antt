@@ -14,8 +14,8 @@ use Rattle.key.specs.Layout.{joined}
 use Rattle.base.specs.Same.{same}
 use Rattle.base.proofs.Same.{shorter}
 use Rattle.key.specs.Steps.{stretch}
-use Rattle.key.specs.declared.Matched.{Matched}
-use Rattle.key.specs.declared.Matched.the-variants.{To, Differs}
+use Rattle.key.specs.declared.matching.Matched.{Matched}
+use Rattle.key.specs.declared.matching.Matched.the-variants.{To, Differs}
 use Rattle.key.proofs.Put.{step, joined-append}
 
 -- ---- one part

@@ -1,17 +1,23 @@
 -- What the private functions promise each other. Nothing here says what a key is.
 use mathlib.Core.List.{List, [], _∷_, _++_, map}
 use mathlib.Core.Path.{_≡_}
-use Prim.Native.Nat.{ℕ, _+_, _-_, _≤_, _<_, min, Ordering, Ordering·lt, Ordering·eq, Ordering·gt}
+use Prim.Native.Nat.{ℕ, _+_, _-_, _*_, _≤_, _<_, min, Ordering, Ordering·lt, Ordering·eq, Ordering·gt}
 use lib.ListN.{length, take, drop, getD}
 use Rattle.base.specs.Number.{pick}
 use Rattle.key.specs.Order.{Text, Pick}
-use Rattle.key.specs.Picks.{sum, pickOf, insert}
-use Rattle.key.specs.Layout.{entry}
+use Rattle.key.specs.Picks.{sum, pickOf, insert, firsts, handed}
+use mathlib.Core.Bool.{true, false}
+use mathlib.Core.Logic.{_⊎_}
+use Rattle.refusal.specs.declared.Refusal.{Refusal}
+use Rattle.refusal.specs.declared.Refusal.the-variants.{Argument, Identity}
+use Rattle.key.specs.Layout.{entry, fit, maxIdentity, maxPicks}
+use Rattle.key.specs.declared.picks.Prepared.{Prepared}
+use Rattle.key.specs.declared.picks.Prepared.the-variants.{Ready as IsReady, Refused}
 use Rattle.base.specs.Same.{same}
-use Rattle.key.specs.declared.Place.{Place}
-use Rattle.key.specs.declared.Place.the-variants.{At, There}
-use Rattle.key.specs.declared.Matched.{Matched}
-use Rattle.key.specs.declared.Matched.the-variants.{To, Differs}
+use Rattle.key.specs.declared.picks.Place.{Place}
+use Rattle.key.specs.declared.picks.Place.the-variants.{At, There}
+use Rattle.key.specs.declared.matching.Matched.{Matched}
+use Rattle.key.specs.declared.matching.Matched.the-variants.{To, Differs}
 
 -- an order as the code says it
 abbrev pub number : Ordering → ℕ
@@ -69,3 +75,31 @@ Small f n = (i : ℕ) → i < n → length (entry (f i)) ≤ 141
 -- s stands in stored at a place: where it ends
 unfoldable pub stretch : List ℕ → ℕ → List ℕ → Matched
 stretch stored at s = pick (same (take (length s) (drop at stored)) s) (To (at + length s)) Differs
+
+-- ---- picks made ready
+
+-- why an identity and picks aren't taken: 2, then 8
+abbrev pub NotReady : Text → Text → List ℕ → Refusal → Type 0
+NotReady identity bytes lengths r = ((r ≡ Argument) × (false ≡ fit bytes lengths)) ⊎ ((r ≡ Identity) × (true ≡ fit bytes lengths) × (maxIdentity < length identity))
+
+-- the offsets that divide n picks, as a slice from 0 has them
+abbrev pub startsOf : ℕ → List ℕ → List ℕ
+startsOf n starts = take (n * 5 + 1 - 0) starts
+
+-- the picks are the n that lie between the offsets, and each is within its sizes
+pub record Ready (identity bytes : Text) (lengths starts : List ℕ) (n : ℕ) : Type 0 where
+  pub fits : true ≡ fit bytes lengths
+  pub named : length identity ≤ maxIdentity
+  pub few : n ≤ maxPicks
+  pub rises : Rising (startsOf n starts) (length bytes)
+  pub long : n * 5 < length (startsOf n starts)
+  pub small : Small (pickIn bytes (startsOf n starts)) n
+  pub picks : firsts n (pickIn bytes (startsOf n starts)) ≡ handed bytes lengths
+
+abbrev pub Prepares : Text → Text → List ℕ → List ℕ → Prepared → Type 0
+Prepares identity bytes lengths starts (IsReady n) = Ready identity bytes lengths starts n
+Prepares identity bytes lengths starts (Refused r) = NotReady identity bytes lengths r
+
+-- offsets in a list that holds those of every text that a key takes
+abbrev pub startsSize : ℕ
+startsSize = maxPicks * 5 + 1

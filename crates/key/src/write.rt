@@ -1,0 +1,163 @@
+// The key's bytes: how many they are, and written into a buffer.
+ghost use mathlib.Core.Path.{_≡_};
+ghost use mathlib.Core.List.{map};
+ghost use Prim.Native.Nat.{_+_, _-_, _*_, _≤_, _<_};
+ghost use lib.ListN.{length};
+ghost use Rattle.leaf.specs.Bytes.{written};
+ghost use Rattle.key.specs.Picks.{firsts};
+ghost use Rattle.key.specs.Layout.{field as fieldOf, entry, joined, keyOf, prefix, maxIdentity, within, after};
+ghost use Rattle.key.specs.Steps.{Rising, pickIn, Below, Small};
+use crate::FIELDS;
+use crate::KeyAnswer;
+use crate::MAX_PICKS;
+use crate::picks::field;
+use crate::picks::sort_picks;
+use refusal::Refusal;
+
+// How many bytes pick i takes. A code leaves the name out.
+fn entry_length(texts: &[u8], starts: &[usize], i: usize) -> usize
+    requires { ⌜ Rising (now starts) (length (now texts)) × (i * 5 + 5 < length (now starts)) × (length (entry (pickIn (now texts) (now starts) i)) ≤ 141) ⌝ }
+    ensures { λ r. ⌜ r ≡ length (entry (pickIn (now (texts .entry)) (now (starts .entry)) i)) ⌝ }
+{
+    let first = i * FIELDS;
+    let from = starts[first];
+    let code = starts[first + 2];
+    let stop = starts[first + 3];
+    let name = starts[first + 4];
+    let end = starts[first + 5];
+    if code < stop {
+        return name - from + FIELDS;
+    }
+    end - from + FIELDS
+}
+
+// How many bytes the sorted picks take.
+fn entries_length(texts: &[u8], starts: &[usize], n: usize, sorted: &[usize]) -> usize
+    requires { ⌜ Rising (now starts) (length (now texts)) × (n * 5 < length (now starts)) × Below n (now sorted) × (length (now sorted) ≤ 16) × Small (pickIn (now texts) (now starts)) n ⌝ }
+    ensures { λ r. ⌜ (r ≡ length (joined entry (map (pickIn (now (texts .entry)) (now (starts .entry))) (now (sorted .entry))))) × (r ≤ 141 * 16) ⌝ }
+{
+    let mut bytes: usize = 0;
+    let mut k: usize = 0;
+    while k < sorted.len() {
+        let i = sorted[k];
+        bytes += entry_length(texts, starts, i);
+        k += 1;
+    }
+    bytes
+}
+
+fn prefix_length(identity: &[u8]) -> usize
+    requires { ⌜ length (now identity) ≤ maxIdentity ⌝ }
+    ensures { λ r. ⌜ (r ≡ length (prefix (now (identity .entry)))) × (r ≤ 65538) ⌝ }
+{
+    let n = identity.len();
+    if n == 0 {
+        return 0;
+    }
+    n + 3
+}
+
+// How many bytes the key of an identity and the sorted picks takes.
+pub(crate) fn key_length(
+    identity: &[u8],
+    texts: &[u8],
+    starts: &[usize],
+    n: usize,
+    sorted: &[usize],
+) -> usize
+    requires { ⌜ Rising (now starts) (length (now texts)) × (n * 5 < length (now starts)) × Below n (now sorted) × (length (now sorted) ≤ 16) × Small (pickIn (now texts) (now starts)) n × (length (now identity) ≤ maxIdentity) ⌝ }
+    ensures { λ r. ⌜ r ≡ length (prefix (now (identity .entry))) + 1 + length (joined entry (map (pickIn (now (texts .entry)) (now (starts .entry))) (now (sorted .entry)))) ⌝ }
+{
+    prefix_length(identity) + 1 + entries_length(texts, starts, n, sorted)
+}
+
+// The bytes of s at a place of out.
+fn put_bytes(out: &mut [u8], at: usize, s: &[u8])
+    requires { ⌜ at + length (now s) ≤ length (now out) ⌝ }
+    ensures { λ _. ⌜ now (out .exit) ≡ written (now (out .entry)) at (now (s .entry)) ⌝ }
+{
+    let mut i: usize = 0;
+    while i < s.len() {
+        out[at + i] = s[i];
+        i += 1;
+    }
+}
+
+// A text after its length byte.
+fn put_field(out: &mut [u8], at: usize, s: &[u8])
+    requires { ⌜ at + length (fieldOf (now s)) ≤ length (now out) ⌝ }
+    ensures { λ _. ⌜ now (out .exit) ≡ written (now (out .entry)) at (fieldOf (now (s .entry))) ⌝ }
+{
+    out[at] = (s.len() % 256) as u8;
+    put_bytes(out, at + 1, s);
+}
+
+// Pick i as the key has it; where what follows it goes.
+fn put_pick(out: &mut [u8], at: usize, texts: &[u8], starts: &[usize], i: usize) -> usize
+    requires { ⌜ Rising (now starts) (length (now texts)) × (i * 5 + 5 < length (now starts)) × (at + length (entry (pickIn (now texts) (now starts) i)) ≤ length (now out)) ⌝ }
+    ensures { λ r. ⌜ (r ≡ at + length (entry (pickIn (now (texts .entry)) (now (starts .entry)) i))) × (now (out .exit) ≡ written (now (out .entry)) at (entry (pickIn (now (texts .entry)) (now (starts .entry)) i))) ⌝ }
+{
+    let mut to = at;
+    let mut f: usize = 0;
+    while f < FIELDS {
+        let t = field(texts, starts, i, f);
+        put_field(out, to, t);
+        to = to + 1 + t.len();
+        f += 1;
+    }
+    to
+}
+
+// The sorted picks.
+fn put_picks(out: &mut [u8], at: usize, texts: &[u8], starts: &[usize], n: usize, sorted: &[usize])
+    requires { ⌜ Rising (now starts) (length (now texts)) × (n * 5 < length (now starts)) × Below n (now sorted) × (at + length (joined entry (map (pickIn (now texts) (now starts)) (now sorted))) ≤ length (now out)) ⌝ }
+    ensures { λ _. ⌜ now (out .exit) ≡ written (now (out .entry)) at (joined entry (map (pickIn (now (texts .entry)) (now (starts .entry))) (now (sorted .entry)))) ⌝ }
+{
+    let mut to = at;
+    let mut k: usize = 0;
+    while k < sorted.len() {
+        let i = sorted[k];
+        to = put_pick(out, to, texts, starts, i);
+        k += 1;
+    }
+}
+
+// The identity's part; where what follows it goes.
+fn put_prefix(out: &mut [u8], identity: &[u8]) -> usize
+    requires { ⌜ length (prefix (now identity)) ≤ length (now out) ⌝ }
+    ensures { λ r. ⌜ (r ≡ length (prefix (now (identity .entry)))) × (now (out .exit) ≡ written (now (out .entry)) 0 (prefix (now (identity .entry)))) ⌝ }
+{
+    let n = identity.len();
+    if n == 0 {
+        return 0;
+    }
+    out[0] = 255;
+    out[1] = (n % 256) as u8;
+    out[2] = (n / 256 % 256) as u8;
+    put_bytes(out, 3, identity);
+    n + 3
+}
+
+// The key of an identity and n picks whose texts fit, where there is room.
+pub(crate) fn write_key(
+    identity: &[u8],
+    texts: &[u8],
+    starts: &[usize],
+    n: usize,
+    out: &mut [u8],
+) -> KeyAnswer
+    requires { ⌜ Rising (now starts) (length (now texts)) × (n * 5 < length (now starts)) × (n ≤ 16) × (length (now identity) ≤ maxIdentity) × Small (pickIn (now texts) (now starts)) n ⌝ }
+    ensures { λ r. ⌜ (r ≡ within (length (now (out .entry))) (keyOf (now (identity .entry)) (firsts n (pickIn (now (texts .entry)) (now (starts .entry)))))) × (now (out .exit) ≡ after r (keyOf (now (identity .entry)) (firsts n (pickIn (now (texts .entry)) (now (starts .entry))))) (now (out .entry))) ⌝ }
+{
+    let mut order: [usize; MAX_PICKS] = [0; MAX_PICKS];
+    let m = sort_picks(texts, starts, n, &mut order);
+    let sorted = &order[0..m];
+    let total = key_length(identity, texts, starts, n, sorted);
+    if out.len() < total {
+        return KeyAnswer::Refused(Refusal::Small);
+    }
+    let at = put_prefix(out, identity);
+    out[at] = (m % 256) as u8;
+    put_picks(out, at + 1, texts, starts, n, sorted);
+    KeyAnswer::Written(total)
+}
