@@ -46,7 +46,7 @@ fn identity(at: usize, space: &mut [u8]) -> usize {
 }
 
 fn first_line(size: usize) {
-    out::say(b"region: REGION_SIZE bytes");
+    out::say(b"region: 983040 bytes");
     if size == 4194304 {
         out::say(b" at 3145728 of 4194304");
     }

@@ -4,7 +4,6 @@ use crate::options::Options;
 use crate::out::say;
 use base::slice::part;
 use libc::STDERR_FILENO;
-use region::REGION_SIZE;
 
 fn complain(text: &[u8]) {
     io::write_all(STDERR_FILENO, text);
@@ -33,9 +32,7 @@ fn help_start() {
 }
 
 fn help_image() {
-    say(
-        b"  IMAGE                a region of REGION_SIZE bytes, or a whole flash dump of 4194304\n",
-    );
+    say(b"  IMAGE                a region of 983040 bytes, or a whole flash dump of 4194304\n");
     say(b"                       bytes with the region at 3145728 (0x300000); default:\n");
     say(b"                       samples/two-good.img\n");
 }
@@ -112,7 +109,5 @@ pub fn wrong_size(name: &[u8], n: usize) {
     } else {
         io::print_decimal(STDERR_FILENO, n as u64);
     }
-    complain(
-        b" bytes; expected a region of REGION_SIZE bytes or a whole flash dump of 4194304 bytes\n",
-    );
+    complain(b" bytes; expected a region of 983040 bytes or a whole flash dump of 4194304 bytes\n");
 }

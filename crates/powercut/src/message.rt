@@ -5,7 +5,6 @@ use crate::out::say;
 use base::slice::part;
 use libc::STDERR_FILENO;
 use libc::STDOUT_FILENO;
-use region::REGION_SIZE;
 
 fn complain(text: &[u8]) {
     say(STDERR_FILENO, text);
@@ -36,9 +35,7 @@ fn help_start() {
     tell(b"flash operations and inside them, and compares what load then gives with what\n");
     tell(b"must be there.\n");
     tell(b"\n");
-    tell(
-        b"  IMAGE                a region of REGION_SIZE bytes, or a whole flash dump of 4194304\n",
-    );
+    tell(b"  IMAGE                a region of 983040 bytes, or a whole flash dump of 4194304\n");
     tell(b"                       bytes with the region at 3145728 (0x300000); default:\n");
     tell(b"                       samples/two-good.img. It is only read\n");
 }
@@ -113,7 +110,5 @@ pub fn wrong_size(name: &[u8], n: usize) {
     } else {
         io::print_decimal(STDERR_FILENO, n as u64);
     }
-    complain(
-        b" bytes; expected a region of REGION_SIZE bytes or a whole flash dump of 4194304 bytes\n",
-    );
+    complain(b" bytes; expected a region of 983040 bytes or a whole flash dump of 4194304 bytes\n");
 }
