@@ -56,7 +56,7 @@ pub fn bank_row(
         }
         return ReadAnswer::Refused(Refusal::Argument);
     }
-    let a = crate::source(region, number, source);
+    let a = crate::source::source(region, number, source);
     let o = a.outcome;
     match o {
         Outcome::Done => {
