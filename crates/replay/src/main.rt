@@ -2,9 +2,9 @@
 // it was made.
 mod banks;
 mod filter;
+mod image;
 mod keys;
 mod line;
-mod region;
 mod rows;
 mod text;
 
@@ -46,7 +46,7 @@ fn step(c: Counts, n: u64, l: &[u8], memory: &mut [u8]) -> Counts {
     if a == b'#' || l.len() == 0 {
         return c;
     }
-    if region::built(l, memory) {
+    if image::built(l, memory) {
         return c;
     }
     let k = line::kind(l);
@@ -161,6 +161,6 @@ fn main() {
     let mut space = room();
     let n = io::read_full(fd, &mut space);
     libc::close(fd);
-    let mut memory = region::room();
+    let mut memory = image::room();
     replay(text::first(&space, n), &mut memory);
 }

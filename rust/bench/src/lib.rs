@@ -179,7 +179,8 @@ fn show(options: &Options) -> std::io::Result<bool> {
         fs::write(file, picture::svg(&rows))?;
     }
     let missed = rows.iter().any(|r| r.reached() == Some(false));
-    Ok(!rows.iter().any(Row::differs) && !(options.judge && missed))
+    let failed = rows.iter().any(Row::differs) || options.judge && missed;
+    Ok(!failed)
 }
 
 /// Why there is nothing to time.

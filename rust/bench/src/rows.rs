@@ -9,12 +9,14 @@ use std::cell::RefCell;
 const ROWS: usize = 64;
 const LONGEST: usize = 8192;
 
+/// A row's texts, lengths and values.
+type Ready = (Vec<u8>, Vec<u32>, Vec<Vec<u8>>);
+
 /// Rows of a table, ready in the form that each takes.
 struct Case {
     number: u32,
     width: usize,
-    /// Each row's texts, lengths and values.
-    rows: Vec<(Vec<u8>, Vec<u32>, Vec<Vec<u8>>)>,
+    rows: Vec<Ready>,
     table: Vec<u8>,
     out: RefCell<Vec<u8>>,
     ends: RefCell<Vec<usize>>,

@@ -68,10 +68,11 @@ mod hook {
                 let last = WORD + WORD_SIZE - 1;
                 region[before.target() + last] = COMMIT.to_le_bytes()[WORD_SIZE - 1];
             }
-            (Some(Wrong::Tail), Call::Due) if before.numbers[STAGE] == WRITE => {
-                if before.tail[..before.n(FILL)].contains(&0xee) {
-                    region[before.target() + SECTOR + before.n(FIRST)] = 0;
-                }
+            (Some(Wrong::Tail), Call::Due)
+                if before.numbers[STAGE] == WRITE
+                    && before.tail[..before.n(FILL)].contains(&0xee) =>
+            {
+                region[before.target() + SECTOR + before.n(FIRST)] = 0;
             }
             (Some(Wrong::Unchanged), Call::Unchanged) if answer == said(DIFFERENT) => {
                 return said(SAME);

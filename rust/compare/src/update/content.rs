@@ -112,7 +112,7 @@ impl Piece {
     fn smaller(&self) -> Moves<'_, Self> {
         match self {
             Self::Bytes(piece) => Box::new(bytes(piece).map(Self::Bytes)),
-            Self::Row(values) => Box::new(each(values, shorter).map(Self::Row)),
+            Self::Row(values) => Box::new(each(values, |value| shorter(value)).map(Self::Row)),
         }
     }
     fn show(&self) -> String {
@@ -133,7 +133,7 @@ impl Piece {
 }
 
 /// A text with letters left out.
-fn shorter(value: &String) -> Moves<'_, String> {
+fn shorter(value: &str) -> Moves<'_, String> {
     let letters: Vec<char> = value.chars().collect();
     let all: Vec<String> = fewer(&letters).map(String::from_iter).collect();
     Box::new(all.into_iter())

@@ -65,7 +65,7 @@ impl Fields {
     /// 11, by range.
     pub fn in_range(&self) -> bool {
         let active = self.n(KIND) == 0 || (self.n(KIND) == 1 && self.n(NUMBER) <= 1);
-        let aligned = self.n(WRITTEN) % 256 == 0 || (self.is(CLOSED) && self.n(FILL) == 0);
+        let aligned = self.n(WRITTEN).is_multiple_of(256) || (self.is(CLOSED) && self.n(FILL) == 0);
         let taken = self.n(FILL) <= 256 && self.position() <= CAPACITY && aligned;
         let source = self.n(SOURCES) >= 1 && self.n(START) <= self.position();
         let tables = self.n(SOURCES) <= 3 && (!self.open() || (self.n(TABLE) <= 7 && source));

@@ -2,8 +2,8 @@ use borrow.Author.Needs.{needs}
 use mathlib.Core.Path.{_≡_}
 use Prim.Native.Nat.{_-_}
 use lib.ListN.{length}
-use Rattle.replay.proofs.region.set.Statement.{statement}
-use Rattle.replay.proofs.region.set.Tie as tie
+use Rattle.replay.proofs.image.set.Statement.{statement}
+use Rattle.replay.proofs.image.set.Tie as tie
 
 abbrev Inv-loop : tie.InvT-loop
 Inv-loop region₀ from n b i₀ region i = length region ≡ length region₀
