@@ -109,7 +109,7 @@ fn fresh(flash: &View, bank: Bank, days: [u32; 3], wanted: [bool; 3], now: i64) 
             .flatten()
     };
     let [Some(a), Some(b), Some(c)] = days.map(date) else {
-        return refusal(2);
+        return refused(2);
     };
     let wanted = (0..3).map(|i| u8::from(wanted[i]) << i).sum();
     match door::fresh(bank, flash, &Builder { dates: [a, b, c], wanted }, now) {
@@ -130,13 +130,13 @@ fn config(selection: &Selection) -> Option<Config> {
 
 fn matches(flash: &View, bank: Bank, selection: &Selection) -> String {
     let Some(config) = config(selection) else {
-        return refusal(2);
+        return refused(2);
     };
     let flash = View { identity: &selection.identity, ..*flash };
     match door::same_key(bank, &flash, &config) {
         Ok(true) => "yes".into(),
         Ok(false) => "no".into(),
-        Err(Error::BufferTooSmall) => refusal(8),
+        Err(Error::BufferTooSmall) => refused(8),
         Err(error) => format!("the Rust says {error:?}"),
     }
 }

@@ -1,6 +1,6 @@
 //! The stored rows of the bank that load gives, by the lifted reader of stored
 //! tables, `csv::Reader`.
-use crate::{TABLES, refusal};
+use crate::{TABLES, refused};
 use lifted::{
     cache::{
         Bank, Storage,
@@ -67,7 +67,7 @@ fn spell(values: &[String]) -> String {
 fn error(error: Error) -> String {
     match error {
         Error::InvalidField("CSV record width") | Error::RecordTooLong | Error::TooManyFields => {
-            refusal(14)
+            refused(14)
         }
         other => format!("the Rust says {other:?}"),
     }
@@ -140,7 +140,7 @@ fn table(flash: &View, bank: Bank, i: u32, t: usize) -> Result<Vec<String>, Erro
     let start = |place| format!("row {i} {} {place}: ", TABLES[t]);
     let source = match door::source(bank, flash, i as usize) {
         Ok(source) => source,
-        Err(Error::InvalidZip) => return Ok(vec![start(0) + &refusal(6)]),
+        Err(Error::InvalidZip) => return Ok(vec![start(0) + &refused(6)]),
         Err(other) => return Err(other),
     };
     let [offset, length, _] = source.tables[t];
