@@ -1,4 +1,3 @@
-// register: The CRC's shift register, many bytes at a time.
-// pair: Two of the CRC's shift registers over the same bytes.
+// The CRC's shift register, fast: one over some bytes, and two over the same bytes in one pass.
 pub mod pair;
 pub mod register;

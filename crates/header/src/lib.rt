@@ -49,9 +49,12 @@ pub const RECORDS_OFFSET: usize = 48;
 
 pub const HEADER_SIZE: usize = RECORDS_OFFSET + SOURCES * RECORD_SIZE;
 
-const MAGIC: u32 = 0x43465454;
+pub const MAGIC: u32 = 0x43465454;
 
 pub const COMMIT_WORD: u32 = 0x434f4d54;
+
+// What the first write of a header has in the commit word.
+pub const BLANK_WORD: u32 = 0xffffffff;
 
 // A bank's numbers; `key` is the key's length.
 #[repr(C)]

@@ -4,7 +4,7 @@ ghost use Prim.Native.Nat.{_*_, _≤_, min};
 ghost use lib.ListN.{length, take};
 ghost use lib.Seq.{sets};
 ghost use Rattle.record.specs.Types.{Sized};
-ghost use Rattle.record.specs.Record.{sourceBytes};
+ghost use Rattle.record.specs.Record.{sourceBytes, stampSize, idSize, validatorSize};
 ghost use Rattle.base.specs.Lists.{puts, fill};
 ghost use Rattle.header.specs.Header.{headerSize};
 ghost use Rattle.header.specs.WriteHeader.{
@@ -16,10 +16,13 @@ ghost use Rattle.header.specs.WriteHeader.{
   textOk,
   isFit,
 };
+ghost use Rattle.base.specs.Table.{maxTables};
+use crate::BLANK_WORD;
 use crate::Bank;
 use crate::COMMIT_OFFSET;
 use crate::CRC_OFFSET;
 use crate::HEADER_SIZE;
+use crate::MAGIC;
 use crate::RECORDS_OFFSET;
 use crate::SOURCES;
 use crate::SOURCES_32;
@@ -31,6 +34,8 @@ use leaf::bytes::put_time;
 use leaf::crc::crc32;
 use record::Block;
 use record::ID_SIZE;
+use record::MAX_ID;
+use record::MAX_VALIDATOR;
 use record::ORIGINAL_WORDS;
 use record::RECORD_SIZE;
 use record::STAMP_SIZE;
@@ -59,7 +64,7 @@ fn put_first(out: &mut [u8], b: Bank)
     requires { ⌜ length (now out) ≡ headerSize ⌝ }
     ensures { λ _. ⌜ now (out .exit) ≡ sets (now (out .entry)) 0 (firstBytes b) ⌝ }
 {
-    put(out, 0, 0x43465454);
+    put(out, 0, MAGIC);
     put(out, 4, b.version);
     put(out, 8, b.generation);
     put(out, 12, b.length);
@@ -84,7 +89,7 @@ fn have_lengths(
     id: [u8; ID_SIZE],
     validator: [u8; VALIDATOR_SIZE],
 )
-    ensures { λ _. ⌜ (length original ≡ 16) × (length tables ≡ 8) × (length stamp ≡ 12) × (length id ≡ 80) × (length validator ≡ 66) ⌝ }
+    ensures { λ _. ⌜ (length original ≡ maxTables * 2) × (length tables ≡ maxTables) × (length stamp ≡ stampSize) × (length id ≡ idSize) × (length validator ≡ validatorSize) ⌝ }
 {}
 
 fn is_sized(s: Source)
@@ -122,7 +127,7 @@ fn put_header(out: &mut [u8], b: Bank, ss: [Source; SOURCES])
     put_records(out, ss, n);
     let crc = crc32(0, out);
     put(out, CRC_OFFSET, crc);
-    put(out, COMMIT_OFFSET, 4294967295);
+    put(out, COMMIT_OFFSET, BLANK_WORD);
 }
 
 // The header of a bank with the records below its count, 255 in the commit word.
@@ -145,7 +150,7 @@ fn text_ok(s: Source) -> bool
     ensures { λ r. ⌜ r ≡ textOk s ⌝ }
 {
     let validator = s.validator;
-    (s.idlen <= 80) & (validator[0] <= 64)
+    (s.idlen <= MAX_ID) & (validator[0] <= MAX_VALIDATOR)
 }
 
 // Whether a bank with the records below its count is fit to be committed.

@@ -100,13 +100,13 @@ module _ (id b : Text) (l : List ℕ) (room : ℕ) where
   unfit e = rw (← e)
 
   module _ (fits : true ≡ fit b l) where
-    pub long-identity : 65535 < length id → Refused Identity ≡ keyAnswer id b l room
+    pub long-identity : maxIdentity < length id → Refused Identity ≡ keyAnswer id b l room
     unfolding keyAnswer
-    long-identity h = rw (← fits, lt-leb (length id) 65535 h)
+    long-identity h = rw (← fits, lt-leb (length id) maxIdentity h)
 
-    pub else-within : length id ≤ 65535 → within room (keyOf id (handed b l)) ≡ keyAnswer id b l room
+    pub else-within : length id ≤ maxIdentity → within room (keyOf id (handed b l)) ≡ keyAnswer id b l room
     unfolding keyAnswer
-    else-within h = rw (← fits, le-leb (length id) 65535 h)
+    else-within h = rw (← fits, le-leb (length id) maxIdentity h)
 
 -- what preparation refuses
 pub key-refused : (id b : Text) (l : List ℕ) (room : ℕ) (r : Refusal) → NotReady id b l r → Refused r ≡ keyAnswer id b l room
@@ -175,17 +175,17 @@ module _ (x id b : Text) (l : List ℕ) where
   match-unfit e = rw (← e)
 
   module _ (fits : true ≡ fit b l) where
-    pub match-identity : 65535 < length id → sameKey.Refused Identity ≡ matchAnswer x id b l
+    pub match-identity : maxIdentity < length id → sameKey.Refused Identity ≡ matchAnswer x id b l
     unfolding matchAnswer
-    match-identity h = rw (← fits, lt-leb (length id) 65535 h)
+    match-identity h = rw (← fits, lt-leb (length id) maxIdentity h)
 
-    pub is-same : length id ≤ 65535 → same x (keyOf id (handed b l)) ≡ true → sameKey.Same ≡ matchAnswer x id b l
+    pub is-same : length id ≤ maxIdentity → same x (keyOf id (handed b l)) ≡ true → sameKey.Same ≡ matchAnswer x id b l
     unfolding matchAnswer
-    is-same h e = rw (← fits, le-leb (length id) 65535 h, e)
+    is-same h e = rw (← fits, le-leb (length id) maxIdentity h, e)
 
-    pub is-other : length id ≤ 65535 → same x (keyOf id (handed b l)) ≡ false → sameKey.Other ≡ matchAnswer x id b l
+    pub is-other : length id ≤ maxIdentity → same x (keyOf id (handed b l)) ≡ false → sameKey.Other ≡ matchAnswer x id b l
     unfolding matchAnswer
-    is-other h e = rw (← fits, le-leb (length id) 65535 h, e)
+    is-other h e = rw (← fits, le-leb (length id) maxIdentity h, e)
 
 pub match-refused : (x id b : Text) (l : List ℕ) (r : Refusal) → NotReady id b l r → sameKey.Refused r ≡ matchAnswer x id b l
 match-refused x id b l r =

@@ -9,14 +9,14 @@ use lib.Dec.{leb}
 use borrow.Author.Tests.{leb-true}
 use Rattle.key.specs.Order.{Text, textOrder, pickOrder}
 use Rattle.key.specs.Picks.{sum, text, pickOf, pickAt, count, firsts, handed, insert, distinct}
-use Rattle.key.specs.Layout.{every, sized, fit, prefix, joined, entry}
+use Rattle.key.specs.Layout.{every, sized, fit, prefix, joined, entry, maxIdentity}
 use Rattle.key.specs.Claims.{NoKeyIsLonger, LongestIsReached}
 use Rattle.key.proofs.Sizes.{entry-small, small, few}
 use Rattle.base.proofs.Bools.{both-true}
 use Rattle.key.proofs.Put.{prefix-some}
 use Rattle.key.proofs.Answers.{key-length}
 
-pub prefix-short : (id : Text) → length id ≤ 65535 → length (prefix id) ≤ 65538
+pub prefix-short : (id : Text) → length id ≤ maxIdentity → length (prefix id) ≤ 65538
 unfolding prefix
 prefix-short [] h = omega arith
 prefix-short (b ∷ bs) h = omega arith
@@ -57,13 +57,13 @@ all-long = refl
 
 pub reached : LongestIsReached
 reached = record {
-  identity = zeros 65535;
+  identity = zeros maxIdentity;
   bytes = texts;
   lengths = fives;
   fits = fives-fit;
-  short = omega (arith, zeros-length 65535);
+  short = omega (arith, zeros-length maxIdentity);
   reached =
-      (let l = zeros-length 65535 in
-      let p = ap length (prefix-some (zeros 65535) (omega arith)) in
-      omega (arith, key-length (zeros 65535) (handed texts fives), all-long));
+      (let l = zeros-length maxIdentity in
+      let p = ap length (prefix-some (zeros maxIdentity) (omega arith)) in
+      omega (arith, key-length (zeros maxIdentity) (handed texts fives), all-long));
 }

@@ -1,4 +1,4 @@
-// The lower layer's call that takes bytes.
+// The lower layer's append: bytes go into the tail until it is full.
 ghost use mathlib.Core.Path.{_≡_};
 ghost use mathlib.Core.List.{List};
 ghost use Prim.Native.Nat.{_+_, _≤_};

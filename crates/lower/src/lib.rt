@@ -1,4 +1,5 @@
-// What the lower layer's calls test: whether a state takes bytes, whether a table is open or may begin, and the tail's room.
+// The lower layer's calls that do no flash operation, a module each, and what they test: whether a state takes bytes, whether a table is
+// open or may begin, and how much of the tail is free.
 pub mod append;
 pub mod begin;
 pub mod source;

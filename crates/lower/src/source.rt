@@ -1,4 +1,4 @@
-// The lower layer's calls that begin a source and a table.
+// The lower layer's call that begins a source.
 ghost use mathlib.Core.Path.{_≡_};
 ghost use Prim.Native.Nat.{_<_};
 ghost use Rattle.lower.specs.Lower as Lower;

@@ -1,4 +1,4 @@
-// table
+// The lower layer's calls that begin a table and end it, which fixes its block.
 ghost use mathlib.Core.Path.{_≡_};
 ghost use Prim.Native.Nat.{_≤_};
 ghost use Rattle.writer.specs.State as State;

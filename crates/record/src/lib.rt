@@ -20,6 +20,8 @@ ghost use Rattle.record.specs.Record.{
   tailBytes,
   sourceBytes,
 };
+ghost use Rattle.record.specs.Record.{recordSize};
+ghost use Rattle.base.specs.Table.{maxTables};
 use base::number::wide;
 use base::table::TABLES;
 use leaf::bytes::get;
@@ -37,6 +39,11 @@ pub const STAMP_SIZE: usize = 12;
 pub const ID_SIZE: usize = 80;
 
 pub const VALIDATOR_SIZE: usize = 66;
+
+// The longest id, and the longest validator.
+pub const MAX_ID: u8 = ID_SIZE as u8;
+
+pub const MAX_VALIDATOR: u8 = 64;
 // A record of the version that is written, and that version.
 pub const RECORD_SIZE: usize = 384;
 
@@ -95,22 +102,22 @@ pub fn no_source() -> Source
 
 // How many bytes a record of a version has.
 pub fn source_size(version: u32) -> usize
-    ensures { λ r. ⌜ (r ≡ sourceSize version) × (r ≤ 384) ⌝ }
+    ensures { λ r. ⌜ (r ≡ sourceSize version) × (r ≤ recordSize) ⌝ }
 {
     if version < 2 {
         160
     } else if version < 3 {
         352
     } else {
-        384
+        RECORD_SIZE
     }
 }
 
 // How many tables a record of a version has.
 fn table_count(version: u32) -> usize
-    ensures { λ r. ⌜ (r ≡ tableCount version) × (r ≤ 8) ⌝ }
+    ensures { λ r. ⌜ (r ≡ tableCount version) × (r ≤ maxTables) ⌝ }
 {
-    if version < 3 { 7 } else { 8 }
+    if version < 3 { 7 } else { TABLES }
 }
 
 // The first n bytes, all where there are fewer.

@@ -12,7 +12,7 @@ use Rattle.csv.specs.Write.{rowOf}
 use Rattle.refusal.specs.declared.Refusal.the-variants.{Argument, Small, Row}
 use Rattle.row.specs.declared.RowAnswer.{RowAnswer}
 use Rattle.row.specs.declared.RowAnswer.the-variants.{Written, Refused}
-use Rattle.row.specs.Columns.{maxTable, columnCount, namesLine}
+use Rattle.row.specs.Columns.{columnCount, namesLine}
 use Rattle.row.specs.Write.{handed, within, after, namesAnswer, rowAnswer}
 use Rattle.base.specs.Table.{lastTable}
 
@@ -33,37 +33,37 @@ module _ (bytes out : List ℕ) where
 module _ (table : ℕ) (out : List ℕ) where
   pub names-past : lastTable < table → (Refused Argument ≡ namesAnswer table (length out)) × (out ≡ after (Refused Argument) (namesLine table) out)
   unfolding namesAnswer
-  names-past h = (rw (lt-leb table maxTable h), refl)
+  names-past h = (rw (lt-leb table lastTable h), refl)
 
   pub names-there : table ≤ lastTable → (r : RowAnswer) → r ≡ within (length out) (namesLine table) → r ≡ namesAnswer table (length out)
   unfolding namesAnswer
-  names-there h r e = rw (le-leb table maxTable h) e
+  names-there h r e = rw (le-leb table lastTable h) e
 
 -- ---- row
 
 module _ (table : ℕ) (texts lengths out : List ℕ) where
   pub row-past : lastTable < table → (Refused Argument ≡ rowAnswer table texts lengths (length out)) × (out ≡ after (Refused Argument) (rowOf (handed texts lengths)) out)
   unfolding rowAnswer
-  row-past h = (rw (lt-leb table maxTable h), refl)
+  row-past h = (rw (lt-leb table lastTable h), refl)
 
   module _ (t : table ≤ lastTable) where
     pub row-count : (length lengths ≡ columnCount table → ⊥)
         → (Refused Row ≡ rowAnswer table texts lengths (length out)) × (out ≡ after (Refused Row) (rowOf (handed texts lengths)) out)
     unfolding rowAnswer
-    row-count h = (rw (le-leb table maxTable t, ne-eqb (length lengths) (columnCount table) h), refl)
+    row-count h = (rw (le-leb table lastTable t, ne-eqb (length lengths) (columnCount table) h), refl)
 
     module _ (h : length lengths ≡ columnCount table) (n : ℕ) (e : n ≡ min (maxRow + 1) (length (rowOf (handed texts lengths)))) where
       pub row-long : maxRow < n → (Refused Row ≡ rowAnswer table texts lengths (length out)) × (out ≡ after (Refused Row) (rowOf (handed texts lengths)) out)
       unfolding rowAnswer
       row-long l =
           let m : maxRow < length (rowOf (handed texts lengths)) = omega arith in
-          (rw (le-leb table maxTable t, eq-eqb (length lengths) (columnCount table) h, lt-leb (length (rowOf (handed texts lengths))) maxRow m), refl)
+          (rw (le-leb table lastTable t, eq-eqb (length lengths) (columnCount table) h, lt-leb (length (rowOf (handed texts lengths))) maxRow m), refl)
 
       fits : n ≤ maxRow → rowAnswer table texts lengths (length out) ≡ within (length out) (rowOf (handed texts lengths))
       unfolding rowAnswer
       fits l =
           let m : length (rowOf (handed texts lengths)) ≤ maxRow = omega arith in
-          rw (le-leb table maxTable t, eq-eqb (length lengths) (columnCount table) h, le-leb (length (rowOf (handed texts lengths))) maxRow m)
+          rw (le-leb table lastTable t, eq-eqb (length lengths) (columnCount table) h, le-leb (length (rowOf (handed texts lengths))) maxRow m)
 
       pub row-room : n ≤ maxRow → length out < n
           → (Refused Small ≡ rowAnswer table texts lengths (length out)) × (out ≡ after (Refused Small) (rowOf (handed texts lengths)) out)

@@ -169,10 +169,6 @@ columns =
     ∷ (fromStopId ∷ toStopId ∷ transferType ∷ minTransferTime ∷ fromRouteId ∷ toRouteId ∷ fromTripId ∷ toTripId ∷ [])
     ∷ []
 
--- the highest number of a table
-abbrev pub maxTable : ℕ
-maxTable = 7
-
 -- the columns of a table, none past the last table
 unfoldable pub columnsOf : ℕ → List (List ℕ)
 columnsOf table = getD columns table []

@@ -10,7 +10,8 @@ use Rattle.csv.specs.Write.{rowOf}
 use Rattle.refusal.specs.declared.Refusal.the-variants.{Argument, Small, Row}
 use Rattle.row.specs.declared.RowAnswer.{RowAnswer}
 use Rattle.row.specs.declared.RowAnswer.the-variants.{Written, Refused}
-use Rattle.row.specs.Columns.{maxTable, columnCount, namesLine}
+use Rattle.row.specs.Columns.{columnCount, namesLine}
+use Rattle.base.specs.Table.{lastTable}
 
 -- the values as handed over, texts in a row with their lengths: each has as many bytes as its length says, behind the values before it;
 -- where the bytes end, the value ends
@@ -32,12 +33,12 @@ after (Refused r) bytes out = out
 
 -- `names_line`: 2 for a table above 7, then 9, else how many bytes were written
 unfoldable pub namesAnswer : ℕ → ℕ → RowAnswer
-namesAnswer table room = pick (leb table maxTable) (within room (namesLine table)) (Refused Argument)
+namesAnswer table room = pick (leb table lastTable) (within room (namesLine table)) (Refused Argument)
 
 -- `row`: 2 for a table above 7, then 14 for a wrong number of values or a row that is too long, then 9
 unfoldable pub rowAnswer : ℕ → List ℕ → List ℕ → ℕ → RowAnswer
 rowAnswer table texts lengths room =
-    pick (leb table maxTable)
+    pick (leb table lastTable)
     (pick (eqb (length lengths) (columnCount table))
     (pick (leb (length (rowOf (handed texts lengths))) maxRow) (within room (rowOf (handed texts lengths))) (Refused Row))
     (Refused Row))

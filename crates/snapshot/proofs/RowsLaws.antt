@@ -20,10 +20,11 @@ use Rattle.bank.proofs.Sequence.{named-passes}
 use Rattle.snapshot.specs.declared.Outcome.the-variants.{Done, Refused as NoSource}
 use Rattle.snapshot.specs.Source.{sourceIn, thenSource, askedSource}
 use Rattle.snapshot.specs.Freshness.{namedIf}
-use Rattle.row.specs.Columns.{maxTable, columnCount}
+use Rattle.row.specs.Columns.{columnCount}
 use Rattle.rowread.specs.declared.ReadAnswer.the-variants.{Refused}
 use Rattle.rowread.specs.Stored.{valuesAt, readAnswer}
 use Rattle.snapshot.specs.Rows.{bytesOf, tableIn, thenRow, askedRow, thenValues, valuesIn}
+use Rattle.base.specs.Table.{lastTable}
 
 -- a bank that is named has that number
 pub its-number : (region : List ℕ) (n : ℕ) (b : Bank) → named region n ≡ Good b → b .number ≡ n
@@ -52,36 +53,36 @@ module _ (region : List ℕ) (n i : ℕ) where
   there q = there-by (named region n) refl q
 
   module _ (t place room slots : ℕ) where
-    pub no-region : leb t maxTable ≡ false → eqb (length region) regionSize ≡ false → Refused Region ≡ askedRow region n i t place room slots
+    pub no-region : leb t lastTable ≡ false → eqb (length region) regionSize ≡ false → Refused Region ≡ askedRow region n i t place room slots
     unfolding askedRow namedIf
     no-region h e = rw (h, e)
 
-    pub no-table : leb t maxTable ≡ false → eqb (length region) regionSize ≡ true → Refused Argument ≡ askedRow region n i t place room slots
+    pub no-table : leb t lastTable ≡ false → eqb (length region) regionSize ≡ true → Refused Argument ≡ askedRow region n i t place room slots
     unfolding askedRow namedIf
     no-table h e = rw (h, e)
 
-    named-too : leb t maxTable ≡ true → (v : Validated) → named region n ≡ v → namedIf (leb t maxTable) region n ≡ v
+    named-too : leb t lastTable ≡ true → (v : Validated) → named region n ≡ v → namedIf (leb t lastTable) region n ≡ v
     unfolding namedIf
     named-too h v e = rw h e
 
-    pub is-answer : (b : Bank) → leb t maxTable ≡ true → named region n ≡ Good b → ltb i (b .count) ≡ true
+    pub is-answer : (b : Bank) → leb t lastTable ≡ true → named region n ≡ Good b → ltb i (b .count) ≡ true
         → readAnswer (tableIn region b i t) (columnCount t) place room slots ≡ askedRow region n i t place room slots
     unfolding askedRow
     is-answer b h e l = sym (ap (thenRow region i t place room slots) (named-too h (Good b) e) ∙ rw l)
 
-    pub is-values : (b : Bank) → leb t maxTable ≡ true → named region n ≡ Good b → valuesAt (tableIn region b i t) (columnCount t) place ≡ valuesIn region n i t place
+    pub is-values : (b : Bank) → leb t lastTable ≡ true → named region n ≡ Good b → valuesAt (tableIn region b i t) (columnCount t) place ≡ valuesIn region n i t place
     unfolding valuesIn
     is-values b h e = sym (ap (thenValues region i t place) (named-too h (Good b) e))
 
-    pub refused : leb t maxTable ≡ true → (r : Refusal) → askedSource region n i .outcome ≡ NoSource r → Refused r ≡ askedRow region n i t place room slots
+    pub refused : leb t lastTable ≡ true → (r : Refusal) → askedSource region n i .outcome ≡ NoSource r → Refused r ≡ askedRow region n i t place room slots
     unfolding askedSource askedRow
     refused h r q = by (named region n) refl q
       where
-        by : (v : Validated) → named region n ≡ v → thenSource region i v .outcome ≡ NoSource r → Refused r ≡ thenRow region i t place room slots (namedIf (leb t maxTable) region n)
+        by : (v : Validated) → named region n ≡ v → thenSource region i v .outcome ≡ NoSource r → Refused r ≡ thenRow region i t place room slots (namedIf (leb t lastTable) region n)
         by (Bad x) e j = let k : x ≡ r = cc in sym (ap (thenRow region i t place room slots) (named-too h (Bad x) e) ∙ ap Refused k)
         by (Good b) e j = go (ltb i (b .count)) refl j
           where
-            go : (s : Bool) → ltb i (b .count) ≡ s → thenSource region i (Good b) .outcome ≡ NoSource r → Refused r ≡ thenRow region i t place room slots (namedIf (leb t maxTable) region n)
+            go : (s : Bool) → ltb i (b .count) ≡ s → thenSource region i (Good b) .outcome ≡ NoSource r → Refused r ≡ thenRow region i t place room slots (namedIf (leb t lastTable) region n)
             go true l m = absurd (let z : _≡_ {A = ℕ} 0 1 = cc in omega arith)
             go false l m = let k : NoSuchSource ≡ r = cc in sym (ap (thenRow region i t place room slots) (named-too h (Good b) e) ∙ rw l (ap Refused k))
 
@@ -94,7 +95,7 @@ pub record IsRow (region : List ℕ) (n i t place room slots : ℕ) (stored : Li
   pub answer : readAnswer stored width place room slots ≡ askedRow region n i t place room slots
   pub values : valuesAt stored width place ≡ valuesIn region n i t place
 
-pub is-row : (region : List ℕ) (n i t place room slots : ℕ) (stored : List ℕ) (width : ℕ) → leb t maxTable ≡ true → askedSource region n i .outcome ≡ Done
+pub is-row : (region : List ℕ) (n i t place room slots : ℕ) (stored : List ℕ) (width : ℕ) → leb t lastTable ≡ true → askedSource region n i .outcome ≡ Done
     → stored ≡ bytesOf region n (getD (askedSource region n i .source .tables) t noBlock) → width ≡ columnCount t → IsRow region n i t place room slots stored width
 is-row region n i t place room slots stored width h q e w =
     let s = there region n i q in

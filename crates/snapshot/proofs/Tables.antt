@@ -8,18 +8,19 @@ use lib.Dec.{leb, ltb}
 use Rattle.header.specs.declared.Bank.{Bank}
 use Rattle.header.specs.declared.Validated.the-variants.{Good}
 use Rattle.bank.specs.Bank.{named}
-use Rattle.row.specs.Columns.{maxTable, columnsOf, columnCount, namesLine}
+use Rattle.row.specs.Columns.{columnsOf, columnCount, namesLine}
 use Rattle.row.proofs.Names.{names-are-a-row}
 use Rattle.rowread.specs.Claims.{Reads, atEnd as endOfTable, onward as further, tableOf}
 use Rattle.rowread.proofs.Table.{reads-table}
 use Rattle.snapshot.specs.Rows.{tableIn}
 use Rattle.snapshot.specs.Claims.{BankReads, atEnd, onward, ReadsBank}
 use Rattle.snapshot.proofs.RowsLaws.{is-answer, is-values}
+use Rattle.base.specs.Table.{lastTable}
 
 abbrev Text : Type 0
 Text = List ℕ
 
-module _ (region : Text) (n i t room slots : ℕ) (b : Bank) (e : named region n ≡ Good b) (l : ltb i (b .count) ≡ true) (h : leb t maxTable ≡ true) where
+module _ (region : Text) (n i t room slots : ℕ) (b : Bank) (e : named region n ≡ Good b) (l : ltb i (b .count) ≡ true) (h : leb t lastTable ≡ true) where
   -- what the reader reads of the table's bytes is read of the bank
   from-table : (place : ℕ) (rows : List (List Text)) → Reads (tableIn region b i t) (columnCount t) room slots place rows → BankReads region n i t room slots place rows
   from-table place [] (endOfTable q) = atEnd (sym (is-answer region n i t place room slots b h e l) ∙ q)
@@ -33,6 +34,6 @@ is-table t rows = ap (λ (l : Text). l ++ tableOf rows) (names-are-a-row t)
 
 pub reads-bank : ReadsBank
 reads-bank region n i t room slots b rows e l h k f =
-    from-table region n i t room slots b e (lt-ltb i (b .count) l) (le-leb t maxTable h) 0 (columnsOf t ∷ rows)
+    from-table region n i t room slots b e (lt-ltb i (b .count) l) (le-leb t lastTable h) 0 (columnsOf t ∷ rows)
     (let q : tableIn region b i t ≡ tableOf (columnsOf t ∷ rows) = k ∙ is-table t rows in
     rw q (reads-table (columnCount t) room slots (columnsOf t ∷ rows) f))

@@ -9,10 +9,11 @@ use Rattle.header.specs.declared.Bank.{Bank}
 use Rattle.header.specs.declared.Validated.the-variants.{Good}
 use Rattle.bank.specs.Bank.{named, dataIn}
 use Rattle.snapshot.specs.Source.{sourceIn}
-use Rattle.row.specs.Columns.{maxTable, columnsOf, columnCount, namesLine}
+use Rattle.row.specs.Columns.{columnsOf, columnCount, namesLine}
 use Rattle.rowread.specs.declared.ReadAnswer.the-variants.{Stored, End}
 use Rattle.rowread.specs.Claims.{AllFit, tableOf}
 use Rattle.snapshot.specs.Rows.{tableIn, askedRow, valuesIn}
+use Rattle.base.specs.Table.{lastTable}
 
 abbrev Text : Type 0
 Text = List ℕ
@@ -26,7 +27,7 @@ pub data BankReads (region : Text) (n i t room slots : ℕ) : ℕ → List (List
 -- where a table of a bank that passes 3 to 6 has the bytes that a writer gives it, a names line and rows, the names are read at place 0,
 -- then row by row to the table's end (reads-bank)
 abbrev pub ReadsBank : Type 0
-ReadsBank = (region : Text) (n i t room slots : ℕ) (b : Bank) (rows : List (List Text)) → named region n ≡ Good b → i < b .count → t ≤ maxTable
+ReadsBank = (region : Text) (n i t room slots : ℕ) (b : Bank) (rows : List (List Text)) → named region n ≡ Good b → i < b .count → t ≤ lastTable
     → tableIn region b i t ≡ namesLine t ++ tableOf rows → AllFit (columnCount t) room slots (columnsOf t ∷ rows)
     → BankReads region n i t room slots 0 (columnsOf t ∷ rows)
 

@@ -13,10 +13,11 @@ use Rattle.header.specs.declared.Validated.the-variants.{Good, Refused as Bad}
 use Rattle.region.specs.Region.{sectorSize, bankOf}
 use Rattle.snapshot.specs.Source.{sourceIn}
 use Rattle.snapshot.specs.Freshness.{namedIf}
-use Rattle.row.specs.Columns.{maxTable, columnCount}
+use Rattle.row.specs.Columns.{columnCount}
 use Rattle.rowread.specs.declared.ReadAnswer.{ReadAnswer}
 use Rattle.rowread.specs.declared.ReadAnswer.the-variants.{Refused}
 use Rattle.rowread.specs.Stored.{valuesAt, readAnswer}
+use Rattle.base.specs.Table.{lastTable}
 
 -- the bytes of a block of bank n: its offset counts from the data, which follow the header sector
 unfoldable pub bytesOf : List ℕ → ℕ → Block → List ℕ
@@ -34,7 +35,7 @@ thenRow region i t place room slots (Bad r) = Refused r
 
 -- 1, 2 (bank and table), 3 to 6, 6 at or past the count, 14, 9
 unfoldable pub askedRow : List ℕ → ℕ → ℕ → ℕ → ℕ → ℕ → ℕ → ReadAnswer
-askedRow region n i t place room slots = thenRow region i t place room slots (namedIf (leb t maxTable) region n)
+askedRow region n i t place room slots = thenRow region i t place room slots (namedIf (leb t lastTable) region n)
 
 -- the values of the row, handed out where one is read
 abbrev pub thenValues : List ℕ → ℕ → ℕ → ℕ → Validated → List (List ℕ)
@@ -42,4 +43,4 @@ thenValues region i t place (Good b) = valuesAt (tableIn region b i t) (columnCo
 thenValues region i t place (Bad r) = []
 
 unfoldable pub valuesIn : List ℕ → ℕ → ℕ → ℕ → ℕ → List (List ℕ)
-valuesIn region n i t place = thenValues region i t place (namedIf (leb t maxTable) region n)
+valuesIn region n i t place = thenValues region i t place (namedIf (leb t lastTable) region n)

@@ -1,4 +1,4 @@
-// freshness
+// When a loaded bank was checked, and when the sources of the wanted days were updated.
 ghost use mathlib.Core.Path.{_≡_};
 ghost use mathlib.Core.Bool.{not, _&&_};
 ghost use lib.Dec.{leb};

@@ -1,4 +1,4 @@
-// keymatch
+// Whether a loaded bank's key is the key of an identity and picks.
 ghost use mathlib.Core.Path.{_≡_};
 ghost use Rattle.snapshot.specs.KeyMatch as Keys;
 use crate::header_if;

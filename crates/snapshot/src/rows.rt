@@ -1,4 +1,4 @@
-// Rows of a loaded bank. The call names the bank by number and tests it again.
+// Rows of a loaded bank.
 ghost use mathlib.Core.Path.{_≡_};
 ghost use Prim.Native.Nat.{_≤_};
 ghost use lib.ListN.{length, getD};

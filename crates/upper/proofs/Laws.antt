@@ -18,7 +18,7 @@ use Rattle.leaf.proofs.Laws.{length-written}
 use Rattle.key.specs.declared.KeyAnswer.{KeyAnswer}
 use Rattle.key.specs.declared.KeyAnswer.the-variants.{Written as KeyWritten, Refused as KeyRefused}
 use Rattle.key.specs.Picks as Picks
-use Rattle.key.specs.Layout.{prefix, keyOf, every, sized, fit, keyAnswer, within as keyWithin, after as keyAfter}
+use Rattle.key.specs.Layout.{prefix, keyOf, every, sized, fit, keyAnswer, within as keyWithin, after as keyAfter, maxIdentity}
 use Rattle.key.proofs.Sizes.{entry-small, small, few}
 use Rattle.key.proofs.Answers.{key-length}
 use Rattle.row.specs.declared.RowAnswer.{RowAnswer}
@@ -44,6 +44,7 @@ use Rattle.upper.specs.Upper.{Upper, runOf, argumentOk, orderOk, rowOk, 
 use Rattle.run.proofs.Laws.{feed-append, then-writer, then-region}
 use Rattle.csv.specs.Csv.{maxRow}
 use Rattle.base.specs.Table.{lastTable}
+use Rattle.upper.specs.Sizes.{namesSize, maxBody}
 
 -- what is due, then a lower call that does no operation, then others
 abbrev pub Still : Lower → Type 0
@@ -137,7 +138,7 @@ pub start-is : (bs out : List ℕ) → length bs ≤ length out → take (length
 unfolding written
 start-is bs out h = rw (le-leb (0 + length bs) (length out) (omega arith)) (take-at bs (drop (0 + length bs) out) (length bs) refl)
 
-pub names-fit : (t : ℕ) → t ≤ lastTable → length (namesLine t) ≤ 128
+pub names-fit : (t : ℕ) → t ≤ lastTable → length (namesLine t) ≤ namesSize
 unfolding columnsOf columns line
 names-fit zero h = omega arith
 names-fit (suc zero) h = omega arith
@@ -149,7 +150,7 @@ names-fit (suc (suc (suc (suc (suc (suc zero)))))) h = omega arith
 names-fit (suc (suc (suc (suc (suc (suc (suc zero))))))) h = omega arith
 names-fit (suc (suc (suc (suc (suc (suc (suc (suc n)))))))) h = absurd (omega arith)
 
-module _ (t : ℕ) (out o : List ℕ) (a : RowAnswer) (h : t ≤ lastTable) (l : length out ≡ 128) (e : a ≡ namesAnswer t (length out)) (k : o ≡ after a (namesLine t) out) where
+module _ (t : ℕ) (out o : List ℕ) (a : RowAnswer) (h : t ≤ lastTable) (l : length out ≡ namesSize) (e : a ≡ namesAnswer t (length out)) (k : o ≡ after a (namesLine t) out) where
   names-room : length (namesLine t) ≤ length out
   names-room = omega (arith, names-fit t h)
 
@@ -157,7 +158,7 @@ module _ (t : ℕ) (out o : List ℕ) (a : RowAnswer) (h : t ≤ lastTable) (l :
   unfolding namesAnswer within
   names-answer = e ∙ rw (le-leb t 7 h, le-leb (length (namesLine t)) (length out) names-room)
 
-  pub names-there : (n : ℕ) → a ≡ Written n → (n ≤ 128) × (n ≡ length (namesLine t)) × (take n o ≡ namesLine t)
+  pub names-there : (n : ℕ) → a ≡ Written n → (n ≤ namesSize) × (n ≡ length (namesLine t)) × (take n o ≡ namesLine t)
   names-there n x =
       let m : n ≡ length (namesLine t) = cc names-answer in (
         omega (arith, names-fit t h),
@@ -233,7 +234,7 @@ prefix-is [] h = absurd (h refl)
 prefix-is (x ∷ xs) h = refl
 
 -- without an identity
-body-short : (b l : List ℕ) → fit b l ≡ true → length (keyOf [] (Picks.handed b l)) ≤ 2257
+body-short : (b l : List ℕ) → fit b l ≡ true → length (keyOf [] (Picks.handed b l)) ≤ maxBody
 unfolding fit prefix
 body-short b l h =
     let t = both-true (leb (Picks.count l) 16) (every (Picks.count l * 5) (sized (Picks.text b l))) h in
@@ -249,7 +250,7 @@ key-false : (p : Bool) (m : ℕ) (x : Refusal) → pick p (KeyWritten m) (KeyRef
 key-false true m x e = cc
 key-false false m x e = refl
 
-module _ (b l out o : List ℕ) (a : KeyAnswer) (h : length out ≡ 2257) (e : a ≡ keyAnswer [] b l (length out)) (k : o ≡ keyAfter a (keyOf [] (Picks.handed b l)) out) where
+module _ (b l out o : List ℕ) (a : KeyAnswer) (h : length out ≡ maxBody) (e : a ≡ keyAnswer [] b l (length out)) (k : o ≡ keyAfter a (keyOf [] (Picks.handed b l)) out) where
   key-by : (p : Bool) → fit b l ≡ p → a ≡ pick p (KeyWritten (length (keyOf [] (Picks.handed b l)))) (KeyRefused Argument)
   unfolding keyAnswer keyWithin
   key-by true f = e ∙ rw (f, le-leb (length (keyOf [] (Picks.handed b l))) (length out) (omega (arith, body-short b l f)))
@@ -298,15 +299,15 @@ module _ (region : List ℕ) (comparing : Bool) (now : ℤ) (id b l : List ℕ) 
     unfolding beginRefusal
     begin-argument e = begin-refused Argument (rw (eq-eqb (length region) regionSize h, e))
 
-    pub begin-identity : fit b l ≡ true → 65535 < length id → Begins (record { answer = Refused Identity; writer = started (NotRead Identity) comparing now }) region
+    pub begin-identity : fit b l ≡ true → maxIdentity < length id → Begins (record { answer = Refused Identity; writer = started (NotRead Identity) comparing now }) region
     unfolding beginRefusal
-    begin-identity e k = begin-refused Identity (rw (eq-eqb (length region) regionSize h, e, lt-leb (length id) 65535 k))
+    begin-identity e k = begin-refused Identity (rw (eq-eqb (length region) regionSize h, e, lt-leb (length id) maxIdentity k))
 
-    begin-passed : fit b l ≡ true → length id ≤ 65535 → beginRefusal region id b l ≡ none
+    begin-passed : fit b l ≡ true → length id ≤ maxIdentity → beginRefusal region id b l ≡ none
     unfolding beginRefusal
-    begin-passed e k = rw (eq-eqb (length region) regionSize h, e, le-leb (length id) 65535 k)
+    begin-passed e k = rw (eq-eqb (length region) regionSize h, e, le-leb (length id) maxIdentity k)
 
-    pub begin-done : fit b l ≡ true → length id ≤ 65535 → (v : Writer) (r : List ℕ) → v ≡ ranWriter region first (feed (keyBytes id b l)) → r ≡ ranRegion region first (feed (keyBytes id b l)) → Begins (did v) r
+    pub begin-done : fit b l ≡ true → length id ≤ maxIdentity → (v : Writer) (r : List ℕ) → v ≡ ranWriter region first (feed (keyBytes id b l)) → r ≡ ranRegion region first (feed (keyBytes id b l)) → Begins (did v) r
     unfolding beginStep beginRegion beginRun
     begin-done e k v r x y =
         let n = begin-passed e k in (

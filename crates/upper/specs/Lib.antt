@@ -1,1 +1,2 @@
 pub mod Upper
+pub mod Sizes

@@ -28,6 +28,8 @@ use Rattle.writer.specs.State.{position, isOpen, stays}
 use Rattle.lower.specs.Lower.{started, mayTake, mayBegin}
 use Rattle.run.specs.Run.{Lower, source, table, end, close, ranWriter, ranRegion, ranOps}
 use Rattle.run.specs.Feed.{dues, feed}
+use Rattle.base.specs.Table.{lastTable}
+use Rattle.header.specs.Header.{maxSources}
 
 -- the calls on a state
 pub data Upper : Type 0 where
@@ -59,7 +61,7 @@ runOf u = dues ++ (lowerOf u ++ (dues ++ feed (taken u)))
 
 -- 2, 11, 14, 10
 abbrev pub argumentOk : Upper → Bool
-argumentOk (tableWithNames t) = leb t 7
+argumentOk (tableWithNames t) = leb t lastTable
 argumentOk (sourceWithDates s) = true
 argumentOk (row texts lengths) = true
 argumentOk tableEnd = true
@@ -80,7 +82,7 @@ rowOk w tableEnd = true
 rowOk w closing = true
 
 abbrev pub sourceFits : Writer → Upper → Bool
-sourceFits w (sourceWithDates s) = ltb (w .tables .count) 3
+sourceFits w (sourceWithDates s) = ltb (w .tables .count) maxSources
 sourceFits w (tableWithNames t) = true
 sourceFits w (row texts lengths) = true
 sourceFits w tableEnd = true

@@ -1,4 +1,4 @@
-// The upper layer's beginning, which feeds the key.
+// The upper layer's begin, which appends the key, and its close.
 ghost use mathlib.Core.Path.{_≡_};
 ghost use Prim.Native.Nat.{_≤_};
 ghost use mathlib.Core.List.{_++_};
@@ -11,8 +11,10 @@ ghost use Rattle.run.specs.Run.{ranWriter, ranRegion};
 ghost use Rattle.run.specs.Feed as Feed;
 ghost use Rattle.upper.specs.Upper as Upper;
 ghost use Rattle.region.specs.Region.{regionSize};
+use crate::MAX_BODY;
 use bank::Loaded;
 use key::KeyAnswer;
+use key::MAX_IDENTITY;
 use lower::begin::started;
 use lower::is_open;
 use lower::may_take;
@@ -73,12 +75,12 @@ fn begin_in(
     ensures { λ r. ⌜ (r ≡ Upper.beginStep (now (region .entry)) comparing at (now (identity .entry)) (now (texts .entry)) (now (lengths .entry))) × (now (region .exit) ≡ Upper.beginRegion (now (region .entry)) comparing at (now (identity .entry)) (now (texts .entry)) (now (lengths .entry))) ⌝ }
 {
     let none = &identity[0..0];
-    let mut out = [0u8; 2257];
+    let mut out = [0u8; MAX_BODY];
     let a = key::key(none, texts, lengths, &mut out);
     let KeyAnswer::Written(n) = a else {
         return refuse(comparing, at, Refusal::Argument);
     };
-    if 65535 < identity.len() {
+    if MAX_IDENTITY < identity.len() {
         return refuse(comparing, at, Refusal::Identity);
     }
     let s = lower::begin::begin(region, comparing, at);

@@ -1,4 +1,4 @@
-// The upper layer's definitions, and its test that bytes fit.
+// The upper layer: each call is a run of lower calls, done at once. A module for each, and the test that bytes fit.
 pub mod begin;
 pub mod rows;
 pub mod source;
@@ -12,6 +12,13 @@ ghost use Rattle.region.specs.Region.{capacity};
 use region::CAPACITY;
 use region::CAPACITY_64;
 use writer::Taken;
+
+// The longest key without an identity, the buffer for a names line, and the first one for a row.
+const MAX_BODY: usize = 2257;
+
+const NAMES_SIZE: usize = 128;
+
+const SHORT_ROW: usize = 512;
 
 // Whether n bytes more fit.
 pub fn fits(t: Taken, n: usize) -> bool

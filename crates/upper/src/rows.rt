@@ -1,4 +1,4 @@
-// The upper layer's calls that begin a table and feed its names line, and feed a row.
+// The upper layer's call that appends a row.
 ghost use mathlib.Core.Path.{_≡_};
 ghost use mathlib.Core.Bool.{true};
 ghost use Prim.Native.Nat.{_≤_};
@@ -11,6 +11,7 @@ ghost use Rattle.run.specs.Parts as Partly;
 ghost use Rattle.upper.specs.Upper as Upper;
 ghost use Rattle.region.specs.Region.{regionSize};
 ghost use Rattle.base.specs.Table.{lastTable};
+use crate::SHORT_ROW;
 use crate::fits;
 use csv::MAX_ROW;
 use lower::is_open;
@@ -61,7 +62,7 @@ fn row_in(p: Parts, region: &mut [u8], texts: &[u8], lengths: &[u32]) -> PartsSt
     ensures { λ r. ⌜ ((ss : List Source) → (stepWith r ss ≡ Upper.upperStep (now (region .entry)) (withSources p ss) (Upper.row (now (texts .entry)) (now (lengths .entry)))) × (now (region .exit) ≡ Upper.upperRegion (now (region .entry)) (withSources p ss) (Upper.row (now (texts .entry)) (now (lengths .entry))))) ⌝ }
 {
     let x = p.tables;
-    let mut out = [0u8; 512];
+    let mut out = [0u8; SHORT_ROW];
     let a = row::row(x.table, texts, lengths, &mut out);
     let RowAnswer::Written(n) = a else {
         return long_row(p, region, texts, lengths);

@@ -1,4 +1,4 @@
-// The upper layer's calls that begin a source and feed its dates, end a table, and close.
+// The upper layer's call that begins a source and appends its dates.
 ghost use mathlib.Core.Path.{_≡_};
 ghost use mathlib.Core.List.{_++_};
 ghost use Rattle.leaf.specs.Bytes.{le32};

@@ -1,4 +1,4 @@
-// table
+// The upper layer's calls that begin a table, which appends its names line, and end it.
 ghost use mathlib.Core.Path.{_≡_};
 ghost use mathlib.Core.List.{_++_};
 ghost use Rattle.run.specs.Run.{ranWriter, ranRegion};
@@ -20,6 +20,8 @@ ghost use Rattle.row.specs.Columns.{namesLine};
 ghost use Rattle.run.specs.Run as Run;
 ghost use Rattle.run.specs.Feed as Feed;
 ghost use Rattle.base.specs.Table.{lastTable};
+ghost use Rattle.upper.specs.Sizes.{namesSize};
+use crate::NAMES_SIZE;
 use base::table::LAST_TABLE;
 use lower::may_begin;
 use region::REGION_SIZE;
@@ -51,14 +53,14 @@ pub fn end(w: Writer, region: &mut [u8]) -> Step
 // A table's names line stands in the first n bytes.
 struct Line {
     n: usize,
-    bytes: [u8; 128],
+    bytes: [u8; NAMES_SIZE],
 }
 
 fn names(table: u32) -> Line
     requires { ⌜ table ≤ lastTable ⌝ }
-    ensures { λ r. ⌜ (r .n ≤ 128) × (r .n ≡ length (namesLine table)) × (take (r .n) (r .bytes) ≡ namesLine table) ⌝ }
+    ensures { λ r. ⌜ (r .n ≤ namesSize) × (r .n ≡ length (namesLine table)) × (take (r .n) (r .bytes) ≡ namesLine table) ⌝ }
 {
-    let mut bytes = [0u8; 128];
+    let mut bytes = [0u8; NAMES_SIZE];
     let a = row::names_line(table, &mut bytes);
     match a {
         RowAnswer::Written(n) => Line { n, bytes },
@@ -67,8 +69,8 @@ fn names(table: u32) -> Line
 }
 
 // The run of a table's beginning, its names line in the first n bytes.
-fn run_table(w: Writer, region: &mut [u8], table: u32, names: [u8; 128], n: usize) -> Writer
-    requires { ⌜ n ≤ 128 ⌝ }
+fn run_table(w: Writer, region: &mut [u8], table: u32, names: [u8; NAMES_SIZE], n: usize) -> Writer
+    requires { ⌜ n ≤ namesSize ⌝ }
     ensures { λ r. ⌜ (r ≡ ranWriter (now (region .entry)) w (Feed.dues ++ (Run.table table ∷ (Feed.dues ++ Feed.feed (take n names))))) × (now (region .exit) ≡ ranRegion (now (region .entry)) w (Feed.dues ++ (Run.table table ∷ (Feed.dues ++ Feed.feed (take n names))))) ⌝ }
 {
     let line = &names[0..n];
