@@ -11,7 +11,7 @@ use Rattle.writer.specs.declared.Writer.{Writer}
 use Rattle.writer.specs.declared.Answer.the-variants.{Took}
 use Rattle.writer.specs.declared.Step.{Step}
 use Rattle.writer.specs.State.{stays, position, isDue}
-use Rattle.lower.specs.Lower.{mayTake, room, withBytes, took, bytesStep}
+use Rattle.lower.specs.Lower.{mayAppend, room, withBytes, took, bytesStep}
 use Rattle.due.specs.Due.{dueStep}
 use Rattle.due.proofs.Laws.{due-rest}
 use Rattle.cstate.specs.declared.State.{State}
@@ -60,7 +60,7 @@ module _ (w : Writer) where
   unfolding bytesStep took
   refused-tail xs e =
       let n = room (w .taken) (length xs) in
-      refused-by (mayTake w) (leb (position (w .taken) + length xs) capacity) (isDue (w .taken)) n (withBytes w (take n xs)) e
+      refused-by (mayAppend w) (leb (position (w .taken) + length xs) capacity) (isDue (w .taken)) n (withBytes w (take n xs)) e
 
 module _ (w : Writer) (was : State) where
   tail-by : (b : Bool) → (b ≡ false → w .tail ≡ was .tail) → pick b (savedOf w) was .tail ≡ w .tail

@@ -16,7 +16,7 @@ use cstate::after_parts;
 use cstate::parts_of;
 use cstate::writer_of;
 use due::due_parts;
-use lower::append::take_parts;
+use lower::append::append_parts;
 use record::VERSION;
 use record::decode;
 
@@ -59,7 +59,7 @@ pub extern "C" fn tt_update_bytes(state: State, bytes: &[u8]) -> UpdateStep
     ensures { λ x. ⌜ x ≡ Answers.after (Lower.bytesStep (writerOf state) (now (bytes .entry))) state ⌝ }
 {
     let p = parts_of(state);
-    let s = take_parts(p, bytes);
+    let s = append_parts(p, bytes);
     // the tail is that of the parts, also where the bytes are refused
     let q = s.parts;
     let tail = q.tail;

@@ -12,13 +12,13 @@ use Rattle.header.specs.declared.Bank.{Bank}
 use Rattle.region.specs.Region.{regionSize}
 use Rattle.header.specs.WriteHeader.{headerBytes, blankWord, commitBytes, isFit}
 use Rattle.flash.specs.Flash.{write, performed}
-use Rattle.writer.specs.declared.Stage.the-variants.{Headed, Committed}
+use Rattle.writer.specs.declared.Stage.the-variants.{HeaderWritten, Committed}
 use Rattle.writer.specs.declared.Writer.{Writer}
 use Rattle.writer.specs.State.{target, inRange, did, stays}
 use Rattle.due.specs.Due.{withStage}
 use Rattle.due.proofs.Laws.{target-fits}
 use Rattle.commit.specs.declared.Stamp.{Stamp}
-use Rattle.commit.specs.Commit.{bankFor, recordsFor, isHeaded, mayCommit, isCurrent, commitStep, commitOps, commitRegion, wordStep, wordOps, wordRegion}
+use Rattle.commit.specs.Commit.{bankFor, recordsFor, isHeaderWritten, mayCommit, isCurrent, commitStep, commitOps, commitRegion, wordStep, wordOps, wordRegion}
 use Rattle.header.specs.Header.{commitOffset}
 
 and-false : (a : Bool) → (a && false) ≡ false
@@ -28,11 +28,11 @@ and-false false = refl
 -- ---- the second call of a commit
 
 module _ (region : List ℕ) (w : Writer) where
-  pub word-done : length region ≡ regionSize → (inRange w && isHeaded (w .stage)) ≡ true → did (withStage w Committed) ≡ wordStep region w
+  pub word-done : length region ≡ regionSize → (inRange w && isHeaderWritten (w .stage)) ≡ true → did (withStage w Committed) ≡ wordStep region w
   unfolding wordStep
   word-done e h = rw (eq-eqb (length region) regionSize e, h)
 
-  pub word-turn : length region ≡ regionSize → (inRange w && isHeaded (w .stage)) ≡ false → stays w Turn ≡ wordStep region w
+  pub word-turn : length region ≡ regionSize → (inRange w && isHeaderWritten (w .stage)) ≡ false → stays w Turn ≡ wordStep region w
   unfolding wordStep
   word-turn e h = rw (eq-eqb (length region) regionSize e, h)
 
@@ -40,11 +40,11 @@ module _ (region : List ℕ) (w : Writer) where
   unfolding wordStep
   word-region e = rw (ne-eqb (length region) regionSize e)
 
-  pub word-written : length region ≡ regionSize → (inRange w && isHeaded (w .stage)) ≡ true → performed (target (w .beginning .active)) (write commitOffset commitBytes ∷ []) region ≡ wordRegion region w
+  pub word-written : length region ≡ regionSize → (inRange w && isHeaderWritten (w .stage)) ≡ true → performed (target (w .beginning .active)) (write commitOffset commitBytes ∷ []) region ≡ wordRegion region w
   unfolding wordRegion wordOps
   word-written e h = rw (eq-eqb (length region) regionSize e, h)
 
-  pub word-kept : (inRange w && isHeaded (w .stage)) ≡ false → region ≡ wordRegion region w
+  pub word-kept : (inRange w && isHeaderWritten (w .stage)) ≡ false → region ≡ wordRegion region w
   unfolding wordRegion wordOps performed
   word-kept h = rw (h, and-false (eqb (length region) regionSize))
 
@@ -75,7 +75,7 @@ module _ (region : List ℕ) (w : Writer) (stamp : Stamp) (current : Bool) where
   module _ (e : length region ≡ regionSize) where
     module _ (m : mayCommit w ≡ true) where
       module _ (c : isCurrent w current ≡ true) where
-        pub commit-done : isFit (bankFor w stamp) (recordsFor w) ≡ true → did (withStage w Headed) ≡ commitStep region w stamp current
+        pub commit-done : isFit (bankFor w stamp) (recordsFor w) ≡ true → did (withStage w HeaderWritten) ≡ commitStep region w stamp current
         unfolding commitStep
         commit-done f = rw (eq-eqb (length region) regionSize e, m, c, f)
 

@@ -15,7 +15,7 @@ use Rattle.region.specs.Region.{regionSize}
 use Rattle.header.specs.WriteHeader.{headerBytes, blankWord, commitBytes, isFit}
 use Rattle.flash.specs.Flash.{Op, write, performed}
 use Rattle.writer.specs.declared.Stage.{Stage}
-use Rattle.writer.specs.declared.Stage.the-variants.{Idle, Due, Headed, Committed}
+use Rattle.writer.specs.declared.Stage.the-variants.{Idle, Due, HeaderWritten, Committed}
 use Rattle.writer.specs.declared.Writer.{Writer}
 use Rattle.writer.specs.declared.Step.{Step}
 use Rattle.writer.specs.State.{target, nextGeneration, keyLength, inRange, did, stays}
@@ -54,14 +54,14 @@ recordsFor w = take (w .tables .count) (w .sources)
 abbrev pub isIdle : Stage → Bool
 isIdle Idle = true
 isIdle (Due o) = false
-isIdle Headed = false
+isIdle HeaderWritten = false
 isIdle Committed = false
 
-abbrev pub isHeaded : Stage → Bool
-isHeaded Headed = true
-isHeaded Idle = false
-isHeaded (Due o) = false
-isHeaded Committed = false
+abbrev pub isHeaderWritten : Stage → Bool
+isHeaderWritten HeaderWritten = true
+isHeaderWritten Idle = false
+isHeaderWritten (Due o) = false
+isHeaderWritten Committed = false
 
 -- the first call: 1, 11 before closing, while one is due or once it was answered, 12, 13
 abbrev pub mayCommit : Writer → Bool
@@ -75,7 +75,7 @@ commitStep region w stamp current =
     pick (eqb (length region) regionSize)
     (pick (mayCommit w)
     (pick (isCurrent w current)
-    (pick (isFit (bankFor w stamp) (recordsFor w)) (did (withStage w Headed)) (stays w Unfit))
+    (pick (isFit (bankFor w stamp) (recordsFor w)) (did (withStage w HeaderWritten)) (stays w Unfit))
     (stays w Obsolete))
     (stays w Turn))
     (stays w Region)
@@ -93,11 +93,11 @@ commitRegion region w stamp current = performed (target (w .beginning .active)) 
 unfoldable pub wordStep : List ℕ → Writer → Step
 wordStep region w =
     pick (eqb (length region) regionSize)
-    (pick (inRange w && isHeaded (w .stage)) (did (withStage w Committed)) (stays w Turn))
+    (pick (inRange w && isHeaderWritten (w .stage)) (did (withStage w Committed)) (stays w Turn))
     (stays w Region)
 
 unfoldable pub wordOps : List ℕ → Writer → List Op
-wordOps region w = pick (eqb (length region) regionSize && (inRange w && isHeaded (w .stage))) (write commitOffset commitBytes ∷ []) []
+wordOps region w = pick (eqb (length region) regionSize && (inRange w && isHeaderWritten (w .stage))) (write commitOffset commitBytes ∷ []) []
 
 unfoldable pub wordRegion : List ℕ → Writer → List ℕ
 wordRegion region w = performed (target (w .beginning .active)) (wordOps region w) region

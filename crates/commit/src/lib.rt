@@ -49,16 +49,16 @@ pub fn is_idle(s: Stage) -> bool
     match s {
         Stage::Idle => true,
         Stage::Due(_) => false,
-        Stage::Headed => false,
+        Stage::HeaderWritten => false,
         Stage::Committed => false,
     }
 }
 
 fn headed(w: Writer) -> Writer
-    ensures { λ r. ⌜ r ≡ Due.withStage w Stages.Headed ⌝ }
+    ensures { λ r. ⌜ r ≡ Due.withStage w Stages.HeaderWritten ⌝ }
 {
     Writer {
-        stage: Stage::Headed,
+        stage: Stage::HeaderWritten,
         ..w
     }
 }
@@ -141,7 +141,7 @@ fn is_current(w: Writer, current: bool) -> bool
 
 fn write_header(w: Writer, region: &mut [u8], b: Bank) -> Step
     requires { ⌜ (length (now region) ≡ regionSize) × (b .number ≤ 1) ⌝ }
-    ensures { λ r. ⌜ (r ≡ State.did (Due.withStage w Stages.Headed)) × (now (region .exit) ≡ performed (b .number) (writing 0 (headerBytes b (take (b .count) (w .sources)) blankWord) ∷ []) (now (region .entry))) ⌝ }
+    ensures { λ r. ⌜ (r ≡ State.did (Due.withStage w Stages.HeaderWritten)) × (now (region .exit) ≡ performed (b .number) (writing 0 (headerBytes b (take (b .count) (w .sources)) blankWord) ∷ []) (now (region .entry))) ⌝ }
 {
     let ss = w.sources;
     let bytes = header_bytes(b, ss);
@@ -171,11 +171,11 @@ pub fn commit(w: Writer, region: &mut [u8], stamp: Stamp, current: bool) -> Step
     stays(w, Refusal::Region)
 }
 
-fn is_headed(s: Stage) -> bool
-    ensures { λ r. ⌜ r ≡ Commit.isHeaded s ⌝ }
+fn is_header_written(s: Stage) -> bool
+    ensures { λ r. ⌜ r ≡ Commit.isHeaderWritten s ⌝ }
 {
     match s {
-        Stage::Headed => true,
+        Stage::HeaderWritten => true,
         Stage::Idle => false,
         Stage::Due(_) => false,
         Stage::Committed => false,
@@ -192,10 +192,10 @@ fn committed(w: Writer) -> Writer
 }
 
 fn may_write_word(w: Writer) -> bool
-    ensures { λ r. ⌜ r ≡ (State.inRange w && Commit.isHeaded (w .stage)) ⌝ }
+    ensures { λ r. ⌜ r ≡ (State.inRange w && Commit.isHeaderWritten (w .stage)) ⌝ }
 {
     let s = w.stage;
-    in_range(w) & is_headed(s)
+    in_range(w) & is_header_written(s)
 }
 
 fn write_word(w: Writer, region: &mut [u8]) -> Step

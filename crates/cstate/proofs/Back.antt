@@ -7,7 +7,7 @@ use Rattle.bank.specs.declared.Loaded.{Loaded}
 use Rattle.bank.specs.declared.Loaded.the-variants.{Found, Nothing, Refused as NotRead}
 use Rattle.writer.specs.declared.Operation.the-variants.{Erase, Write, Compare}
 use Rattle.writer.specs.declared.Stage.{Stage}
-use Rattle.writer.specs.declared.Stage.the-variants.{Idle, Due, Headed, Committed}
+use Rattle.writer.specs.declared.Stage.the-variants.{Idle, Due, HeaderWritten, Committed}
 use Rattle.writer.specs.State.{inRange, activeOk}
 use Rattle.cstate.specs.State.{stageKind, stageFirst, stageSecond, stageOf, activeKind, bankIn, activeOf, flag, isSet, savedOf, writerOf}
 use Rattle.cstate.specs.Claims.{ReadsBack, NoState}
@@ -18,7 +18,7 @@ stage-back Idle = refl
 stage-back (Due (Erase k)) = refl
 stage-back (Due (Write a n)) = refl
 stage-back (Due (Compare a n)) = refl
-stage-back Headed = refl
+stage-back HeaderWritten = refl
 stage-back Committed = refl
 
 stage-kind : (s : Stage) → leb (stageKind s) 5 ≡ true
@@ -26,7 +26,7 @@ stage-kind Idle = refl
 stage-kind (Due (Erase k)) = refl
 stage-kind (Due (Write a n)) = refl
 stage-kind (Due (Compare a n)) = refl
-stage-kind Headed = refl
+stage-kind HeaderWritten = refl
 stage-kind Committed = refl
 
 flag-back : (b : Bool) → isSet (flag b) ≡ b

@@ -11,7 +11,7 @@ use Rattle.bank.specs.declared.Loaded.{Loaded}
 use Rattle.bank.specs.declared.Loaded.the-variants.{Found, Nothing, Refused as NotRead}
 use Rattle.writer.specs.declared.Operation.the-variants.{Erase, Write, Compare}
 use Rattle.writer.specs.declared.Stage.{Stage}
-use Rattle.writer.specs.declared.Stage.the-variants.{Idle, Due, Headed, Committed}
+use Rattle.writer.specs.declared.Stage.the-variants.{Idle, Due, HeaderWritten, Committed}
 use Rattle.writer.specs.declared.Writer.{Writer}
 use Rattle.cstate.specs.declared.State.{State}
 use Rattle.cstate.specs.declared.StageNumbers.{StageNumbers}
@@ -22,7 +22,7 @@ stageKind Idle = 0
 stageKind (Due (Erase k)) = 1
 stageKind (Due (Write a n)) = 2
 stageKind (Due (Compare a n)) = 3
-stageKind Headed = 4
+stageKind HeaderWritten = 4
 stageKind Committed = 5
 
 abbrev pub stageFirst : Stage → ℕ
@@ -30,7 +30,7 @@ stageFirst Idle = 0
 stageFirst (Due (Erase k)) = k
 stageFirst (Due (Write a n)) = a
 stageFirst (Due (Compare a n)) = a
-stageFirst Headed = 0
+stageFirst HeaderWritten = 0
 stageFirst Committed = 0
 
 abbrev pub stageSecond : Stage → ℕ
@@ -38,7 +38,7 @@ stageSecond Idle = 0
 stageSecond (Due (Erase k)) = 0
 stageSecond (Due (Write a n)) = n
 stageSecond (Due (Compare a n)) = n
-stageSecond Headed = 0
+stageSecond HeaderWritten = 0
 stageSecond Committed = 0
 
 abbrev pub stageNumbers : Stage → StageNumbers
@@ -89,7 +89,7 @@ stageOf k a n =
     pick (eqb k 1) (Due (Erase a))
     (pick (eqb k 2) (Due (Write a n))
     (pick (eqb k 3) (Due (Compare a n))
-    (pick (eqb k 4) Headed
+    (pick (eqb k 4) HeaderWritten
     (pick (eqb k 5) Committed Idle))))
 
 abbrev pub kindsOk : ℕ → ℕ → Bool

@@ -64,7 +64,7 @@ fn stage_of(kind: u32, first: u32, second: u32) -> Stage
         });
     }
     if kind == 4 {
-        return Stage::Headed;
+        return Stage::HeaderWritten;
     }
     if kind == 5 {
         return Stage::Committed;
@@ -168,7 +168,7 @@ fn stage_numbers(s: Stage) -> StageNumbers
             second: 0,
         },
         Stage::Due(o) => operation_numbers(o),
-        Stage::Headed => StageNumbers {
+        Stage::HeaderWritten => StageNumbers {
             kind: 4,
             first: 0,
             second: 0,

@@ -22,7 +22,7 @@ use Rattle.refusal.specs.declared.Refusal.the-variants.{Region, Turn}
 use Rattle.writer.specs.declared.Operation.{Operation}
 use Rattle.writer.specs.declared.Operation.the-variants.{Erase, Write, Compare}
 use Rattle.writer.specs.declared.Stage.{Stage}
-use Rattle.writer.specs.declared.Stage.the-variants.{Idle, Due, Headed, Committed}
+use Rattle.writer.specs.declared.Stage.the-variants.{Idle, Due, HeaderWritten, Committed}
 use Rattle.writer.specs.declared.Taken.{Taken}
 use Rattle.writer.specs.declared.Writer.{Writer}
 use Rattle.writer.specs.declared.Step.{Step}
@@ -216,7 +216,7 @@ module _ (region : List ℕ) (w : Writer) where
   stage-rest (Due (Write a n)) = refl
   stage-rest (Due (Compare a n)) = refl
   stage-rest Idle = refl
-  stage-rest Headed = refl
+  stage-rest HeaderWritten = refl
   stage-rest Committed = refl
 
   pub due-rest : with-rest w (dueStep region w) ≡ dueStep region w

@@ -15,7 +15,7 @@ use Rattle.flash.specs.Flash.{Op, erase, write, performed}
 use Rattle.writer.specs.declared.Operation.{Operation}
 use Rattle.writer.specs.declared.Operation.the-variants.{Erase, Write, Compare}
 use Rattle.writer.specs.declared.Stage.{Stage}
-use Rattle.writer.specs.declared.Stage.the-variants.{Idle, Due, Headed, Committed}
+use Rattle.writer.specs.declared.Stage.the-variants.{Idle, Due, HeaderWritten, Committed}
 use Rattle.writer.specs.declared.Taken.{Taken}
 use Rattle.writer.specs.declared.Writer.{Writer}
 use Rattle.writer.specs.declared.Answer.the-variants.{NoneDue}
@@ -32,7 +32,7 @@ opsOf tail (Due (Erase k)) = erase (k * sectorSize) ∷ []
 opsOf tail (Due (Write a n)) = write (sectorSize + a) (padded (take n tail)) ∷ []
 opsOf tail (Due (Compare a n)) = []
 opsOf tail Idle = []
-opsOf tail Headed = []
+opsOf tail HeaderWritten = []
 opsOf tail Committed = []
 
 unfoldable pub dueOps : List ℕ → Writer → List Op
@@ -67,7 +67,7 @@ operated region w (Compare a n) = withEmptied w (w .taken .different || differs 
 abbrev pub stepOf : List ℕ → Writer → Stage → Step
 stepOf region w (Due o) = did (operated region w o)
 stepOf region w Idle = record { answer = NoneDue; writer = w }
-stepOf region w Headed = record { answer = NoneDue; writer = w }
+stepOf region w HeaderWritten = record { answer = NoneDue; writer = w }
 stepOf region w Committed = record { answer = NoneDue; writer = w }
 
 -- 1, then 11 by range

@@ -213,7 +213,7 @@ fn in_stage(p: Parts, region: &mut [u8]) -> PartsStep
     match s {
         Stage::Due(o) => operate(p, region, o),
         Stage::Idle => none_due(p),
-        Stage::Headed => none_due(p),
+        Stage::HeaderWritten => none_due(p),
         Stage::Committed => none_due(p),
     }
 }

@@ -14,31 +14,31 @@ use Rattle.writer.specs.declared.Writer.{Writer}
 use Rattle.base.proofs.Bools.{and-left}
 use Rattle.writer.specs.State.{did, stays, position, isOpen, begunIn, isDue, inRange, tailSize}
 use Rattle.writer.proofs.Laws.{ranged, fill-fits, position-fits}
-use Rattle.lower.specs.Lower.{mayTake, mayBegin, withSource, sourceStep, withTable, tableStep, withEnd, endStep, withClosed, closeStep, room, withBytes, took, bytesStep}
+use Rattle.lower.specs.Lower.{mayAppend, mayBegin, withSource, sourceStep, withTable, tableStep, withEnd, endStep, withClosed, closeStep, room, withBytes, took, bytesStep}
 use Rattle.writer.specs.declared.Answer.the-variants.{Took}
 use Rattle.region.specs.Region.{capacity}
 use Rattle.base.specs.Table.{lastTable}
 use Rattle.header.specs.Header.{maxSources}
 
 module _ (w : Writer) (s : Source) where
-  pub source-done : (mayTake w && not (isOpen (w .tables))) ≡ true → w .tables .count < maxSources → did (withSource w s) ≡ sourceStep w s
+  pub source-done : (mayAppend w && not (isOpen (w .tables))) ≡ true → w .tables .count < maxSources → did (withSource w s) ≡ sourceStep w s
   unfolding sourceStep
   source-done e h = rw (e, lt-ltb (w .tables .count) 3 h)
 
-  pub source-full : (mayTake w && not (isOpen (w .tables))) ≡ true → maxSources ≤ w .tables .count → stays w Full ≡ sourceStep w s
+  pub source-full : (mayAppend w && not (isOpen (w .tables))) ≡ true → maxSources ≤ w .tables .count → stays w Full ≡ sourceStep w s
   unfolding sourceStep
   source-full e h = rw (e, le-ltb (w .tables .count) 3 h)
 
-  pub source-turn : (mayTake w && not (isOpen (w .tables))) ≡ false → stays w Turn ≡ sourceStep w s
+  pub source-turn : (mayAppend w && not (isOpen (w .tables))) ≡ false → stays w Turn ≡ sourceStep w s
   unfolding sourceStep
   source-turn e = rw e
 
 module _ (w : Writer) (t : ℕ) where
-  pub table-done : t ≤ lastTable → (mayTake w && mayBegin (w .tables) t) ≡ true → did (withTable w t) ≡ tableStep w t
+  pub table-done : t ≤ lastTable → (mayAppend w && mayBegin (w .tables) t) ≡ true → did (withTable w t) ≡ tableStep w t
   unfolding tableStep
   table-done h e = rw (le-leb t 7 h, e)
 
-  pub table-turn : t ≤ lastTable → (mayTake w && mayBegin (w .tables) t) ≡ false → stays w Turn ≡ tableStep w t
+  pub table-turn : t ≤ lastTable → (mayAppend w && mayBegin (w .tables) t) ≡ false → stays w Turn ≡ tableStep w t
   unfolding tableStep
   table-turn h e = rw (le-leb t 7 h, e)
 
@@ -47,32 +47,32 @@ module _ (w : Writer) (t : ℕ) where
   table-argument h = rw (lt-leb t 7 h)
 
 module _ (w : Writer) where
-  pub end-done : (mayTake w && isOpen (w .tables)) ≡ true → did (withEnd w) ≡ endStep w
+  pub end-done : (mayAppend w && isOpen (w .tables)) ≡ true → did (withEnd w) ≡ endStep w
   unfolding endStep
   end-done e = rw e
 
-  pub end-turn : (mayTake w && isOpen (w .tables)) ≡ false → stays w Turn ≡ endStep w
+  pub end-turn : (mayAppend w && isOpen (w .tables)) ≡ false → stays w Turn ≡ endStep w
   unfolding endStep
   end-turn e = rw e
 
-  pub close-done : (mayTake w && not (isOpen (w .tables))) ≡ true → did (withClosed w) ≡ closeStep w
+  pub close-done : (mayAppend w && not (isOpen (w .tables))) ≡ true → did (withClosed w) ≡ closeStep w
   unfolding closeStep
   close-done e = rw e
 
-  pub close-turn : (mayTake w && not (isOpen (w .tables))) ≡ false → stays w Turn ≡ closeStep w
+  pub close-turn : (mayAppend w && not (isOpen (w .tables))) ≡ false → stays w Turn ≡ closeStep w
   unfolding closeStep
   close-turn e = rw e
 
 module _ (w : Writer) (xs : List ℕ) where
-  pub bytes-took : mayTake w ≡ true → position (w .taken) + length xs ≤ capacity → took w xs ≡ bytesStep w xs
+  pub bytes-took : mayAppend w ≡ true → position (w .taken) + length xs ≤ capacity → took w xs ≡ bytesStep w xs
   unfolding bytesStep
   bytes-took e h = rw (e, le-leb (position (w .taken) + length xs) capacity h)
 
-  pub bytes-full : mayTake w ≡ true → capacity < position (w .taken) + length xs → stays w Full ≡ bytesStep w xs
+  pub bytes-full : mayAppend w ≡ true → capacity < position (w .taken) + length xs → stays w Full ≡ bytesStep w xs
   unfolding bytesStep
   bytes-full e h = rw (e, lt-leb (position (w .taken) + length xs) capacity h)
 
-  pub bytes-turn : mayTake w ≡ false → stays w Turn ≡ bytesStep w xs
+  pub bytes-turn : mayAppend w ≡ false → stays w Turn ≡ bytesStep w xs
   unfolding bytesStep
   bytes-turn e = rw e
 
@@ -86,7 +86,7 @@ module _ (w : Writer) (xs : List ℕ) where
   took-some n v e h k = rw (e, ← h) (ap (λ (x : Writer). record { answer = Took n; writer = x }) k)
 
 -- the tail and the place of a state that takes bytes
-pub takes-fits : (w : Writer) → mayTake w ≡ true → (w .taken .fill ≤ tailSize) × (position (w .taken) ≤ capacity)
+pub takes-fits : (w : Writer) → mayAppend w ≡ true → (w .taken .fill ≤ tailSize) × (position (w .taken) ≤ capacity)
 takes-fits w m = let t = ranged w (and-left (inRange w) (not (w .taken .closed)) m) .taken in (fill-fits (w .taken) t, position-fits (w .taken) t)
 
 -- a bit by a shift

@@ -50,8 +50,8 @@ unfoldable pub begun : List ℕ → Bool → ℤ → Step
 begun region comparing now = record { answer = answerOf (loaded region); writer = started (loaded region) comparing now }
 
 -- Source: notes its record; the blocks start as zero. Out of order after closing and while a table is open; a fourth is 10.
-abbrev pub mayTake : Writer → Bool
-mayTake w = inRange w && not (w .taken .closed)
+abbrev pub mayAppend : Writer → Bool
+mayAppend w = inRange w && not (w .taken .closed)
 
 abbrev pub emptied : Source → Source
 emptied s =
@@ -81,7 +81,7 @@ withSource w s =
 
 unfoldable pub sourceStep : Writer → Source → Step
 sourceStep w s =
-    pick (mayTake w && not (isOpen (w .tables)))
+    pick (mayAppend w && not (isOpen (w .tables)))
     (pick (ltb (w .tables .count) maxSources) (did (withSource w s)) (stays w Full))
     (stays w Turn)
 
@@ -104,7 +104,7 @@ withTable w t =
 unfoldable pub tableStep : Writer → ℕ → Step
 tableStep w t =
     pick (leb t lastTable)
-    (pick (mayTake w && mayBegin (w .tables) t) (did (withTable w t)) (stays w Turn))
+    (pick (mayAppend w && mayBegin (w .tables) t) (did (withTable w t)) (stays w Turn))
     (stays w Argument)
 
 -- Bytes: "takes bytes until its 256-byte tail is full and says how many; while an operation is due it takes none". All the bytes
@@ -134,7 +134,7 @@ took w xs =
 
 unfoldable pub bytesStep : Writer → List ℕ → Step
 bytesStep w xs =
-    pick (mayTake w)
+    pick (mayAppend w)
     (pick (leb (position (w .taken) + length xs) capacity) (took w xs) (stays w Full))
     (stays w Turn)
 
@@ -185,7 +185,7 @@ withEnd w =
     }
 
 unfoldable pub endStep : Writer → Step
-endStep w = pick (mayTake w && isOpen (w .tables)) (did (withEnd w)) (stays w Turn)
+endStep w = pick (mayAppend w && isOpen (w .tables)) (did (withEnd w)) (stays w Turn)
 
 -- Closing: what the tail holds is then due. Out of order twice and while a table is open.
 abbrev pub closedTaken : Taken → Taken
@@ -203,4 +203,4 @@ withClosed w =
     }
 
 unfoldable pub closeStep : Writer → Step
-closeStep w = pick (mayTake w && not (isOpen (w .tables))) (did (withClosed w)) (stays w Turn)
+closeStep w = pick (mayAppend w && not (isOpen (w .tables))) (did (withClosed w)) (stays w Turn)

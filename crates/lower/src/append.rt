@@ -10,7 +10,7 @@ ghost use Rattle.writer.specs.declared.Answer.the-variants as Answers;
 ghost use Rattle.lower.specs.Lower as Lower;
 ghost use Rattle.lower.specs.Took.{partsTook, stepTook};
 ghost use Rattle.writer.specs.State.{tailSize};
-use crate::may_take_parts;
+use crate::may_append_parts;
 use crate::room;
 use leaf::crc::crc32_both;
 use refusal::Refusal;
@@ -97,7 +97,7 @@ fn first_taken(p: Parts, bytes: &[u8], n: usize) -> Took
     }
 }
 
-fn take_some(p: Parts, bytes: &[u8]) -> Took
+fn append_some(p: Parts, bytes: &[u8]) -> Took
     requires { ⌜ p .taken .fill ≤ tailSize ⌝ }
     ensures { λ r. ⌜ (r .n ≤ length (now (bytes .entry))) × (r .at + r .n ≤ tailSize) × ((ss : List Source) → stepWith (stepTook p r (now (bytes .entry))) ss ≡ Lower.took (withSources p ss) (now (bytes .entry))) ⌝ }
 {
@@ -108,13 +108,13 @@ fn take_some(p: Parts, bytes: &[u8]) -> Took
     first_taken(p, bytes, n)
 }
 
-fn take_any(p: Parts, offered: &[u8]) -> Took
+fn append_any(p: Parts, offered: &[u8]) -> Took
     ensures { λ r. ⌜ (r .n ≤ length (now (offered .entry))) × (r .at + r .n ≤ tailSize) × ((ss : List Source) → stepWith (stepTook p r (now (offered .entry))) ss ≡ Lower.bytesStep (withSources p ss) (now (offered .entry))) ⌝ }
 {
     let t = p.taken;
-    if may_take_parts(p) {
+    if may_append_parts(p) {
         if offered.len() <= CAPACITY - (t.written + t.fill) as usize {
-            return take_some(p, offered);
+            return append_some(p, offered);
         }
         return none_taken(p, Answer::Refused(Refusal::Full));
     }
@@ -123,10 +123,10 @@ fn take_any(p: Parts, offered: &[u8]) -> Took
 
 // Takes bytes until the tail is full, and says how many; the sources, whichever they are, stay. The tail is made in one place, whatever
 // the answer, which saves copies of it.
-pub fn take_parts(p: Parts, offered: &[u8]) -> PartsStep
+pub fn append_parts(p: Parts, offered: &[u8]) -> PartsStep
     ensures { λ r. ⌜ ((ss : List Source) → stepWith r ss ≡ Lower.bytesStep (withSources p ss) (now (offered .entry))) ⌝ }
 {
-    let g = take_any(p, offered);
+    let g = append_any(p, offered);
     let n = g.n;
     let some = &offered[0..n];
     let old = p.tail;
@@ -150,7 +150,7 @@ pub fn bytes(w: Writer, offered: &[u8]) -> Step
     ensures { λ r. ⌜ r ≡ Lower.bytesStep w (now (offered .entry)) ⌝ }
 {
     let p = parts_of(w);
-    let s = take_parts(p, offered);
+    let s = append_parts(p, offered);
     let sources = w.sources;
     step_with(s, sources)
 }

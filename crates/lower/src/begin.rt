@@ -2,7 +2,7 @@
 ghost use mathlib.Core.Path.{_≡_};
 ghost use Rattle.lower.specs.Lower as Lower;
 use crate::is_open;
-use crate::may_take;
+use crate::may_append;
 use bank::Loaded;
 use bank::load;
 use header::SOURCES;
@@ -92,7 +92,7 @@ fn with_closed(w: Writer) -> Writer
 pub fn close(w: Writer) -> Step
     ensures { λ r. ⌜ r ≡ Lower.closeStep w ⌝ }
 {
-    if may_take(w) & !is_open(w.tables) {
+    if may_append(w) & !is_open(w.tables) {
         let v = with_closed(w);
         return did(v);
     }

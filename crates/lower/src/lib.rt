@@ -22,8 +22,8 @@ use writer::parts_in_range;
 use writer::parts_of;
 
 // Whether a state takes bytes, sources and tables, by its parts: the sources don't count.
-pub fn may_take_parts(p: Parts) -> bool
-    ensures { λ r. ⌜ ((ss : List Source) → r ≡ Lower.mayTake (withSources p ss)) ⌝ }
+pub fn may_append_parts(p: Parts) -> bool
+    ensures { λ r. ⌜ ((ss : List Source) → r ≡ Lower.mayAppend (withSources p ss)) ⌝ }
 {
     let b = p.beginning;
     let t = p.taken;
@@ -33,11 +33,11 @@ pub fn may_take_parts(p: Parts) -> bool
 }
 
 // Whether a state takes bytes, sources and tables.
-pub fn may_take(w: Writer) -> bool
-    ensures { λ r. ⌜ r ≡ Lower.mayTake w ⌝ }
+pub fn may_append(w: Writer) -> bool
+    ensures { λ r. ⌜ r ≡ Lower.mayAppend w ⌝ }
 {
     let p = parts_of(w);
-    may_take_parts(p)
+    may_append_parts(p)
 }
 
 pub fn is_open(s: Tables) -> bool

@@ -4,7 +4,7 @@ ghost use Prim.Native.Nat.{_<_};
 ghost use Rattle.lower.specs.Lower as Lower;
 ghost use Rattle.header.specs.Header.{maxSources};
 use crate::is_open;
-use crate::may_take;
+use crate::may_append;
 use base::table::TABLES;
 use header::SOURCES_32;
 use record::Block;
@@ -55,7 +55,7 @@ pub fn source(w: Writer, s: Source) -> Step
     ensures { λ r. ⌜ r ≡ Lower.sourceStep w s ⌝ }
 {
     let x = w.tables;
-    if may_take(w) & !is_open(x) {
+    if may_append(w) & !is_open(x) {
         if x.count < SOURCES_32 {
             let v = with_source(w, s);
             return did(v);

@@ -4,8 +4,8 @@ ghost use Prim.Native.Nat.{_≤_};
 ghost use Rattle.writer.specs.State as State;
 ghost use Rattle.lower.specs.Lower as Lower;
 use crate::is_open;
+use crate::may_append;
 use crate::may_begin;
-use crate::may_take;
 use record::Block;
 use record::Source;
 use refusal::Refusal;
@@ -42,7 +42,7 @@ pub fn table(w: Writer, table: u32) -> Step
     ensures { λ r. ⌜ r ≡ Lower.tableStep w table ⌝ }
 {
     if table <= LAST_TABLE {
-        if may_take(w) & may_begin(w.tables, table) {
+        if may_append(w) & may_begin(w.tables, table) {
             let v = with_table(w, table);
             return did(v);
         }
@@ -91,7 +91,7 @@ fn with_end(w: Writer) -> Writer
 pub fn end(w: Writer) -> Step
     ensures { λ r. ⌜ r ≡ Lower.endStep w ⌝ }
 {
-    if may_take(w) & is_open(w.tables) {
+    if may_append(w) & is_open(w.tables) {
         let v = with_end(w);
         return did(v);
     }

@@ -21,7 +21,7 @@ pub enum Phase {
     Key,
     Table,
     Closed,
-    Headed,
+    HeaderWritten,
     Over,
 }
 
@@ -184,7 +184,7 @@ fn header(u: Update, region: &mut [u8]) -> Update {
     let a = s.answer;
     Update {
         writer,
-        phase: Phase::Headed,
+        phase: Phase::HeaderWritten,
         operations: wrapping_add_u32(u.operations, 1),
         flash: true,
         right: u.right & done(a),
@@ -263,7 +263,7 @@ pub fn step(u: Update, region: &mut [u8], data: &[u8]) -> Update {
         Phase::Key => in_key(u, data),
         Phase::Table => in_table(u, data),
         Phase::Closed => closed(u, region),
-        Phase::Headed => word(u, region),
+        Phase::HeaderWritten => word(u, region),
         Phase::Over => u,
     }
 }
@@ -291,7 +291,7 @@ fn commit_span(u: Update, bank: usize) -> Span {
                 torn::header(bank)
             }
         }
-        Phase::Headed => torn::word(bank),
+        Phase::HeaderWritten => torn::word(bank),
         _ => no_operation(),
     }
 }

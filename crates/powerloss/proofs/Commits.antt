@@ -42,7 +42,7 @@ use Rattle.bank.specs.Bank.{validated, dataOk, generation, orElse, loaded}
 use Rattle.flash.specs.Flash.{write, done, torn, applied}
 use Rattle.flash.proofs.Laws.{length-bank, length-applied, write-past}
 use Rattle.writer.specs.declared.Stage.{Stage}
-use Rattle.writer.specs.declared.Stage.the-variants.{Idle, Due, Headed, Committed}
+use Rattle.writer.specs.declared.Stage.the-variants.{Idle, Due, HeaderWritten, Committed}
 use Rattle.writer.specs.declared.Writer.{Writer}
 use Rattle.writer.specs.State.{position, target, nextGeneration, keyLength, inRange, activeOk, did, stays}
 use Rattle.writer.proofs.Laws.{Ranged, ranged, position-fits, count-fits}
@@ -50,7 +50,7 @@ use Rattle.lower.specs.Lower.{pastEnd}
 use Rattle.due.specs.Due.{withStage}
 use Rattle.commit.specs.declared.Stamp.{Stamp}
 use Rattle.commit.specs.declared.Stamp.the-variants.{Given, Missing}
-use Rattle.commit.specs.Commit.{checkedTime, routesOffset, bankFor, recordsFor, isIdle, isHeaded, mayCommit, isCurrent, commitStep, commitOps}
+use Rattle.commit.specs.Commit.{checkedTime, routesOffset, bankFor, recordsFor, isIdle, isHeaderWritten, mayCommit, isCurrent, commitStep, commitOps}
 use Rattle.run.specs.Run.{commit}
 use Rattle.powerloss.specs.History.{Update, bankOf as bankFrom, recordsOf, recordsAfter, checks, updateAfter}
 use Rattle.powerloss.specs.Machine.{Image}
@@ -78,14 +78,14 @@ checked-fits Missing now f g = g
 pub is-idle : (st : Stage) → isIdle st ≡ true → st ≡ Idle
 is-idle Idle e = refl
 is-idle (Due o) e = absurd (false≢true e)
-is-idle Headed e = absurd (false≢true e)
+is-idle HeaderWritten e = absurd (false≢true e)
 is-idle Committed e = absurd (false≢true e)
 
-pub is-headed : (st : Stage) → isHeaded st ≡ true → st ≡ Headed
-is-headed Headed e = refl
-is-headed Idle e = absurd (false≢true e)
-is-headed (Due o) e = absurd (false≢true e)
-is-headed Committed e = absurd (false≢true e)
+pub is-header-written : (st : Stage) → isHeaderWritten st ≡ true → st ≡ HeaderWritten
+is-header-written HeaderWritten e = refl
+is-header-written Idle e = absurd (false≢true e)
+is-header-written (Due o) e = absurd (false≢true e)
+is-header-written Committed e = absurd (false≢true e)
 
 fit-span : (b : Bank) (ss : List Source) → isFit b ss ≡ true → spanOk b ≡ true
 fit-span b ss f = and-left (spanOk b) (each (sourceOk b) ss) (sym (judge-is b ss) ∙ fit-passes b ss f)
@@ -164,7 +164,7 @@ laid-only wr fl tail d b n (inr h) = h .0
 module _ (region : List ℕ) (hd : Loaded) (rs : List Source) (im : Image) (w : Writer) (u : Update) (k : Kept region hd rs im) (o : Open region hd w u) where
   module _ (stamp : Stamp) (current : Bool) (ty : StampTyped stamp) where
     write-head : mayCommit w ≡ true → isCurrent w current ≡ true → isFit (bankFor w stamp) (recordsFor w) ≡ true
-        → Carried (write 0 (headerBytes (bankFor w stamp) (recordsFor w) blankWord) ∷ []) (target (w .beginning .active)) region hd rs im (withStage w Headed) (checks (checkedTime stamp (u .now)) u)
+        → Carried (write 0 (headerBytes (bankFor w stamp) (recordsFor w) blankWord) ∷ []) (target (w .beginning .active)) region hd rs im (withStage w HeaderWritten) (checks (checkedTime stamp (u .now)) u)
     write-head e g f =
         let t = w .taken in
         let a = w .beginning .active in
@@ -189,19 +189,19 @@ module _ (region : List ℕ) (hd : Loaded) (rs : List Source) (im : Image) (w : 
         let ri = records-is region hd w u o in
         let r′ = applied (target a) op region in
         let rg = own region hd w u o in
-        one-op (target a) region hd rs im (withStage w Headed) u′ k op
+        one-op (target a) region hd rs im (withStage w HeaderWritten) u′ k op
         (λ j. kept-unmarked-at region hd a rs im k (m .0) op j (head-unmarked 0 sectorSize (t .written) (t .fill) (w .tail) (u .data·) b h j bk ss))
         (record {
           tied =
               record {
-                range = range-of (withStage w Headed) (rg .active) (rg .taken) (rg .tables) (headed-of (w .beginning .comparing) t wr cl z);
+                range = range-of (withStage w HeaderWritten) (rg .active) (rg .taken) (rg .tables) (headed-of (w .beginning .comparing) t wr cl z);
                 began = o .tied .began;
                 counted = o .tied .counted;
                 noted = o .tied .noted;
                 tailed = o .tied .tailed;
               };
           mode =
-              subst (λ (x : Bool). Mode x Headed r′ hd a t (w .tail) u′) (sym wr) (
+              subst (λ (x : Bool). Mode x HeaderWritten r′ hd a t (w .tail) u′) (sym wr) (
                 live-at region hd a rs im k (m .0) op,
                 record {
                   rest = hl .0;
@@ -216,8 +216,8 @@ module _ (region : List ℕ) (hd : Loaded) (rs : List Source) (im : Image) (w : 
 
     commit-by : (b c d : Bool) → mayCommit w ≡ b → isCurrent w current ≡ c → isFit (bankFor w stamp) (recordsFor w) ≡ d
         → Carried (pick (b && (c && d)) (write 0 (headerBytes (bankFor w stamp) (recordsFor w) blankWord) ∷ []) []) (target (w .beginning .active)) region hd rs im
-        (pick b (pick c (pick d (did (withStage w Headed)) (stays w Unfit)) (stays w Obsolete)) (stays w Turn) .writer)
-        (updateAfter (commit stamp current) (pick b (pick c (pick d (did (withStage w Headed)) (stays w Unfit)) (stays w Obsolete)) (stays w Turn) .answer) u)
+        (pick b (pick c (pick d (did (withStage w HeaderWritten)) (stays w Unfit)) (stays w Obsolete)) (stays w Turn) .writer)
+        (updateAfter (commit stamp current) (pick b (pick c (pick d (did (withStage w HeaderWritten)) (stays w Unfit)) (stays w Obsolete)) (stays w Turn) .answer) u)
     unfolding updateAfter
     commit-by true true true e g f = write-head e g f
     commit-by true true false e g f = no-ops (target (w .beginning .active)) region hd rs im w u k o
@@ -267,12 +267,12 @@ follows region (NotRead r) l ok s e g = absurd (false≢true ok)
 
 module _ (region : List ℕ) (hd : Loaded) (rs : List Source) (im : Image) (w : Writer) (u : Update) (k : Kept region hd rs im) (o : Open region hd w u) where
   -- what the word's write leaves
-  module _ (e : w .stage ≡ Headed) where
+  module _ (e : w .stage ≡ HeaderWritten) where
     ended : AtEnd (w .beginning .comparing) (w .taken)
-    ended = headed-end (w .beginning .comparing) (w .taken) (stage-is region hd rs im w u k o Headed e)
+    ended = headed-end (w .beginning .comparing) (w .taken) (stage-is region hd rs im w u k o HeaderWritten e)
 
-    place : Mode false Headed region hd (w .beginning .active) (w .taken) (w .tail) u
-    place = seen region hd rs im w u k o false Headed (ended .writing) e
+    place : Mode false HeaderWritten region hd (w .beginning .active) (w .taken) (w .tail) u
+    place = seen region hd rs im w u k o false HeaderWritten (ended .writing) e
 
     n : ℕ
     n = target (w .beginning .active)
@@ -386,7 +386,7 @@ module _ (region : List ℕ) (hd : Loaded) (rs : List Source) (im : Image) (w : 
               record {
                 range =
                     range-of (withStage w Committed) (rg .active) (rg .taken) (rg .tables)
-                    (committed-of (w .beginning .comparing) (w .taken) (stage-is region hd rs im w u k o Headed e));
+                    (committed-of (w .beginning .comparing) (w .taken) (stage-is region hd rs im w u k o HeaderWritten e));
                 began = o .tied .began;
                 counted = o .tied .counted;
                 noted = o .tied .noted;

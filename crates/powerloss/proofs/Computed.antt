@@ -35,7 +35,7 @@ use Rattle.flash.specs.Flash.{Op, erase, write, withBank, torn, performed}
 use Rattle.flash.proofs.Laws.{length-performed, torn-first}
 use Rattle.writer.specs.declared.Operation.the-variants.{Erase, Write}
 use Rattle.writer.specs.declared.Stage.{Stage}
-use Rattle.writer.specs.declared.Stage.the-variants.{Idle, Due, Headed, Committed}
+use Rattle.writer.specs.declared.Stage.the-variants.{Idle, Due, HeaderWritten, Committed}
 use Rattle.writer.specs.declared.Taken.{Taken}
 use Rattle.writer.specs.declared.Tables.{Tables}
 use Rattle.writer.specs.declared.Answer.{Answer}
@@ -129,7 +129,7 @@ module _ (hd : Loaded) (ok : activeOk hd ≡ true) (region : List ℕ) (ss : Lis
     unfolding lowerStep lowerOps dueStep dueOps operated inRange takenOk tablesOk stageOk operationOk isDue
     does-write = rw (eq-eqb (length region) regionSize l, ok) (refl, refl)
 
-    does-word : Does word region (st hd Headed (tk 12 0 a true) (tb 1 8 9 b 1) ss tail) Done (st hd Committed (tk 12 0 a true) (tb 1 8 9 b 1) ss tail) (write commitOffset commitBytes ∷ [])
+    does-word : Does word region (st hd HeaderWritten (tk 12 0 a true) (tb 1 8 9 b 1) ss tail) Done (st hd Committed (tk 12 0 a true) (tb 1 8 9 b 1) ss tail) (write commitOffset commitBytes ∷ [])
     unfolding lowerStep lowerOps wordStep wordOps inRange takenOk tablesOk stageOk isDue
     does-word = rw (eq-eqb (length region) regionSize l, ok) (refl, refl)
 
@@ -144,7 +144,7 @@ abbrev ready : Loaded → List ℕ → ℕ → ℕ → Writer
 ready hd tail a b = st hd Idle (tk 12 0 a true) (tb 1 8 9 b 1) (sources2 b) tail
 
 abbrev headed : Loaded → List ℕ → ℕ → ℕ → Writer
-headed hd tail a b = st hd Headed (tk 12 0 a true) (tb 1 8 9 b 1) (sources2 b) tail
+headed hd tail a b = st hd HeaderWritten (tk 12 0 a true) (tb 1 8 9 b 1) (sources2 b) tail
 
 abbrev header : Loaded → List ℕ → ℕ → ℕ → List Op
 header hd tail a b = write 0 (headerBytes (bankFor (ready hd tail a b) Missing) (recordsFor (ready hd tail a b)) blankWord) ∷ []

@@ -17,7 +17,7 @@ use Rattle.header.specs.WriteHeader.{headerBytes, blankWord, commitBytes, isFit
 use Rattle.flash.specs.Flash.{Op, write}
 use Rattle.writer.specs.declared.Operation.the-variants.{Erase, Write, Compare}
 use Rattle.writer.specs.declared.Stage.{Stage}
-use Rattle.writer.specs.declared.Stage.the-variants.{Idle, Due, Headed, Committed}
+use Rattle.writer.specs.declared.Stage.the-variants.{Idle, Due, HeaderWritten, Committed}
 use Rattle.writer.specs.declared.Answer.the-variants.{Took, Same, Different}
 use Rattle.writer.specs.declared.Taken.{Taken}
 use Rattle.writer.specs.declared.Beginning.{Beginning}
@@ -25,15 +25,15 @@ use Rattle.writer.specs.declared.Writer.{Writer}
 use Rattle.writer.specs.declared.Step.{Step}
 use Rattle.writer.specs.State.{isDue, writeDue, dataDue, firstDue, stageOf, isOpen, operationOk, inRange, takenOk, stageOk, did, stays, tailSize}
 use Rattle.writer.proofs.Laws.{Ranged, ranged, fill-fits}
-use Rattle.lower.specs.Lower.{mayTake, mayBegin, withSource, sourceStep, withTable, tableStep, room, takenMore, withBytes, took, bytesStep, withEnd, endStep, closedTaken, withClosed, closeStep}
+use Rattle.lower.specs.Lower.{mayAppend, mayBegin, withSource, sourceStep, withTable, tableStep, room, takenMore, withBytes, took, bytesStep, withEnd, endStep, closedTaken, withClosed, closeStep}
 use Rattle.due.specs.Due.{opsOf, operated, withStage, stepOf, dueStep}
 use Rattle.commit.specs.declared.Stamp.{Stamp}
-use Rattle.commit.specs.Commit.{bankFor, recordsFor, isIdle, isHeaded, mayCommit, isCurrent, commitStep, commitOps, wordStep, wordOps}
+use Rattle.commit.specs.Commit.{bankFor, recordsFor, isIdle, isHeaderWritten, mayCommit, isCurrent, commitStep, commitOps, wordStep, wordOps}
 use Rattle.commit.specs.Unchanged.{mayAsk, isUnchanged, unchangedStep}
 use Rattle.run.specs.Run.{Lower, source, table, bytes, end, close, due, unchanged, commit, word, lowerStep, lowerOps}
 use Rattle.powerloss.proofs.Range.{tail-aligned, due-fill, due-ok, erase-zero, erase-data, headed-end}
 use Rattle.powerloss.proofs.Quiet.{only-idle}
-use Rattle.powerloss.proofs.Commits.{is-idle, is-headed, fit-length}
+use Rattle.powerloss.proofs.Commits.{is-idle, is-header-written, fit-length}
 use Rattle.powerloss.specs.Operations.{sectors, writes}
 use Rattle.powerloss.proofs.Exactly.{compare-ops, ops-are}
 use Rattle.header.specs.Header.{commitOffset}
@@ -45,12 +45,12 @@ soFar (Due (Erase zero)) n = 0
 soFar (Due (Erase (suc k))) n = 1 + sectors n + writes n
 soFar (Due (Write a m)) n = 2 + n / sectorSize + writes n
 soFar (Due (Compare a m)) n = 0
-soFar Headed n = min n 1 + sectors n + writes n + 1
+soFar HeaderWritten n = min n 1 + sectors n + writes n + 1
 soFar Committed n = min n 1 + sectors n + writes n + 2
 
 -- a header is written for one byte or more
 abbrev Some : Stage → ℕ → Type 0
-Some Headed n = 1 ≤ n
+Some HeaderWritten n = 1 ≤ n
 Some Committed n = 1 ≤ n
 Some Idle n = Unit {0}
 Some (Due o) n = Unit {0}
@@ -132,7 +132,7 @@ module _ (region : List ℕ) (w : Writer) (ops m : ℕ) (tk : takenOk (w .taken)
       → Tally false (stageAfter region w st) (writtenAfter region w st) m
   unfolding operated dataDue
   did-tally Idle k e h q = subst (λ (s : Stage). Tally false s (w .taken .written) m) (sym e) (same-tally false Idle (w .taken .written) ops m q h)
-  did-tally Headed k e h q = subst (λ (s : Stage). Tally false s (w .taken .written) m) (sym e) (same-tally false Headed (w .taken .written) ops m q h)
+  did-tally HeaderWritten k e h q = subst (λ (s : Stage). Tally false s (w .taken .written) m) (sym e) (same-tally false HeaderWritten (w .taken .written) ops m q h)
   did-tally Committed k e h q = subst (λ (s : Stage). Tally false s (w .taken .written) m) (sym e) (same-tally false Committed (w .taken .written) ops m q h)
   did-tally (Due (Erase zero)) k e h q =
       erased (erase-zero (w .taken) (due-ok false (w .taken) (Erase 0) k .1)) (omega (arith, h .0)) (eqb (w .taken .written % sectorSize) 0) refl
@@ -153,7 +153,7 @@ same-beginning region w Idle = refl
 same-beginning region w (Due (Erase k)) = refl
 same-beginning region w (Due (Write a n)) = refl
 same-beginning region w (Due (Compare a n)) = refl
-same-beginning region w Headed = refl
+same-beginning region w HeaderWritten = refl
 same-beginning region w Committed = refl
 
 -- ---- each call
@@ -187,35 +187,35 @@ module _ (region : List ℕ) (w : Writer) (ops m : ℕ) (l : length region ≡ r
   unchanged-tally true false c e = quiet e
   unchanged-tally false b c e = quiet e
 
-  open-of : mayTake w ≡ true → w .taken .closed ≡ false
+  open-of : mayAppend w ≡ true → w .taken .closed ≡ false
   open-of e = not-true (w .taken .closed) (and-right (inRange w) (not (w .taken .closed)) e)
 
   -- nothing was due
-  none-due : mayTake w ≡ true → isDue (w .taken) ≡ false → m ≡ ops + 0 → Tally (w .beginning .comparing) Idle (w .taken .written) m
+  none-due : mayAppend w ≡ true → isDue (w .taken) ≡ false → m ≡ ops + 0 → Tally (w .beginning .comparing) Idle (w .taken .written) m
   none-due e d q =
       subst (λ (s : Stage). Tally (w .beginning .comparing) s (w .taken .written) m)
       (only-idle (w .beginning .comparing) (w .taken) (w .stage) (own .stage) (open-of e) d) (quiet q)
 
-  took-tally : (n : ℕ) (xs : List ℕ) (d : Bool) → mayTake w ≡ true → isDue (w .taken) ≡ d → m ≡ ops + 0
+  took-tally : (n : ℕ) (xs : List ℕ) (d : Bool) → mayAppend w ≡ true → isDue (w .taken) ≡ d → m ≡ ops + 0
       → TallyOf m (pick {A = Step} d (record { answer = Took 0; writer = w }) (record { answer = Took n; writer = withBytes w (take n xs) }) .writer)
   unfolding withBytes
   took-tally n xs true e d q = quiet q
   took-tally n xs false e d q = stage-tally (w .beginning .comparing) (takenMore (w .taken) (take n xs)) m (none-due e d q)
 
-  bytes-tally : (xs : List ℕ) (a f : Bool) → mayTake w ≡ a → m ≡ ops + 0 → TallyOf m (pick a (pick f (took w xs) (stays w Full)) (stays w Turn) .writer)
+  bytes-tally : (xs : List ℕ) (a f : Bool) → mayAppend w ≡ a → m ≡ ops + 0 → TallyOf m (pick a (pick f (took w xs) (stays w Full)) (stays w Turn) .writer)
   unfolding took
   bytes-tally xs true true e q = took-tally (room (w .taken) (length xs)) xs (isDue (w .taken)) e refl q
   bytes-tally xs true false e q = quiet q
   bytes-tally xs false f e q = quiet q
 
-  shut-tally : (d : Bool) → mayTake w ≡ true → isDue (w .taken) ≡ d → m ≡ ops + 0
+  shut-tally : (d : Bool) → mayAppend w ≡ true → isDue (w .taken) ≡ d → m ≡ ops + 0
       → Tally (w .beginning .comparing) (pick d (w .stage) (stageOf (w .beginning .comparing) (closedTaken (w .taken)))) (w .taken .written) m
   shut-tally true e d q = quiet q
   shut-tally false e d q = stage-tally (w .beginning .comparing) (closedTaken (w .taken)) m (none-due e d q)
 
-  close-tally : (a : Bool) → (mayTake w && not (isOpen (w .tables))) ≡ a → m ≡ ops + 0 → TallyOf m (pick a (did (withClosed w)) (stays w Turn) .writer)
+  close-tally : (a : Bool) → (mayAppend w && not (isOpen (w .tables))) ≡ a → m ≡ ops + 0 → TallyOf m (pick a (did (withClosed w)) (stays w Turn) .writer)
   unfolding withClosed
-  close-tally true e q = shut-tally (isDue (w .taken)) (and-left (mayTake w) (not (isOpen (w .tables))) e) refl q
+  close-tally true e q = shut-tally (isDue (w .taken)) (and-left (mayAppend w) (not (isOpen (w .tables))) e) refl q
   close-tally false e q = quiet q
 
   done-tally : m ≡ ops + length (opsOf (w .tail) (w .stage)) → TallyOf m (dueStep region w .writer)
@@ -226,26 +226,26 @@ module _ (region : List ℕ) (w : Writer) (ops m : ℕ) (l : length region ≡ r
       (step-tally region w ops m (own .taken) (w .beginning .comparing) (w .stage) (own .stage) refl h q))
 
   -- commit's two writes
-  head-tally : (stamp : Stamp) (current : Bool) → mayCommit w ≡ true → isCurrent w current ≡ true → isFit (bankFor w stamp) (recordsFor w) ≡ true → m ≡ ops + 1 → TallyOf m (withStage w Headed)
+  head-tally : (stamp : Stamp) (current : Bool) → mayCommit w ≡ true → isCurrent w current ≡ true → isFit (bankFor w stamp) (recordsFor w) ≡ true → m ≡ ops + 1 → TallyOf m (withStage w HeaderWritten)
   head-tally stamp current a b f q =
       let i = is-idle (w .stage) (and-right (w .taken .closed) (isIdle (w .stage)) (and-right (inRange w) (w .taken .closed && isIdle (w .stage)) a)) in
       let c = not-true (w .beginning .comparing) (and-left (not (w .beginning .comparing)) current b) in
       let g = subst (λ (x : Bool). Tally x Idle (w .taken .written) ops) c (subst (λ (s : Stage). Tally (w .beginning .comparing) s (w .taken .written) ops) i h) in
-      subst (λ (x : Bool). Tally x Headed (w .taken .written) m) (sym c) (omega (arith, g .0), fit-length w stamp f)
+      subst (λ (x : Bool). Tally x HeaderWritten (w .taken .written) m) (sym c) (omega (arith, g .0), fit-length w stamp f)
 
   commit-tally : (stamp : Stamp) (current : Bool) (x : Op) (a b f : Bool) → mayCommit w ≡ a → isCurrent w current ≡ b → isFit (bankFor w stamp) (recordsFor w) ≡ f
       → m ≡ ops + length (pick (a && (b && f)) (x ∷ []) [])
-      → TallyOf m (pick a (pick b (pick f (did (withStage w Headed)) (stays w Unfit)) (stays w Obsolete)) (stays w Turn) .writer)
+      → TallyOf m (pick a (pick b (pick f (did (withStage w HeaderWritten)) (stays w Unfit)) (stays w Obsolete)) (stays w Turn) .writer)
   commit-tally stamp current x true true true e g f q = head-tally stamp current e g f q
   commit-tally stamp current x true true false e g f q = quiet q
   commit-tally stamp current x true false z e g f q = quiet q
   commit-tally stamp current x false y z e g f q = quiet q
 
-  word-tally : (x : Op) (b : Bool) → isHeaded (w .stage) ≡ b → m ≡ ops + length (pick b (x ∷ []) []) → TallyOf m (pick b (did (withStage w Committed)) (stays w Turn) .writer)
+  word-tally : (x : Op) (b : Bool) → isHeaderWritten (w .stage) ≡ b → m ≡ ops + length (pick b (x ∷ []) []) → TallyOf m (pick b (did (withStage w Committed)) (stays w Turn) .writer)
   word-tally x true e q =
-      let i = is-headed (w .stage) e in
+      let i = is-header-written (w .stage) e in
       let c = headed-end (w .beginning .comparing) (w .taken) (ap (stageOk (w .beginning .comparing) (w .taken)) (sym i) ∙ own .stage) .writing in
-      let g = subst (λ (x : Bool). Tally x Headed (w .taken .written) ops) c (subst (λ (s : Stage). Tally (w .beginning .comparing) s (w .taken .written) ops) i h) in
+      let g = subst (λ (x : Bool). Tally x HeaderWritten (w .taken .written) ops) c (subst (λ (s : Stage). Tally (w .beginning .comparing) s (w .taken .written) ops) i h) in
       subst (λ (x : Bool). Tally x Committed (w .taken .written) m) (sym c) (omega (arith, g .0), g .1)
   word-tally x false e q = quiet q
 
@@ -260,15 +260,15 @@ module _ (region : List ℕ) (w : Writer) (ops m : ℕ) (l : length region ≡ r
   unfolding wordStep wordOps
   word-at q =
       let e = eq-eqb (length region) regionSize l in
-      rw (e, r) (word-tally (write commitOffset commitBytes) (isHeaded (w .stage)) refl (rw (e, r) at q))
+      rw (e, r) (word-tally (write commitOffset commitBytes) (isHeaderWritten (w .stage)) refl (rw (e, r) at q))
 
   pub call-tally : (c : Lower) → m ≡ ops + length (lowerOps region w c) → TallyOf m (lowerStep region w c .writer)
   unfolding lowerStep lowerOps
-  call-tally (source s) q = unfold sourceStep in (source-tally s (mayTake w && not (isOpen (w .tables))) (ltb (w .tables .count) 3) q)
-  call-tally (table t) q = unfold tableStep in (table-tally t (leb t 7) (mayTake w && mayBegin (w .tables) t) q)
-  call-tally (bytes xs) q = unfold bytesStep in (bytes-tally xs (mayTake w) (leb (w .taken .written + w .taken .fill + length xs) capacity) refl q)
-  call-tally end q = unfold endStep in (end-tally (mayTake w && isOpen (w .tables)) q)
-  call-tally close q = unfold closeStep in (close-tally (mayTake w && not (isOpen (w .tables))) refl q)
+  call-tally (source s) q = unfold sourceStep in (source-tally s (mayAppend w && not (isOpen (w .tables))) (ltb (w .tables .count) 3) q)
+  call-tally (table t) q = unfold tableStep in (table-tally t (leb t 7) (mayAppend w && mayBegin (w .tables) t) q)
+  call-tally (bytes xs) q = unfold bytesStep in (bytes-tally xs (mayAppend w) (leb (w .taken .written + w .taken .fill + length xs) capacity) refl q)
+  call-tally end q = unfold endStep in (end-tally (mayAppend w && isOpen (w .tables)) q)
+  call-tally close q = unfold closeStep in (close-tally (mayAppend w && not (isOpen (w .tables))) refl q)
   call-tally due q = done-tally (q ∙ ap (λ (xs : List Op). ops + length xs) (ops-are region w l r))
   call-tally unchanged q = unfold unchangedStep in (unchanged-tally (eqb (length region) regionSize) (mayAsk w) (isUnchanged region w (w .beginning .active)) q)
   call-tally (commit stamp current) q = commit-at stamp current q

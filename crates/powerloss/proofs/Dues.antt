@@ -20,7 +20,7 @@ use Rattle.flash.proofs.Laws.{length-bank, bank-applied, torn-none, cut-first}
 use Rattle.writer.specs.declared.Operation.{Operation}
 use Rattle.writer.specs.declared.Operation.the-variants.{Erase, Write, Compare}
 use Rattle.writer.specs.declared.Stage.{Stage}
-use Rattle.writer.specs.declared.Stage.the-variants.{Idle, Due, Headed, Committed}
+use Rattle.writer.specs.declared.Stage.the-variants.{Idle, Due, HeaderWritten, Committed}
 use Rattle.writer.specs.declared.Answer.{Answer}
 use Rattle.writer.specs.declared.Answer.the-variants.{Done, Took, NoneDue, Same, Different, Refused}
 use Rattle.writer.specs.declared.Taken.{Taken}
@@ -229,7 +229,7 @@ module _ (region : List ℕ) (hd : Loaded) (rs : List Source) (im : Image) (w : 
   on-stage : (st : Stage) → w .stage ≡ st → Carried (opsOf (w .tail) st) (target (w .beginning .active)) region hd rs im (stepOf region w st .writer) u
   on-stage Idle f = no-ops (target (w .beginning .active)) region hd rs im w u k o
   on-stage (Due p) f = operation p f
-  on-stage Headed f = no-ops (target (w .beginning .active)) region hd rs im w u k o
+  on-stage HeaderWritten f = no-ops (target (w .beginning .active)) region hd rs im w u k o
   on-stage Committed f = no-ops (target (w .beginning .active)) region hd rs im w u k o
 
   pub due-is : dueStep region w ≡ stepOf region w (w .stage)

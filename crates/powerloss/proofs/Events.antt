@@ -25,7 +25,7 @@ use Rattle.writer.specs.State.{position, inRange, stageOk}
 use Rattle.writer.proofs.Laws.{ranged}
 use Rattle.lower.specs.Lower.{started, begun}
 use Rattle.run.specs.Run.{Lower, lowerStep, lowerOps, lowerRegion, ranWriter, ranOps}
-use Rattle.run.specs.Feed.{feed}
+use Rattle.run.specs.Appends.{appends}
 use Rattle.upper.specs.Upper.{Upper, runOf, refusalOf, runIf, upperRun, answered, upperStep, upperOps, beginRefusal, keyBytes, beginRun, beganWith, beginStep, beginOps}
 use Rattle.powerloss.specs.History.{Update, opened, takes, updateAfter, isDone}
 use Rattle.powerloss.specs.Machine.{Image, Event, begin, beginCut, call, cut, beginKey, beginKeyCut, upper, upperCut, Run, onCall, onCut, onUpper, onUpperCut, stateAfter, found, next, nextAll}
@@ -35,7 +35,7 @@ use Rattle.powerloss.proofs.Range.{committed-end}
 use Rattle.powerloss.proofs.Lowers.{plain-call, Inv, mk, inv-call, begun-open}
 use Rattle.powerloss.proofs.Texts.{bytes-key}
 use Rattle.powerloss.proofs.Runs.{AllPlain}
-use Rattle.powerloss.proofs.Uppers.{plain-feed, plain-run, done-by, inv-next, inv-all, inv-found}
+use Rattle.powerloss.proofs.Uppers.{plain-appends, plain-run, done-by, inv-next, inv-all, inv-found}
 use Rattle.powerloss.proofs.States.{reached}
 use Rattle.powerloss.specs.Operations.{sectors, writes, operationsOf, startedBy, callOps, upperCallOps, since, opsAfter, Counted, CommittedOperations, ComparingOperations, AllLower, LowerOperations}
 use Rattle.powerloss.proofs.Count.{soFar, Tally, TallyOf, same-tally, call-tally}
@@ -82,12 +82,12 @@ module _ (region : List ℕ) (hd : Loaded) (rs : List Source) (im : Image) (k : 
   abbrev key : List ℕ
   key = keyBytes identity texts lengths
 
-  key-by : (x : Option Refusal) → beganWith x (ranWriter region w0 (runIf x (feed key))) comparing now .answer ≡ Done
-      → TallyOf (length (ranOps region w0 (runIf x (feed key)))) (beganWith x (ranWriter region w0 (runIf x (feed key))) comparing now .writer)
+  key-by : (x : Option Refusal) → beganWith x (ranWriter region w0 (runIf x (appends key))) comparing now .answer ≡ Done
+      → TallyOf (length (ranOps region w0 (runIf x (appends key)))) (beganWith x (ranWriter region w0 (runIf x (appends key))) comparing now .writer)
   key-by none e =
-      ran-tally (feed key) region hd rs im w0 (takes [] (opened hd now)) (plain-feed key (bytes-key identity texts lengths bi bt)) k
+      ran-tally (appends key) region hd rs im w0 (takes [] (opened hd now)) (plain-appends key (bytes-key identity texts lengths bi bt)) k
       (begun-open region hd rs im comparing now f k (done-by region hd (k .size) (k .loads)))
-      0 (length (ranOps region w0 (feed key))) (first-tally comparing hd now) (omega arith)
+      0 (length (ranOps region w0 (appends key))) (first-tally comparing hd now) (omega arith)
   key-by (some r) e = absurd (false≢true (ap isDone e))
 
   key-tally : beginStep region comparing now identity texts lengths .answer ≡ Done

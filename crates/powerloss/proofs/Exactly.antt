@@ -13,7 +13,7 @@ use Rattle.region.specs.Region.{regionSize}
 use Rattle.base.proofs.Bools.{and-left, and-right}
 use Rattle.writer.specs.declared.Operation.the-variants.{Erase, Write, Compare}
 use Rattle.writer.specs.declared.Stage.{Stage}
-use Rattle.writer.specs.declared.Stage.the-variants.{Idle, Due, Headed, Committed}
+use Rattle.writer.specs.declared.Stage.the-variants.{Idle, Due, HeaderWritten, Committed}
 use Rattle.writer.specs.declared.Answer.the-variants.{Done, NoneDue}
 use Rattle.writer.specs.declared.Taken.{Taken}
 use Rattle.writer.specs.declared.Writer.{Writer}
@@ -23,7 +23,7 @@ use Rattle.due.specs.Due.{opsOf, dueOps, stepOf, dueStep}
 use Rattle.powerloss.specs.History.{isDone}
 use Rattle.powerloss.specs.Machine.{found, nextAll}
 use Rattle.powerloss.proofs.Range.{or-true, true-false, due-ok, headed-end, committed-end, idle-due}
-use Rattle.powerloss.proofs.Feeds.{empty-due}
+use Rattle.powerloss.proofs.Appends.{empty-due}
 use Rattle.powerloss.proofs.Uppers.{inv-found, inv-all}
 use Rattle.powerloss.proofs.States.{reached}
 use Rattle.powerloss.specs.Operations.{Unwritten, Exactly, DueExactly}
@@ -52,7 +52,7 @@ not-due t false e n = e
 answer-is : (region : List ℕ) (w : Writer) (c : Bool) (st : Stage) → stageOk c (w .taken) st ≡ true → stepOf region w st .answer ≡ pick (isDue (w .taken)) Done NoneDue
 answer-is region w c Idle k = rw (idle-due c (w .taken) k)
 answer-is region w c (Due o) k = rw (due-ok c (w .taken) o k .0)
-answer-is region w c Headed k = rw (empty-due (w .taken) (headed-end c (w .taken) k .empty))
+answer-is region w c HeaderWritten k = rw (empty-due (w .taken) (headed-end c (w .taken) k .empty))
 answer-is region w c Committed k = rw (empty-due (w .taken) (committed-end c (w .taken) k .empty))
 
 pub compare-ops : (t : Taken) (tail : List ℕ) (st : Stage) → stageOk true t st ≡ true → opsOf tail st ≡ []
@@ -61,7 +61,7 @@ compare-ops t tail Idle k = refl
 compare-ops t tail (Due (Erase n)) k = absurd (false≢true (due-ok true t (Erase n) k .1))
 compare-ops t tail (Due (Write a n)) k = absurd (false≢true (due-ok true t (Write a n) k .1))
 compare-ops t tail (Due (Compare a n)) k = refl
-compare-ops t tail Headed k = refl
+compare-ops t tail HeaderWritten k = refl
 compare-ops t tail Committed k = refl
 
 due-op : (t : Taken) (tail : List ℕ) (st : Stage) → stageOk false t st ≡ true → isDue t ≡ true → length (opsOf tail st) ≡ 1
@@ -70,13 +70,13 @@ due-op t tail Idle k d = true-false (isDue t) d (idle-due false t k)
 due-op t tail (Due (Erase n)) k d = refl
 due-op t tail (Due (Write a n)) k d = refl
 due-op t tail (Due (Compare a n)) k d = absurd (false≢true (due-ok false t (Compare a n) k .1))
-due-op t tail Headed k d = true-false (isDue t) d (empty-due t (headed-end false t k .empty))
+due-op t tail HeaderWritten k d = true-false (isDue t) d (empty-due t (headed-end false t k .empty))
 due-op t tail Committed k d = true-false (isDue t) d (empty-due t (committed-end false t k .empty))
 
 no-op : (c : Bool) (t : Taken) (tail : List ℕ) (st : Stage) → stageOk c t st ≡ true → isDue t ≡ false → opsOf tail st ≡ []
 no-op c t tail Idle k d = refl
 no-op c t tail (Due o) k d = true-false (isDue t) (due-ok c t o k .0) d
-no-op c t tail Headed k d = refl
+no-op c t tail HeaderWritten k d = refl
 no-op c t tail Committed k d = refl
 
 -- ---- the call

@@ -27,7 +27,7 @@ use Rattle.flash.specs.Flash.{Op, done, torn}
 use Rattle.flash.proofs.Laws.{length-torn, bank-torn, other-torn}
 use Rattle.writer.specs.declared.Operation.the-variants.{Erase, Write, Compare}
 use Rattle.writer.specs.declared.Stage.{Stage}
-use Rattle.writer.specs.declared.Stage.the-variants.{Idle, Due, Headed, Committed}
+use Rattle.writer.specs.declared.Stage.the-variants.{Idle, Due, HeaderWritten, Committed}
 use Rattle.writer.specs.declared.Beginning.{Beginning}
 use Rattle.writer.specs.declared.Taken.{Taken}
 use Rattle.writer.specs.declared.Tables.{Tables}
@@ -126,14 +126,14 @@ Lies (Due (Erase zero)) t tail u b = Bare (t .written) (t .fill) tail (u .data·
 Lies (Due (Erase (suc k))) t tail u b = Laid 0 sectorSize (t .written) (t .fill) tail (u .data·) b
 Lies (Due (Write a n)) t tail u b = Laid tailSize 4097 (t .written) (t .fill) tail (u .data·) b
 Lies (Due (Compare a n)) t tail u b = ⊥
-Lies Headed t tail u b = HeaderLies u b
+Lies HeaderWritten t tail u b = HeaderLies u b
 Lies Committed t tail u b = Unit {0}
 
 abbrev pub LiveAt : Stage → List ℕ → Loaded → Loaded → Type 0
 LiveAt Committed region hd active = Unit {0}
 LiveAt Idle region hd active = Live region hd active
 LiveAt (Due o) region hd active = Live region hd active
-LiveAt Headed region hd active = Live region hd active
+LiveAt HeaderWritten region hd active = Live region hd active
 
 -- in writing mode; comparing does nothing to the region
 abbrev pub Mode : Bool → Stage → List ℕ → Loaded → Loaded → Taken → List ℕ → Update → Type 0

@@ -12,7 +12,7 @@ pub mod Commits
 pub mod Lowers
 pub mod Texts
 pub mod Runs
-pub mod Feeds
+pub mod Appends
 pub mod Uppers
 pub mod States
 pub mod Computed

@@ -34,7 +34,7 @@ use Rattle.writer.specs.declared.Writer.{Writer}
 use Rattle.writer.specs.State.{isDue, target, activeOk, takenOk, stageOk, did, stays, tailSize}
 use Rattle.lower.specs.Lower.{started, begun, answerOf}
 use Rattle.due.specs.Due.{withStage}
-use Rattle.commit.specs.Commit.{isHeaded, wordStep, wordOps}
+use Rattle.commit.specs.Commit.{isHeaderWritten, wordStep, wordOps}
 use Rattle.run.specs.Run.{Lower, source, table, bytes, end, close, due, unchanged, commit, word, lowerStep, lowerOps}
 use Rattle.powerloss.specs.History.{Update, opened, takes, recordsAfter, updateAfter, isWord, isDone, anyDone, committed, afterLower, afterLowerCut, afterBegin}
 use Rattle.powerloss.specs.Machine.{cutAt, doneAt, Image, Run, begin, cut, imageAfter, onCall, onCut, stateAfter, next}
@@ -47,7 +47,7 @@ use Rattle.powerloss.proofs.Range.{range-of, tables-none}
 use Rattle.powerloss.proofs.Quiet.{on-source, on-table, on-end, on-unchanged}
 use Rattle.powerloss.proofs.Take.{on-bytes, on-close}
 use Rattle.powerloss.proofs.Dues.{Carried, no-ops, on-due}
-use Rattle.powerloss.proofs.Commits.{is-headed, on-commit, word-kept, word-torn, word-open}
+use Rattle.powerloss.proofs.Commits.{is-header-written, on-commit, word-kept, word-torn, word-open}
 use Rattle.header.specs.Header.{maxSources, commitOffset}
 
 -- a lower call that isn't the commit word
@@ -101,7 +101,7 @@ module _ (region : List ℕ) (hd : Loaded) (rs : List Source) (im : Image) (w : 
       rw e (record { kept = z .cut i j; open· = tt })
 
   -- the commit word
-  word-by : (b : Bool) → isHeaded (w .stage) ≡ b
+  word-by : (b : Bool) → isHeaderWritten (w .stage) ≡ b
       → Inv (record {
         region = performed (target (w .beginning .active)) (pick b (write commitOffset commitBytes ∷ []) []) region;
         state = some (pick b (did (withStage w Committed)) (stays w Turn) .writer);
@@ -110,13 +110,13 @@ module _ (region : List ℕ) (hd : Loaded) (rs : List Source) (im : Image) (w : 
       })
   unfolding performed afterLower committed imageAfter updateAfter
   word-by true e =
-      let h = is-headed (w .stage) e in
+      let h = is-header-written (w .stage) e in
       record { kept = word-kept region hd rs im w u k o h; open· = word-open region hd rs im w u k o h }
   word-by false e = record { kept = k; open· = o }
 
   word-inv : Inv (onCall word here (some w))
   unfolding onCall lowerStep lowerOps wordStep wordOps
-  word-inv = rw (eq-eqb (length region) regionSize (k .size), o .tied .range) (word-by (isHeaded (w .stage)) refl)
+  word-inv = rw (eq-eqb (length region) regionSize (k .size), o .tied .range) (word-by (isHeaderWritten (w .stage)) refl)
 
   -- the commit word's call, cut: what its operations leave of the region, and how many of them are done
   abbrev word-left : List ℕ → ℕ → Run
@@ -135,20 +135,20 @@ module _ (region : List ℕ) (hd : Loaded) (rs : List Source) (im : Image) (w : 
   word-write = write commitOffset commitBytes
 
   -- with the word written the update is committed, without it nothing has changed for load
-  left-written : isHeaded (w .stage) ≡ true → Inv (word-left (applied bank word-write region) 1)
+  left-written : isHeaderWritten (w .stage) ≡ true → Inv (word-left (applied bank word-write region) 1)
   unfolding afterLowerCut committed imageAfter
-  left-written e = record { kept = word-kept region hd rs im w u k o (is-headed (w .stage) e); open· = tt }
+  left-written e = record { kept = word-kept region hd rs im w u k o (is-header-written (w .stage) e); open· = tt }
 
-  left-torn : (j : ℕ) → j < length commitBytes → isHeaded (w .stage) ≡ true → Inv (word-left (torn bank j word-write region) 0)
+  left-torn : (j : ℕ) → j < length commitBytes → isHeaderWritten (w .stage) ≡ true → Inv (word-left (torn bank j word-write region) 0)
   unfolding afterLowerCut committed imageAfter
-  left-torn j l e = record { kept = word-torn region hd rs im w u k o (is-headed (w .stage) e) j (omega (arith, length-commit-bytes)); open· = tt }
+  left-torn j l e = record { kept = word-torn region hd rs im w u k o (is-header-written (w .stage) e) j (omega (arith, length-commit-bytes)); open· = tt }
 
   left-none : Inv (word-left region 0)
   unfolding afterLowerCut committed imageAfter
   left-none = record { kept = k; open· = tt }
 
   -- cut inside its write: it is done once all its bytes are
-  torn-by : (j : ℕ) (d : Bool) → leb (length commitBytes) j ≡ d → isHeaded (w .stage) ≡ true
+  torn-by : (j : ℕ) (d : Bool) → leb (length commitBytes) j ≡ d → isHeaderWritten (w .stage) ≡ true
       → Inv (word-left (cutAt bank zero j (word-write ∷ []) region) (doneAt zero j (word-write ∷ [])))
   torn-by j true f e =
       let l = leb-true (length commitBytes) j f in
@@ -158,7 +158,7 @@ module _ (region : List ℕ) (hd : Loaded) (rs : List Source) (im : Image) (w : 
       let l = leb-false (length commitBytes) j f in
       rw (cut-inside bank word-write [] region j, done-inside word-write [] j l) (left-torn j l e)
 
-  cut-by : (b : Bool) (i j : ℕ) → isHeaded (w .stage) ≡ b
+  cut-by : (b : Bool) (i j : ℕ) → isHeaderWritten (w .stage) ≡ b
       → Inv (word-left (cutAt bank i j (pick b (word-write ∷ []) []) region) (doneAt i j (pick b (word-write ∷ []) [])))
   cut-by true zero j e = torn-by j (leb (length commitBytes) j) refl e
   cut-by true (suc i) j e =
@@ -167,7 +167,7 @@ module _ (region : List ℕ) (hd : Loaded) (rs : List Source) (im : Image) (w : 
 
   word-cut : (i j : ℕ) → Inv (onCut word i j here (some w))
   unfolding onCut lowerOps wordOps
-  word-cut i j = rw (eq-eqb (length region) regionSize (k .size), o .tied .range) (cut-by (isHeaded (w .stage)) i j refl)
+  word-cut i j = rw (eq-eqb (length region) regionSize (k .size), o .tied .range) (cut-by (isHeaderWritten (w .stage)) i j refl)
 
   inv-lower : (c : Lower) → LowerTyped c → Inv (onCall c here (some w))
   inv-lower (source s) p = plain-inv (source s) refl p

@@ -26,13 +26,13 @@ use Rattle.header.specs.Types.{Proper}
 use Rattle.bank.specs.declared.Loaded.{Loaded}
 use Rattle.writer.specs.declared.Operation.the-variants.{Erase, Write, Compare}
 use Rattle.writer.specs.declared.Stage.{Stage}
-use Rattle.writer.specs.declared.Stage.the-variants.{Idle, Due, Headed, Committed}
+use Rattle.writer.specs.declared.Stage.the-variants.{Idle, Due, HeaderWritten, Committed}
 use Rattle.writer.specs.declared.Answer.the-variants.{Same, Different}
 use Rattle.writer.specs.declared.Taken.{Taken}
 use Rattle.writer.specs.declared.Writer.{Writer}
 use Rattle.writer.specs.State.{position, isDue, writeDue, dataDue, firstDue, stageOf, isOpen, noTable, inRange, stageOk, did, stays, tailSize}
 use Rattle.writer.proofs.Laws.{Ranged, ranged, position-fits, count-fits, open-table}
-use Rattle.lower.specs.Lower.{mayTake, mayBegin, emptied, pastEnd, withBlock, blockOf, withSource, sourceStep, withTable, tableStep, withEnd, endStep}
+use Rattle.lower.specs.Lower.{mayAppend, mayBegin, emptied, pastEnd, withBlock, blockOf, withSource, sourceStep, withTable, tableStep, withEnd, endStep}
 use Rattle.commit.specs.Unchanged.{unchangedStep, mayAsk, isUnchanged}
 use Rattle.run.specs.Run.{source, table, end, unchanged}
 use Rattle.powerloss.specs.History.{Note, sourceNote, tableNote, endNote, Update, blockBetween, lastWith, recordsAfter, takes, notesOf, updateAfter}
@@ -102,7 +102,7 @@ no-head c t n u tail b (Due (Erase zero)) e k h = h
 no-head c t n u tail b (Due (Erase (suc j))) e k h = h
 no-head c t n u tail b (Due (Write i j)) e k h = h
 no-head c t n u tail b (Due (Compare i j)) e k h = h
-no-head c t n u tail b Headed e k h = true-false (t .closed) (headed-end c t k .closed) e
+no-head c t n u tail b HeaderWritten e k h = true-false (t .closed) (headed-end c t k .closed) e
 no-head c t n u tail b Committed e k h = h
 
 mode-noted : (c : Bool) (st : Stage) (region : List ℕ) (hd active : Loaded) (t : Taken) (tail : List ℕ) (n : Note) (u : Update) → t .closed ≡ false → stageOk c t st ≡ true
@@ -113,7 +113,7 @@ mode-noted false st region hd active t tail n u e k h = (h .0, no-head false t n
 pub only-idle : (c : Bool) (t : Taken) (st : Stage) → stageOk c t st ≡ true → t .closed ≡ false → isDue t ≡ false → st ≡ Idle
 only-idle c t Idle k e d = refl
 only-idle c t (Due o) k e d = true-false (isDue t) (due-ok c t o k .0) d
-only-idle c t Headed k e d = true-false (t .closed) (headed-end c t k .closed) e
+only-idle c t HeaderWritten k e d = true-false (t .closed) (headed-end c t k .closed) e
 only-idle c t Committed k e d = true-false (t .closed) (committed-end c t k .closed) e
 
 -- what is due then, where nothing was due
@@ -163,7 +163,7 @@ module _ (region : List ℕ) (hd : Loaded) (w : Writer) (u : Update) (o : Open r
   count-small : w .tables .count ≤ maxSources
   count-small = count-fits (position (w .taken)) (w .tables) (own .tables)
 
-  may-open : mayTake w ≡ true → w .taken .closed ≡ false
+  may-open : mayAppend w ≡ true → w .taken .closed ≡ false
   may-open e = not-true (w .taken .closed) (and-right (inRange w) (not (w .taken .closed)) e)
 
   noted-mode : (n : Note) → w .taken .closed ≡ false → Mode (w .beginning .comparing) (w .stage) region hd (w .beginning .active) (w .taken) (w .tail) (notesOf n u)
@@ -198,16 +198,16 @@ module _ (region : List ℕ) (hd : Loaded) (w : Writer) (u : Update) (o : Open r
         mode = noted-mode (sourceNote s) e;
       }
 
-  source-by : (s : Source) → Proper s → (a b : Bool) → (mayTake w && not (isOpen (w .tables))) ≡ a → ltb (w .tables .count) 3 ≡ b
+  source-by : (s : Source) → Proper s → (a b : Bool) → (mayAppend w && not (isOpen (w .tables))) ≡ a → ltb (w .tables .count) 3 ≡ b
       → Open region hd (pick a (pick b (did (withSource w s)) (stays w Full)) (stays w Turn) .writer) (updateAfter (source s) (pick a (pick b (did (withSource w s)) (stays w Full)) (stays w Turn) .answer) u)
   unfolding updateAfter
-  source-by s p true true e f = with-source s p (may-open (and-left (mayTake w) (not (isOpen (w .tables))) e)) (ltb-true (w .tables .count) 3 f)
+  source-by s p true true e f = with-source s p (may-open (and-left (mayAppend w) (not (isOpen (w .tables))) e)) (ltb-true (w .tables .count) 3 f)
   source-by s p true false e f = o
   source-by s p false b e f = o
 
   pub on-source : (s : Source) → Proper s → Open region hd (sourceStep w s .writer) (updateAfter (source s) (sourceStep w s .answer) u)
   unfolding sourceStep
-  on-source s p = source-by s p (mayTake w && not (isOpen (w .tables))) (ltb (w .tables .count) 3) refl refl
+  on-source s p = source-by s p (mayAppend w && not (isOpen (w .tables))) (ltb (w .tables .count) 3) refl refl
 
   -- ---- table
 
@@ -246,17 +246,17 @@ module _ (region : List ℕ) (hd : Loaded) (w : Writer) (u : Update) (o : Open r
   may-count : (t : ℕ) → mayBegin (w .tables) t ≡ true → 1 ≤ w .tables .count
   may-count t e = leb-true 1 (w .tables .count) (and-left (leb 1 (w .tables .count)) _ (and-right (not (isOpen (w .tables))) _ e))
 
-  table-by : (t : ℕ) (a b : Bool) → leb t 7 ≡ a → (mayTake w && mayBegin (w .tables) t) ≡ b
+  table-by : (t : ℕ) (a b : Bool) → leb t 7 ≡ a → (mayAppend w && mayBegin (w .tables) t) ≡ b
       → Open region hd (pick a (pick b (did (withTable w t)) (stays w Turn)) (stays w Argument) .writer) (updateAfter (table t) (pick a (pick b (did (withTable w t)) (stays w Turn)) (stays w Argument) .answer) u)
   unfolding updateAfter
   table-by t true true e f =
-      with-table t (may-open (and-left (mayTake w) (mayBegin (w .tables) t) f)) (leb-true t 7 e) (may-count t (and-right (mayTake w) (mayBegin (w .tables) t) f))
+      with-table t (may-open (and-left (mayAppend w) (mayBegin (w .tables) t) f)) (leb-true t 7 e) (may-count t (and-right (mayAppend w) (mayBegin (w .tables) t) f))
   table-by t true false e f = o
   table-by t false b e f = o
 
   pub on-table : (t : ℕ) → Open region hd (tableStep w t .writer) (updateAfter (table t) (tableStep w t .answer) u)
   unfolding tableStep
-  on-table t = table-by t (leb t 7) (mayTake w && mayBegin (w .tables) t) refl refl
+  on-table t = table-by t (leb t 7) (mayAppend w && mayBegin (w .tables) t) refl refl
 
   -- ---- table end
 
@@ -315,14 +315,14 @@ module _ (region : List ℕ) (hd : Loaded) (w : Writer) (u : Update) (o : Open r
         mode = noted-mode (endNote (length d)) e;
       }
 
-  end-by : (a : Bool) → (mayTake w && isOpen (w .tables)) ≡ a → Open region hd (pick a (did (withEnd w)) (stays w Turn) .writer) (updateAfter end (pick a (did (withEnd w)) (stays w Turn) .answer) u)
+  end-by : (a : Bool) → (mayAppend w && isOpen (w .tables)) ≡ a → Open region hd (pick a (did (withEnd w)) (stays w Turn) .writer) (updateAfter end (pick a (did (withEnd w)) (stays w Turn) .answer) u)
   unfolding updateAfter
-  end-by true e = with-end (may-open (and-left (mayTake w) (isOpen (w .tables)) e)) (and-right (mayTake w) (isOpen (w .tables)) e)
+  end-by true e = with-end (may-open (and-left (mayAppend w) (isOpen (w .tables)) e)) (and-right (mayAppend w) (isOpen (w .tables)) e)
   end-by false e = o
 
   pub on-end : Open region hd (endStep w .writer) (updateAfter end (endStep w .answer) u)
   unfolding endStep
-  on-end = end-by (mayTake w && isOpen (w .tables)) refl
+  on-end = end-by (mayAppend w && isOpen (w .tables)) refl
 
   -- ---- unchanged
 

@@ -11,7 +11,7 @@ use Rattle.base.proofs.Bools.{and-left, and-right}
 use Rattle.writer.specs.declared.Operation.{Operation}
 use Rattle.writer.specs.declared.Operation.the-variants.{Erase, Write, Compare}
 use Rattle.writer.specs.declared.Stage.{Stage}
-use Rattle.writer.specs.declared.Stage.the-variants.{Idle, Due, Headed, Committed}
+use Rattle.writer.specs.declared.Stage.the-variants.{Idle, Due, HeaderWritten, Committed}
 use Rattle.writer.specs.declared.Taken.{Taken}
 use Rattle.writer.specs.declared.Tables.{Tables}
 use Rattle.writer.specs.declared.Writer.{Writer}
@@ -167,7 +167,7 @@ erase-data t k e = data-of (or-either (eqb (t .written) 0 && eqb (suc k) 0) (eqb
       eqb-true (suc k) (t .written / sectorSize + 1) (and-right (eqb (t .written % sectorSize) 0) (eqb (suc k) (t .written / sectorSize + 1)) h),
     )
 
-pub headed-of : (c : Bool) (t : Taken) → c ≡ false → t .closed ≡ true → t .fill ≡ 0 → stageOk c t Headed ≡ true
+pub headed-of : (c : Bool) (t : Taken) → c ≡ false → t .closed ≡ true → t .fill ≡ 0 → stageOk c t HeaderWritten ≡ true
 unfolding stageOk
 headed-of c t a b e = rw (a, b, e)
 
@@ -185,7 +185,7 @@ at-end c t e =
       empty = eqb-true (t .fill) 0 (and-right (t .closed) (eqb (t .fill) 0) r);
     }
 
-pub headed-end : (c : Bool) (t : Taken) → stageOk c t Headed ≡ true → AtEnd c t
+pub headed-end : (c : Bool) (t : Taken) → stageOk c t HeaderWritten ≡ true → AtEnd c t
 unfolding stageOk
 headed-end c t e = at-end c t e
 
@@ -193,7 +193,7 @@ pub committed-end : (c : Bool) (t : Taken) → stageOk c t Committed ≡ true �
 unfolding stageOk
 committed-end c t e = at-end c t e
 
-pub committed-of : (c : Bool) (t : Taken) → stageOk c t Headed ≡ true → stageOk c t Committed ≡ true
+pub committed-of : (c : Bool) (t : Taken) → stageOk c t HeaderWritten ≡ true → stageOk c t Committed ≡ true
 unfolding stageOk
 committed-of c t e = e
 
@@ -230,7 +230,7 @@ close-due t e = rw (lt-ltb 0 (t .fill) (due-fill t e)) (or-true (eqb (t .fill) t
 pub close-stage : (c : Bool) (t : Taken) (st : Stage) → t .closed ≡ false → stageOk c t st ≡ true → isDue t ≡ true → stageOk c (closedTaken t) st ≡ true
 close-stage c t Idle n e d = true-false (isDue t) d (idle-due c t e)
 close-stage c t (Due o) n e d = due-of c (closedTaken t) o (close-due t d) (close-operation c t o (due-ok c t o e .1))
-close-stage c t Headed n e d = true-false (t .closed) (headed-end c t e .closed) n
+close-stage c t HeaderWritten n e d = true-false (t .closed) (headed-end c t e .closed) n
 close-stage c t Committed n e d = true-false (t .closed) (committed-end c t e .closed) n
 
 pub close-taken : (t : Taken) → takenOk t ≡ true → t .closed ≡ false → takenOk (closedTaken t) ≡ true

@@ -16,7 +16,7 @@ use Rattle.writer.specs.declared.Writer.{Writer}
 use Rattle.writer.specs.State.{isDue}
 use Rattle.lower.specs.Lower.{started}
 use Rattle.run.specs.Run.{bytes, lowerStep, lowerRegion, ranWriter}
-use Rattle.run.specs.Feed.{feed}
+use Rattle.run.specs.Appends.{appends}
 use Rattle.upper.specs.Upper.{beginRefusal, keyBytes, beginRun, beganWith, beginStep}
 use Rattle.powerloss.specs.History.{Update, opened, takes, updateAfter, isDone}
 use Rattle.powerloss.specs.Machine.{Image, found, nextAll}
@@ -24,23 +24,23 @@ use Rattle.powerloss.proofs.Bytes.{bytes-nil, bytes-cons}
 use Rattle.powerloss.proofs.Inv.{Kept}
 use Rattle.powerloss.proofs.Lowers.{plain-call, begun-open}
 use Rattle.powerloss.proofs.Texts.{bytes-key}
-use Rattle.powerloss.proofs.Feeds.{Now, regionThree, writerThree, three}
+use Rattle.powerloss.proofs.Appends.{Now, regionThree, writerThree, three}
 use Rattle.powerloss.proofs.Uppers.{done-by, inv-found, inv-all}
 use Rattle.powerloss.specs.Operations.{BeginSettled}
 
 -- nothing is due after bytes are fed, each with what is due then
-feed-still : (hd : Loaded) (rs : List Source) (im : Image) (xs region : List ℕ) (w : Writer) (u : Update) → Now hd rs im region w u → isDue (w .taken) ≡ false → Bytes xs
-    → isDue (ranWriter region w (feed xs) .taken) ≡ false
-unfolding feed ranWriter
-feed-still hd rs im [] region w u h d b = d
-feed-still hd rs im (x ∷ xs) region w u h d b =
+appends-still : (hd : Loaded) (rs : List Source) (im : Image) (xs region : List ℕ) (w : Writer) (u : Update) → Now hd rs im region w u → isDue (w .taken) ≡ false → Bytes xs
+    → isDue (ranWriter region w (appends xs) .taken) ≡ false
+unfolding appends ranWriter
+appends-still hd rs im [] region w u h d b = d
+appends-still hd rs im (x ∷ xs) region w u h d b =
     let c = bytes (x ∷ []) in
     let z = plain-call region hd rs im w u (h .kept) (h .open·) c (bytes-cons x [] (b 0) bytes-nil) in
     let r = lowerRegion region w c in
     let s = lowerStep region w c in
     let v = updateAfter c (s .answer) u in
     let t = three hd rs im r (s .writer) v (record { kept = z .whole; open· = z .open· }) in
-    feed-still hd rs im xs (regionThree r (s .writer)) (writerThree r (s .writer)) v (t .now) (t .still) (λ k. b (suc k))
+    appends-still hd rs im xs (regionThree r (s .writer)) (writerThree r (s .writer)) v (t .now) (t .still) (λ k. b (suc k))
 
 first-still : (hd : Loaded) (comparing : Bool) (now : ℤ) → isDue (started hd comparing now .taken) ≡ false
 unfolding started isDue
@@ -59,7 +59,7 @@ begin-at region hd rs im k comparing now identity texts lengths f bi bt =
     let o = begun-open region hd rs im comparing now f k (done-by region hd (k .size) (k .loads)) in
     answered-still (beginRefusal region identity texts lengths) _ comparing now
     (λ e. rw (e, k .loads)
-    (feed-still hd rs im (keyBytes identity texts lengths) region (started hd comparing now) (takes [] (opened hd now)) (record { kept = k; open· = o }) (first-still hd comparing now) (bytes-key identity texts lengths bi bt)))
+    (appends-still hd rs im (keyBytes identity texts lengths) region (started hd comparing now) (takes [] (opened hd now)) (record { kept = k; open· = o }) (first-still hd comparing now) (bytes-key identity texts lengths bi bt)))
 
 pub begin-settled : BeginSettled
 begin-settled region events l y p comparing now identity texts lengths f bi bt =

@@ -12,7 +12,7 @@ use Rattle.writer.specs.declared.Answer.the-variants.{Done}
 use Rattle.writer.specs.declared.Writer.{Writer}
 use Rattle.writer.specs.State.{isDue, inRange}
 use Rattle.run.specs.Run.{Lower, bytes, ranWriter, ranRegion}
-use Rattle.run.specs.Feed.{dues, feed}
+use Rattle.run.specs.Appends.{dues, appends}
 use Rattle.upper.specs.Upper.{Upper, taken, lowerOf, runOf, refusalOf, runIf, upperRun, answered, upperStep}
 use Rattle.powerloss.specs.History.{Update, isDone}
 use Rattle.powerloss.specs.Machine.{Image, nextAll, found}
@@ -20,7 +20,7 @@ use Rattle.powerloss.specs.Claim.{UpperTyped, Reached, Settled}
 use Rattle.powerloss.proofs.Bytes.{bytes-nil, bytes-cons}
 use Rattle.powerloss.proofs.Inv.{Kept, Open, State}
 use Rattle.powerloss.proofs.Runs.{AllPlain, ran}
-use Rattle.powerloss.proofs.Feeds.{three}
+use Rattle.powerloss.proofs.Appends.{three}
 use Rattle.powerloss.proofs.Uppers.{plain-append, plain-dues, plain-lower, bytes-taken, inv-found, inv-all}
 
 abbrev isState : Option Writer → Bool
@@ -51,13 +51,13 @@ record Ends (cs : List Lower) : Type 0 where
   plain : AllPlain first
   is : cs ≡ first ++ dues
 
-ends : (first : List Lower) (xs : List ℕ) → AllPlain first → Bytes xs → Ends (first ++ (dues ++ feed xs))
-unfolding feed
+ends : (first : List Lower) (xs : List ℕ) → AllPlain first → Bytes xs → Ends (first ++ (dues ++ appends xs))
+unfolding appends
 ends first [] p b = record { first = first; plain = p; is = refl }
 ends first (x ∷ xs) p b =
     let last = dues ++ (bytes (x ∷ []) ∷ []) in
     let e = ends (first ++ last) xs (plain-append first last p (plain-append dues (bytes (x ∷ []) ∷ []) plain-dues (bytes-cons x [] (b 0) bytes-nil, tt))) (λ k. b (suc k)) in
-    record { first = e .first; plain = e .plain; is = sym (append-assoc first last (dues ++ feed xs)) ∙ e .is }
+    record { first = e .first; plain = e .plain; is = sym (append-assoc first last (dues ++ appends xs)) ∙ e .is }
 
 ran-append : (xs ys : List Lower) (region : List ℕ) (w : Writer) → ranWriter region w (xs ++ ys) ≡ ranWriter (ranRegion region w xs) (ranWriter region w xs) ys
 unfolding ranWriter ranRegion
@@ -76,7 +76,7 @@ module _ (hd : Loaded) (rs : List Source) (im : Image) (region : List ℕ) (w : 
   run-ends : (c : Upper) → UpperTyped c → Ends (runOf c)
   unfolding runOf
   run-ends c p =
-      subst Ends (append-assoc dues (lowerOf c) (dues ++ feed (taken c)))
+      subst Ends (append-assoc dues (lowerOf c) (dues ++ appends (taken c)))
       (ends (dues ++ lowerOf c) (taken c) (plain-append dues (lowerOf c) plain-dues (plain-lower c p)) (bytes-taken c p))
 
   settled-by : (c : Upper) → UpperTyped c → (x : Option Refusal) → answered x (ranWriter region w (runIf x (runOf c))) .answer ≡ Done → isDue (answered x (ranWriter region w (runIf x (runOf c))) .writer .taken) ≡ false

@@ -18,7 +18,7 @@ use Rattle.base.proofs.Bools.{and-left, and-right}
 use Rattle.header.specs.Types.{Bytes}
 use Rattle.bank.specs.declared.Loaded.{Loaded}
 use Rattle.writer.specs.declared.Stage.{Stage}
-use Rattle.writer.specs.declared.Stage.the-variants.{Idle, Due, Headed, Committed}
+use Rattle.writer.specs.declared.Stage.the-variants.{Idle, Due, HeaderWritten, Committed}
 use Rattle.writer.specs.declared.Operation.the-variants.{Erase, Write, Compare}
 use Rattle.writer.specs.declared.Answer.the-variants.{Took}
 use Rattle.writer.specs.declared.Taken.{Taken}
@@ -27,7 +27,7 @@ use Rattle.writer.specs.declared.Writer.{Writer}
 use Rattle.writer.specs.declared.Step.{Step}
 use Rattle.writer.specs.State.{position, isDue, stageOf, isOpen, inRange, tablesOk, stageOk, did, stays, tailSize}
 use Rattle.writer.proofs.Laws.{Ranged, ranged, fill-fits, open-table}
-use Rattle.lower.specs.Lower.{mayTake, room, takenMore, withBytes, took, bytesStep, closedTaken, withClosed, closeStep}
+use Rattle.lower.specs.Lower.{mayAppend, room, takenMore, withBytes, took, bytesStep, closedTaken, withClosed, closeStep}
 use Rattle.run.specs.Run.{bytes, close}
 use Rattle.powerloss.specs.History.{Update, recordsAfter, takes, updateAfter}
 use Rattle.powerloss.proofs.Bytes.{bytes-take, bytes-sets}
@@ -82,7 +82,7 @@ close-lies t tail u b (Due (Erase zero)) h = h
 close-lies t tail u b (Due (Erase (suc j))) h = h
 close-lies t tail u b (Due (Write i j)) h = h
 close-lies t tail u b (Due (Compare i j)) h = h
-close-lies t tail u b Headed h = h
+close-lies t tail u b HeaderWritten h = h
 close-lies t tail u b Committed h = h
 
 mode-closed : (c : Bool) (st : Stage) (region : List ℕ) (hd active : Loaded) (t : Taken) (tail : List ℕ) (u : Update) → Mode c st region hd active t tail u → Mode c st region hd active (closedTaken t) tail u
@@ -93,7 +93,7 @@ module _ (region : List ℕ) (hd : Loaded) (w : Writer) (u : Update) (o : Open r
   own : Ranged w
   own = ranged w (o .tied .range)
 
-  may-open : mayTake w ≡ true → w .taken .closed ≡ false
+  may-open : mayAppend w ≡ true → w .taken .closed ≡ false
   may-open e = not-true (w .taken .closed) (and-right (inRange w) (not (w .taken .closed)) e)
 
   -- ---- bytes
@@ -161,7 +161,7 @@ module _ (region : List ℕ) (hd : Loaded) (w : Writer) (u : Update) (o : Open r
       let f = fill-fits (w .taken) (own .taken) in
       with-bytes (take n xs) (bytes-take n xs b) e d (omega arith) (omega arith)
 
-  bytes-by : (xs : List ℕ) → Bytes xs → (a f : Bool) → mayTake w ≡ a → leb (position (w .taken) + length xs) capacity ≡ f
+  bytes-by : (xs : List ℕ) → Bytes xs → (a f : Bool) → mayAppend w ≡ a → leb (position (w .taken) + length xs) capacity ≡ f
       → Open region hd (pick a (pick f (took w xs) (stays w Full)) (stays w Turn) .writer) (updateAfter (bytes xs) (pick a (pick f (took w xs) (stays w Full)) (stays w Turn) .answer) u)
   unfolding updateAfter took
   bytes-by xs b true true e f =
@@ -171,7 +171,7 @@ module _ (region : List ℕ) (hd : Loaded) (w : Writer) (u : Update) (o : Open r
 
   pub on-bytes : (xs : List ℕ) → Bytes xs → Open region hd (bytesStep w xs .writer) (updateAfter (bytes xs) (bytesStep w xs .answer) u)
   unfolding bytesStep
-  on-bytes xs b = bytes-by xs b (mayTake w) (leb (position (w .taken) + length xs) capacity) refl refl
+  on-bytes xs b = bytes-by xs b (mayAppend w) (leb (position (w .taken) + length xs) capacity) refl refl
 
   -- ---- closing
 
@@ -206,11 +206,11 @@ module _ (region : List ℕ) (hd : Loaded) (w : Writer) (u : Update) (o : Open r
         mode = c .1;
       }
 
-  close-by : (a : Bool) → (mayTake w && not (isOpen (w .tables))) ≡ a → Open region hd (pick a (did (withClosed w)) (stays w Turn) .writer) (updateAfter close (pick a (did (withClosed w)) (stays w Turn) .answer) u)
+  close-by : (a : Bool) → (mayAppend w && not (isOpen (w .tables))) ≡ a → Open region hd (pick a (did (withClosed w)) (stays w Turn) .writer) (updateAfter close (pick a (did (withClosed w)) (stays w Turn) .answer) u)
   unfolding updateAfter
-  close-by true e = with-closed (may-open (and-left (mayTake w) (not (isOpen (w .tables))) e))
+  close-by true e = with-closed (may-open (and-left (mayAppend w) (not (isOpen (w .tables))) e))
   close-by false e = o
 
   pub on-close : Open region hd (closeStep w .writer) (updateAfter close (closeStep w .answer) u)
   unfolding closeStep
-  on-close = close-by (mayTake w && not (isOpen (w .tables))) refl
+  on-close = close-by (mayAppend w && not (isOpen (w .tables))) refl

@@ -31,10 +31,10 @@ use Rattle.writer.specs.declared.Tables.{Tables}
 use Rattle.writer.specs.declared.Step.{Step}
 use Rattle.writer.specs.State.{position, isOpen, isDue, target, inRange, did}
 use Rattle.writer.proofs.Laws.{ranged, position-fits}
-use Rattle.lower.specs.Lower.{mayTake, mayBegin, started, answerOf, withSource, sourceStep, withTable, tableStep, withEnd, endStep, withClosed, closeStep}
+use Rattle.lower.specs.Lower.{mayAppend, mayBegin, started, answerOf, withSource, sourceStep, withTable, tableStep, withEnd, endStep, withClosed, closeStep}
 use Rattle.lower.proofs.Laws.{source-done, table-done, end-done, close-done}
 use Rattle.run.specs.Run.{Lower, source, table, end, close, lowerStep, lowerOps, ranWriter, ranRegion, ranOps}
-use Rattle.run.specs.Feed.{dues, feed}
+use Rattle.run.specs.Appends.{dues, appends}
 use Rattle.upper.specs.Upper.{Upper, sourceWithDates, tableWithNames, row, tableEnd, closing, taken, lowerOf, runOf, argumentOk, orderOk, rowOk, sourceFits, allFits, refusalOf, runIf, upperRun, answered, upperStep, upperRegion, upperOps, beginRefusal, keyBytes, beginRun, beganWith, beginStep, beginRegion, beginOps}
 use Rattle.powerloss.specs.History.{Update, sourceNote, tableNote, endNote, opened, takes, notesOf, updateAfter, upperNoted, upperAfter, afterUpper, afterBegin}
 use Rattle.powerloss.specs.Machine.{cutAt, Image, Run, Event, begin, beginCut, call, cut, beginKey, beginKeyCut, upper, upperCut, onUpper, onUpperCut, stateAfter, next, nextAll, found}
@@ -46,7 +46,7 @@ use Rattle.powerloss.proofs.Quiet.{takes-nil, with-source, with-table, 
 use Rattle.powerloss.proofs.Lowers.{Inv, mk, inv-call, inv-cut, inv-begin, begun-open}
 use Rattle.powerloss.proofs.Texts.{bytes-dates, bytes-names, bytes-row, bytes-key}
 use Rattle.powerloss.proofs.Runs.{ranUpdate, AllPlain, Ran, ran}
-use Rattle.powerloss.proofs.Feeds.{Now, regionThree, writerThree, Three, three, dues-update, may-take, feed-update, dues-feed}
+use Rattle.powerloss.proofs.Appends.{Now, regionThree, writerThree, Three, three, dues-update, may-append, appends-update, dues-appends}
 use Rattle.header.specs.Header.{maxSources}
 
 pub bytes-taken : (c : Upper) → UpperTyped c → Bytes (taken c)
@@ -66,10 +66,10 @@ plain-append (x ∷ xs) ys h k = (h .0, plain-append xs ys (h .1) k)
 pub plain-dues : AllPlain dues
 plain-dues = (tt, (tt, (tt, tt)))
 
-pub plain-feed : (xs : List ℕ) → Bytes xs → AllPlain (feed xs)
-unfolding feed
-plain-feed [] b = tt
-plain-feed (x ∷ xs) b = (bytes-cons x [] (b 0) bytes-nil, plain-append dues (feed xs) plain-dues (plain-feed xs (λ k. b (suc k))))
+pub plain-appends : (xs : List ℕ) → Bytes xs → AllPlain (appends xs)
+unfolding appends
+plain-appends [] b = tt
+plain-appends (x ∷ xs) b = (bytes-cons x [] (b 0) bytes-nil, plain-append dues (appends xs) plain-dues (plain-appends xs (λ k. b (suc k))))
 
 pub plain-lower : (c : Upper) → UpperTyped c → AllPlain (lowerOf c)
 plain-lower (sourceWithDates s) p = (p, tt)
@@ -81,8 +81,8 @@ plain-lower closing p = (tt, tt)
 pub plain-run : (c : Upper) → UpperTyped c → AllPlain (runOf c)
 unfolding runOf
 plain-run c p =
-    plain-append dues (lowerOf c ++ (dues ++ feed (taken c))) plain-dues
-    (plain-append (lowerOf c) (dues ++ feed (taken c)) (plain-lower c p) (plain-append dues (feed (taken c)) plain-dues (plain-feed (taken c) (bytes-taken c p))))
+    plain-append dues (lowerOf c ++ (dues ++ appends (taken c))) plain-dues
+    (plain-append (lowerOf c) (dues ++ appends (taken c)) (plain-lower c p) (plain-append dues (appends (taken c)) plain-dues (plain-appends (taken c) (bytes-taken c p))))
 
 module _ (hd : Loaded) (rs : List Source) (im : Image) (region : List ℕ) (w : Writer) (u : Update) (h : Now hd rs im region w u) where
   -- one call that is answered and does no operation
@@ -104,38 +104,38 @@ module _ (hd : Loaded) (rs : List Source) (im : Image) (region : List ℕ) (w : 
 
   -- the lower call of the same name, what is due, and the bytes
   module _ (e : w .taken .closed ≡ false) where
-    may : mayTake w ≡ true
-    may = may-take hd region w u (h .open·) e
+    may : mayAppend w ≡ true
+    may = may-append hd region w u (h .open·) e
 
     source-run : (s : Source) (xs : List ℕ) → Proper s → not (isOpen (w .tables)) ≡ true → w .tables .count < maxSources → position (w .taken) + length xs ≤ capacity → Bytes xs
-        → ranUpdate region w (source s ∷ (dues ++ feed xs)) u ≡ takes xs (notesOf (sourceNote s) u)
+        → ranUpdate region w (source s ∷ (dues ++ appends xs)) u ≡ takes xs (notesOf (sourceNote s) u)
     unfolding withSource
     source-run s xs p n c f b =
-        source-update s (dues ++ feed xs) (source-done w s (rw may n) c)
-        ∙ dues-feed hd rs im xs region (withSource w s) (notesOf (sourceNote s) u) (record { kept = h .kept; open· = with-source region hd w u (h .open·) s p e c }) e f b
+        source-update s (dues ++ appends xs) (source-done w s (rw may n) c)
+        ∙ dues-appends hd rs im xs region (withSource w s) (notesOf (sourceNote s) u) (record { kept = h .kept; open· = with-source region hd w u (h .open·) s p e c }) e f b
 
     table-run : (t : ℕ) (xs : List ℕ) → t ≤ 7 → mayBegin (w .tables) t ≡ true → position (w .taken) + length xs ≤ capacity → Bytes xs
-        → ranUpdate region w (table t ∷ (dues ++ feed xs)) u ≡ takes xs (notesOf (tableNote t (length (u .data·))) u)
+        → ranUpdate region w (table t ∷ (dues ++ appends xs)) u ≡ takes xs (notesOf (tableNote t (length (u .data·))) u)
     unfolding withTable
     table-run t xs l m f b =
         let c = leb-true 1 (w .tables .count) (and-left (leb 1 (w .tables .count)) _ (and-right (not (isOpen (w .tables))) _ m)) in
-        table-update t (dues ++ feed xs) (table-done w t l (rw may m))
-        ∙ dues-feed hd rs im xs region (withTable w t) (notesOf (tableNote t (length (u .data·))) u) (record { kept = h .kept; open· = with-table region hd w u (h .open·) t e l c }) e f b
+        table-update t (dues ++ appends xs) (table-done w t l (rw may m))
+        ∙ dues-appends hd rs im xs region (withTable w t) (notesOf (tableNote t (length (u .data·))) u) (record { kept = h .kept; open· = with-table region hd w u (h .open·) t e l c }) e f b
 
-    end-run : isOpen (w .tables) ≡ true → ranUpdate region w (end ∷ (dues ++ feed [])) u ≡ takes [] (notesOf (endNote (length (u .data·))) u)
+    end-run : isOpen (w .tables) ≡ true → ranUpdate region w (end ∷ (dues ++ appends [])) u ≡ takes [] (notesOf (endNote (length (u .data·))) u)
     unfolding withEnd
     end-run m =
-        end-update (dues ++ feed []) (end-done w (rw may m))
-        ∙ dues-feed hd rs im [] region (withEnd w) (notesOf (endNote (length (u .data·))) u) (record { kept = h .kept; open· = with-end region hd w u (h .open·) e m }) e
+        end-update (dues ++ appends []) (end-done w (rw may m))
+        ∙ dues-appends hd rs im [] region (withEnd w) (notesOf (endNote (length (u .data·))) u) (record { kept = h .kept; open· = with-end region hd w u (h .open·) e m }) e
         (omega (arith, position-most)) bytes-nil
       where
         position-most : position (w .taken) ≤ capacity
         position-most = position-fits (w .taken) (ranged w (h .open· .tied .range) .taken)
 
-    close-run : not (isOpen (w .tables)) ≡ true → ranUpdate region w (close ∷ (dues ++ feed [])) u ≡ takes [] u
-    unfolding feed
+    close-run : not (isOpen (w .tables)) ≡ true → ranUpdate region w (close ∷ (dues ++ appends [])) u ≡ takes [] u
+    unfolding appends
     close-run m =
-        close-update (dues ++ feed []) (close-done w (rw may m))
+        close-update (dues ++ appends []) (close-done w (rw may m))
         ∙ dues-update region (withClosed w) [] u
         ∙ unfold ranUpdate in (sym (takes-nil u))
 
@@ -173,7 +173,7 @@ module _ (hd : Loaded) (rs : List Source) (im : Image) (region : List ℕ) (w : 
   t3 : Three hd rs im region w u
   t3 = three hd rs im region w u h
 
-  open-of : mayTake w ≡ true → w .taken .closed ≡ false
+  open-of : mayAppend w ≡ true → w .taken .closed ≡ false
   open-of m = not-true (w .taken .closed) (and-right (inRange w) (not (w .taken .closed)) m)
 
   fits-of : (c : Upper) → allFits w c ≡ true → position (writerThree region w .taken) + length (taken c) ≤ capacity
@@ -182,38 +182,38 @@ module _ (hd : Loaded) (rs : List Source) (im : Image) (region : List ℕ) (w : 
   run-update : (c : Upper) → UpperTyped c → Accepted w c → ranUpdate region w (runOf c) u ≡ takes (taken c) (upperNoted c u)
   unfolding runOf
   run-update (sourceWithDates s) p a =
-      let m = and-left (mayTake w) (not (isOpen (w .tables))) (a .order) in
-      let n = and-right (mayTake w) (not (isOpen (w .tables))) (a .order) in
+      let m = and-left (mayAppend w) (not (isOpen (w .tables))) (a .order) in
+      let n = and-right (mayAppend w) (not (isOpen (w .tables))) (a .order) in
       let c = sourceWithDates s in
-      dues-update region w (source s ∷ (dues ++ feed (taken c))) u
+      dues-update region w (source s ∷ (dues ++ appends (taken c))) u
       ∙ source-run hd rs im (regionThree region w) (writerThree region w) u (t3 .now) (t3 .closed ∙ open-of m) s (taken c) p
       (subst (λ (x : Tables). not (isOpen x) ≡ true) (sym (t3 .tables)) n)
       (subst (λ (x : Tables). x .count < maxSources) (sym (t3 .tables)) (ltb-true (w .tables .count) 3 (and-left (ltb (w .tables .count) 3) (leb (position (w .taken) + length (taken c)) capacity) (a .fits))))
       (fits-of c (a .fits)) (bytes-taken c p)
   run-update (tableWithNames t) p a =
-      let m = and-left (mayTake w) (mayBegin (w .tables) t) (a .order) in
-      let n = and-right (mayTake w) (mayBegin (w .tables) t) (a .order) in
+      let m = and-left (mayAppend w) (mayBegin (w .tables) t) (a .order) in
+      let n = and-right (mayAppend w) (mayBegin (w .tables) t) (a .order) in
       let c = tableWithNames t in
-      dues-update region w (table t ∷ (dues ++ feed (taken c))) u
+      dues-update region w (table t ∷ (dues ++ appends (taken c))) u
       ∙ table-run hd rs im (regionThree region w) (writerThree region w) u (t3 .now) (t3 .closed ∙ open-of m) t (taken c) (leb-true t 7 (a .argument))
       (subst (λ (x : Tables). mayBegin x t ≡ true) (sym (t3 .tables)) n)
       (fits-of c (a .fits)) (bytes-taken c p)
   run-update (row texts lengths) p a =
-      let m = and-left (mayTake w) (isOpen (w .tables)) (a .order) in
+      let m = and-left (mayAppend w) (isOpen (w .tables)) (a .order) in
       let c = row texts lengths in
-      dues-update region w (dues ++ feed (taken c)) u
-      ∙ dues-feed hd rs im (taken c) (regionThree region w) (writerThree region w) u (t3 .now) (t3 .closed ∙ open-of m) (fits-of c (a .fits)) (bytes-taken c p)
+      dues-update region w (dues ++ appends (taken c)) u
+      ∙ dues-appends hd rs im (taken c) (regionThree region w) (writerThree region w) u (t3 .now) (t3 .closed ∙ open-of m) (fits-of c (a .fits)) (bytes-taken c p)
   run-update tableEnd p a =
-      let m = and-left (mayTake w) (isOpen (w .tables)) (a .order) in
-      let n = and-right (mayTake w) (isOpen (w .tables)) (a .order) in
+      let m = and-left (mayAppend w) (isOpen (w .tables)) (a .order) in
+      let n = and-right (mayAppend w) (isOpen (w .tables)) (a .order) in
       unfold taken in
-      (dues-update region w (end ∷ (dues ++ feed [])) u
+      (dues-update region w (end ∷ (dues ++ appends [])) u
       ∙ end-run hd rs im (regionThree region w) (writerThree region w) u (t3 .now) (t3 .closed ∙ open-of m) (subst (λ (x : Tables). isOpen x ≡ true) (sym (t3 .tables)) n))
   run-update closing p a =
-      let m = and-left (mayTake w) (not (isOpen (w .tables))) (a .order) in
-      let n = and-right (mayTake w) (not (isOpen (w .tables))) (a .order) in
+      let m = and-left (mayAppend w) (not (isOpen (w .tables))) (a .order) in
+      let n = and-right (mayAppend w) (not (isOpen (w .tables))) (a .order) in
       unfold taken in
-      (dues-update region w (close ∷ (dues ++ feed [])) u
+      (dues-update region w (close ∷ (dues ++ appends [])) u
       ∙ close-run hd rs im (regionThree region w) (writerThree region w) u (t3 .now) (t3 .closed ∙ open-of m) (subst (λ (x : Tables). not (isOpen x) ≡ true) (sym (t3 .tables)) n))
 
 -- ---- upper events
@@ -285,29 +285,29 @@ module _ (comparing : Bool) (now : ℤ) (identity texts lengths : List ℕ) (f :
     first-open : Open region hd (started hd comparing now) (opened hd now)
     first-open = subst (Open region hd (started hd comparing now)) (takes-nil (opened hd now)) (begun-open region hd rs im comparing now f k (done-by region hd (k .size) (k .loads)))
 
-    key-run : Ran (feed key) region hd rs im (started hd comparing now) (opened hd now)
-    key-run = ran (feed key) region hd rs im (started hd comparing now) (opened hd now) (plain-feed key bytes-of-key) k first-open
+    key-run : Ran (appends key) region hd rs im (started hd comparing now) (opened hd now)
+    key-run = ran (appends key) region hd rs im (started hd comparing now) (opened hd now) (plain-appends key bytes-of-key) k first-open
 
-    key-update : beginRefusal region identity texts lengths ≡ none → ranUpdate region (started hd comparing now) (feed key) (opened hd now) ≡ takes key (opened hd now)
+    key-update : beginRefusal region identity texts lengths ≡ none → ranUpdate region (started hd comparing now) (appends key) (opened hd now) ≡ takes key (opened hd now)
     unfolding started isDue
-    key-update e = feed-update hd rs im key region (started hd comparing now) (opened hd now) (record { kept = k; open· = first-open }) refl refl (omega (arith, key-fits region e)) bytes-of-key
+    key-update e = appends-update hd rs im key region (started hd comparing now) (opened hd now) (record { kept = k; open· = first-open }) refl refl (omega (arith, key-fits region e)) bytes-of-key
 
     key-by : (s : Option Writer) (v : Option Update) → State region hd s v → (x : Option Refusal) → beginRefusal region identity texts lengths ≡ x
         → Inv (record {
-          region = ranRegion region (started hd comparing now) (runIf x (feed key));
-          state = stateAfter (beganWith x (ranWriter region (started hd comparing now) (runIf x (feed key))) comparing now .answer) (beganWith x (ranWriter region (started hd comparing now) (runIf x (feed key))) comparing now .writer) s;
-          history = afterBegin now key (beganWith x (ranWriter region (started hd comparing now) (runIf x (feed key))) comparing now .answer) (record { held = hd; records = rs; open· = v });
+          region = ranRegion region (started hd comparing now) (runIf x (appends key));
+          state = stateAfter (beganWith x (ranWriter region (started hd comparing now) (runIf x (appends key))) comparing now .answer) (beganWith x (ranWriter region (started hd comparing now) (runIf x (appends key))) comparing now .writer) s;
+          history = afterBegin now key (beganWith x (ranWriter region (started hd comparing now) (runIf x (appends key))) comparing now .answer) (record { held = hd; records = rs; open· = v });
           image = im;
         })
     unfolding afterBegin
     key-by s v o none e =
         record {
           kept = key-run .whole;
-          open· = subst (Open (ranRegion region (started hd comparing now) (feed key)) hd (ranWriter region (started hd comparing now) (feed key))) (key-update e) (key-run .open·);
+          open· = subst (Open (ranRegion region (started hd comparing now) (appends key)) hd (ranWriter region (started hd comparing now) (appends key))) (key-update e) (key-run .open·);
         }
     key-by s v o (some r) e = unfold ranRegion in (record { kept = k; open· = o })
 
-    key-cut-by : (i j : ℕ) (x : Option Refusal) → Kept (cutAt (target (started hd comparing now .beginning .active)) i j (ranOps region (started hd comparing now) (runIf x (feed key))) region) hd rs im
+    key-cut-by : (i j : ℕ) (x : Option Refusal) → Kept (cutAt (target (started hd comparing now .beginning .active)) i j (ranOps region (started hd comparing now) (runIf x (appends key))) region) hd rs im
     key-cut-by i j none = key-run .cut i j
     key-cut-by i j (some r) = ran [] region hd rs im (started hd comparing now) (opened hd now) tt k first-open .cut i j
 

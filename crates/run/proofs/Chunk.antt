@@ -12,7 +12,7 @@ use borrow.Author.Tests.{ne-eqb, le-leb, leb-true}
 use Rattle.leaf.proofs.Checksum.{crc32-append}
 use Rattle.base.proofs.Bools.{and-left, and-right}
 use Rattle.writer.specs.declared.Stage.{Stage}
-use Rattle.writer.specs.declared.Stage.the-variants.{Idle, Due, Headed, Committed}
+use Rattle.writer.specs.declared.Stage.the-variants.{Idle, Due, HeaderWritten, Committed}
 use Rattle.writer.specs.declared.Taken.{Taken}
 use Rattle.writer.specs.declared.Tables.{Tables}
 use Rattle.record.specs.declared.Source.{Source}
@@ -23,11 +23,11 @@ use Rattle.writer.specs.declared.Writer.{Writer}
 use Rattle.writer.specs.declared.Step.{Step}
 use Rattle.writer.specs.State.{position, isDue, stageOf, aligned, takenOk, tablesOk, operationOk, stageOk, inRange, tailSize}
 use Rattle.writer.proofs.Laws.{ranged}
-use Rattle.lower.specs.Lower.{mayTake, room, takenMore, withBytes, bytesStep}
+use Rattle.lower.specs.Lower.{mayAppend, room, takenMore, withBytes, bytesStep}
 use Rattle.lower.proofs.Laws.{bytes-took, took-some, takes-fits}
 use Rattle.run.specs.Run.{lowerStep, lowerOps, ranWriter, ranRegion}
-use Rattle.run.specs.Feed.{dues, feed}
-use Rattle.run.specs.Parts.{Ran, Fed}
+use Rattle.run.specs.Appends.{dues, appends}
+use Rattle.run.specs.Parts.{Ran, Appended}
 use Rattle.flash.specs.Flash.{performed}
 use Rattle.run.proofs.Laws.{quiet, quiet-settled, quiet-dues-writer, quiet-dues-ran, then-writer, then-region, fed-all-writer, fed-all-region}
 use Rattle.region.specs.Region.{capacity}
@@ -36,7 +36,7 @@ pub is-false : (b : Bool) → not b ≡ true → b ≡ false
 is-false true e = absurd (false≢true e)
 is-false false e = refl
 
-module _ (w : Writer) (m : mayTake w ≡ true) where
+module _ (w : Writer) (m : mayAppend w ≡ true) where
   in-range : inRange w ≡ true
   in-range = and-left (inRange w) (not (w .taken .closed)) m
 
@@ -91,7 +91,7 @@ tables-more : (n m : ℕ) (s : Tables) → n ≤ m → tablesOk n s ≡ true →
 unfolding tablesOk
 tables-more n m s h e = grow (leb (s .count) 3) (eqb (s .table) 8) (leb (s .table) 7) (leb 1 (s .count)) (leb (s .start) n) (leb (s .start) m) e (λ x. le-leb (s .start) m (omega (arith, leb-true (s .start) n x)))
 
-module _ (w : Writer) (y : ℕ) (m : mayTake w ≡ true) (h : w .taken .fill + 1 < tailSize) (k : position (w .taken) + 1 ≤ capacity) where
+module _ (w : Writer) (y : ℕ) (m : mayAppend w ≡ true) (h : w .taken .fill + 1 < tailSize) (k : position (w .taken) + 1 ≤ capacity) where
   abbrev next : Taken
   next = takenMore (w .taken) (y ∷ [])
 
@@ -114,7 +114,7 @@ module _ (w : Writer) (y : ℕ) (m : mayTake w ≡ true) (h : w .taken .fill + 1
   unfolding tablesOk withBytes
   next-tables = tables-more (position (w .taken)) (position next) (w .tables) (omega arith) (ranged w (in-range w m) .tables)
 
-  next-takes : mayTake (withBytes w (y ∷ [])) ≡ true
+  next-takes : mayAppend (withBytes w (y ∷ [])) ≡ true
   unfolding inRange withBytes
   next-takes =
       let a = ranged w (in-range w m) .active in
@@ -144,16 +144,16 @@ module _ (w : Writer) (y : ℕ) (xs : List ℕ) where
 
 -- ---- one call
 
-module _ (w : Writer) (xs : List ℕ) (m : mayTake w ≡ true) (d : isDue (w .taken) ≡ false) (k : position (w .taken) + length xs ≤ capacity) where
+module _ (w : Writer) (xs : List ℕ) (m : mayAppend w ≡ true) (d : isDue (w .taken) ≡ false) (k : position (w .taken) + length xs ≤ capacity) where
   pub all-taken : (n : ℕ) → n ≡ room (w .taken) (length xs) → bytesStep w xs .writer ≡ withBytes w (take n xs)
   all-taken n e = sym (ap (λ (s : Step). s .writer) (took-some w xs n (withBytes w (take n xs)) d e refl ∙ bytes-took w xs m k))
 
-byte-taken : (w : Writer) (y : ℕ) → mayTake w ≡ true → isDue (w .taken) ≡ false → w .taken .fill + 1 ≤ tailSize → position (w .taken) + 1 ≤ capacity → bytesStep w (y ∷ []) .writer ≡ withBytes w (y ∷ [])
+byte-taken : (w : Writer) (y : ℕ) → mayAppend w ≡ true → isDue (w .taken) ≡ false → w .taken .fill + 1 ≤ tailSize → position (w .taken) + 1 ≤ capacity → bytesStep w (y ∷ []) .writer ≡ withBytes w (y ∷ [])
 byte-taken w y m d h k = let e : 1 ≡ min 1 (tailSize - w .taken .fill) = omega arith in all-taken w (y ∷ []) m d (omega arith) 1 e
 
 -- ---- the run of a chunk
 
-due-after : (w : Writer) (y : ℕ) (m : mayTake w ≡ true) → w .taken .fill + 1 < tailSize → position (w .taken) + 1 ≤ capacity → isDue (withBytes w (y ∷ []) .taken) ≡ false
+due-after : (w : Writer) (y : ℕ) (m : mayAppend w ≡ true) → w .taken .fill + 1 < tailSize → position (w .taken) + 1 ≤ capacity → isDue (withBytes w (y ∷ []) .taken) ≡ false
 unfolding withBytes
 due-after w y m h k = next-none w y m h k
 
@@ -166,40 +166,40 @@ unfolding withBytes
 place-after w y ys h = omega arith
 
 module _ (region : List ℕ) (zs : List ℕ) where
-  chunk-writer : (ys : List ℕ) (y : ℕ) (w : Writer) → mayTake w ≡ true → isDue (w .taken) ≡ false → w .taken .fill + suc (length ys) ≤ tailSize → position (w .taken) + suc (length ys) ≤ capacity
-      → ranWriter region w (feed (y ∷ (ys ++ zs))) ≡ ranWriter region (withBytes w (y ∷ ys)) (dues ++ feed zs)
-  unfolding feed ranWriter lowerStep lowerOps performed
-  chunk-writer [] y w m d h k = ap (λ (v : Writer). ranWriter region v (dues ++ feed zs)) (byte-taken w y m d (omega arith) (omega arith))
+  chunk-writer : (ys : List ℕ) (y : ℕ) (w : Writer) → mayAppend w ≡ true → isDue (w .taken) ≡ false → w .taken .fill + suc (length ys) ≤ tailSize → position (w .taken) + suc (length ys) ≤ capacity
+      → ranWriter region w (appends (y ∷ (ys ++ zs))) ≡ ranWriter region (withBytes w (y ∷ ys)) (dues ++ appends zs)
+  unfolding appends ranWriter lowerStep lowerOps performed
+  chunk-writer [] y w m d h k = ap (λ (v : Writer). ranWriter region v (dues ++ appends zs)) (byte-taken w y m d (omega arith) (omega arith))
   chunk-writer (x ∷ ys) y w m d h k =
       let f : w .taken .fill + 1 < tailSize = omega arith in
       let p : position (w .taken) + 1 ≤ capacity = omega arith in
-      ap (λ (v : Writer). ranWriter region v (dues ++ feed (x ∷ (ys ++ zs)))) (byte-taken w y m d (omega arith) p)
-      ∙ quiet-dues-writer region (withBytes w (y ∷ [])) (feed (x ∷ (ys ++ zs))) (next-quiet w y m f p)
+      ap (λ (v : Writer). ranWriter region v (dues ++ appends (x ∷ (ys ++ zs)))) (byte-taken w y m d (omega arith) p)
+      ∙ quiet-dues-writer region (withBytes w (y ∷ [])) (appends (x ∷ (ys ++ zs))) (next-quiet w y m f p)
       ∙ chunk-writer ys x (withBytes w (y ∷ [])) (next-takes w y m f p) (due-after w y m f p) (fill-after w y ys h) (place-after w y ys k)
-      ∙ ap (λ (v : Writer). ranWriter region v (dues ++ feed zs)) (both-bytes w y (x ∷ ys))
+      ∙ ap (λ (v : Writer). ranWriter region v (dues ++ appends zs)) (both-bytes w y (x ∷ ys))
 
-  chunk-region : (ys : List ℕ) (y : ℕ) (w : Writer) → mayTake w ≡ true → isDue (w .taken) ≡ false → w .taken .fill + suc (length ys) ≤ tailSize → position (w .taken) + suc (length ys) ≤ capacity
-      → ranRegion region w (feed (y ∷ (ys ++ zs))) ≡ ranRegion region (withBytes w (y ∷ ys)) (dues ++ feed zs)
-  unfolding feed ranRegion lowerStep lowerOps performed
-  chunk-region [] y w m d h k = ap (λ (v : Writer). ranRegion region v (dues ++ feed zs)) (byte-taken w y m d (omega arith) (omega arith))
+  chunk-region : (ys : List ℕ) (y : ℕ) (w : Writer) → mayAppend w ≡ true → isDue (w .taken) ≡ false → w .taken .fill + suc (length ys) ≤ tailSize → position (w .taken) + suc (length ys) ≤ capacity
+      → ranRegion region w (appends (y ∷ (ys ++ zs))) ≡ ranRegion region (withBytes w (y ∷ ys)) (dues ++ appends zs)
+  unfolding appends ranRegion lowerStep lowerOps performed
+  chunk-region [] y w m d h k = ap (λ (v : Writer). ranRegion region v (dues ++ appends zs)) (byte-taken w y m d (omega arith) (omega arith))
   chunk-region (x ∷ ys) y w m d h k =
       let f : w .taken .fill + 1 < tailSize = omega arith in
       let p : position (w .taken) + 1 ≤ capacity = omega arith in
-      ap (λ (v : Writer). ranRegion region v (dues ++ feed (x ∷ (ys ++ zs)))) (byte-taken w y m d (omega arith) p)
-      ∙ quiet-dues-ran region (withBytes w (y ∷ [])) (feed (x ∷ (ys ++ zs))) (next-quiet w y m f p)
+      ap (λ (v : Writer). ranRegion region v (dues ++ appends (x ∷ (ys ++ zs)))) (byte-taken w y m d (omega arith) p)
+      ∙ quiet-dues-ran region (withBytes w (y ∷ [])) (appends (x ∷ (ys ++ zs))) (next-quiet w y m f p)
       ∙ chunk-region ys x (withBytes w (y ∷ [])) (next-takes w y m f p) (due-after w y m f p) (fill-after w y ys h) (place-after w y ys k)
-      ∙ ap (λ (v : Writer). ranRegion region v (dues ++ feed zs)) (both-bytes w y (x ∷ ys))
+      ∙ ap (λ (v : Writer). ranRegion region v (dues ++ appends zs)) (both-bytes w y (x ∷ ys))
 
-split : (region : List ℕ) (w : Writer) (bs : List ℕ) (n : ℕ) → mayTake w ≡ true → isDue (w .taken) ≡ false → 1 ≤ n → n ≤ length bs → w .taken .fill + n ≤ tailSize → position (w .taken) + n ≤ capacity
-    → (ranWriter region w (feed bs) ≡ ranWriter region (withBytes w (take n bs)) (dues ++ feed (drop n bs))) × (ranRegion region w (feed bs) ≡ ranRegion region (withBytes w (take n bs)) (dues ++ feed (drop n bs)))
+split : (region : List ℕ) (w : Writer) (bs : List ℕ) (n : ℕ) → mayAppend w ≡ true → isDue (w .taken) ≡ false → 1 ≤ n → n ≤ length bs → w .taken .fill + n ≤ tailSize → position (w .taken) + n ≤ capacity
+    → (ranWriter region w (appends bs) ≡ ranWriter region (withBytes w (take n bs)) (dues ++ appends (drop n bs))) × (ranRegion region w (appends bs) ≡ ranRegion region (withBytes w (take n bs)) (dues ++ appends (drop n bs)))
 split region w bs zero m d h i f k = absurd (omega arith)
 split region w [] (suc n) m d h i f k = absurd (omega arith)
 split region w (y ∷ bs) (suc n) m d h i f k =
     let j : n ≤ length bs = omega arith in
     let e : length (take n bs) ≡ n = length-take-le n bs j in
     let t = ap (λ (l : List ℕ). y ∷ l) (take-append-drop n bs) in (
-      sym (ap (λ (l : List ℕ). ranWriter region w (feed l)) t) ∙ chunk-writer region (drop n bs) (take n bs) y w m d (omega arith) (omega arith),
-      sym (ap (λ (l : List ℕ). ranRegion region w (feed l)) t) ∙ chunk-region region (drop n bs) (take n bs) y w m d (omega arith) (omega arith),
+      sym (ap (λ (l : List ℕ). ranWriter region w (appends l)) t) ∙ chunk-writer region (drop n bs) (take n bs) y w m d (omega arith) (omega arith),
+      sym (ap (λ (l : List ℕ). ranRegion region w (appends l)) t) ∙ chunk-region region (drop n bs) (take n bs) y w m d (omega arith) (omega arith),
     )
 
 some-by : (fill n l : ℕ) → n ≡ min l (tailSize - fill) → 1 ≤ l → fill ≤ tailSize → (fill ≡ tailSize → ⊥) → (1 ≤ n) × (n ≤ l) × (fill + n ≤ tailSize)
@@ -210,7 +210,7 @@ some-by fill n l e h k f = some-of (decLt fill tailSize)
     some-of (no x) = absurd (f (omega arith))
 
 -- a call that takes n of the bytes, then what is due
-module _ (region : List ℕ) (w : Writer) (bs : List ℕ) (m : mayTake w ≡ true) (d : isDue (w .taken) ≡ false) (k : position (w .taken) + length bs ≤ capacity) (l : 1 ≤ length bs) where
+module _ (region : List ℕ) (w : Writer) (bs : List ℕ) (m : mayAppend w ≡ true) (d : isDue (w .taken) ≡ false) (k : position (w .taken) + length bs ≤ capacity) (l : 1 ≤ length bs) where
   full-not : w .taken .fill ≡ tailSize → ⊥
   full-not e = false≢true (sym d ∙ due-full (w .taken) e)
 
@@ -222,21 +222,21 @@ module _ (region : List ℕ) (w : Writer) (bs : List ℕ) (m : mayTake w ≡ tru
       taken-is : s .writer ≡ withBytes w (take n bs)
       taken-is = ap (λ (x : Step). x .writer) f ∙ all-taken w bs m d k n e
 
-      chunk-fed : (1 ≤ n) × (n ≤ length bs) × (ranWriter r v (feed (drop n bs)) ≡ ranWriter region w (feed bs)) × (ranRegion r v (feed (drop n bs)) ≡ ranRegion region w (feed bs))
+      chunk-fed : (1 ≤ n) × (n ≤ length bs) × (ranWriter r v (appends (drop n bs)) ≡ ranWriter region w (appends bs)) × (ranRegion r v (appends (drop n bs)) ≡ ranRegion region w (appends bs))
       chunk-fed =
           let q = split region w bs n m d (some .0) (some .1) (some .2) (omega (arith, some .1)) in (
             some .0,
             some .1,
-            then-writer region (s .writer) dues (feed (drop n bs)) v r a b (ranWriter r v (feed (drop n bs))) refl ∙ ap (λ (x : Writer). ranWriter region x (dues ++ feed (drop n bs))) taken-is ∙ sym (q .0),
-            then-region region (s .writer) dues (feed (drop n bs)) v r a b (ranRegion r v (feed (drop n bs))) refl ∙ ap (λ (x : Writer). ranRegion region x (dues ++ feed (drop n bs))) taken-is ∙ sym (q .1),
+            then-writer region (s .writer) dues (appends (drop n bs)) v r a b (ranWriter r v (appends (drop n bs))) refl ∙ ap (λ (x : Writer). ranWriter region x (dues ++ appends (drop n bs))) taken-is ∙ sym (q .0),
+            then-region region (s .writer) dues (appends (drop n bs)) v r a b (ranRegion r v (appends (drop n bs))) refl ∙ ap (λ (x : Writer). ranRegion region x (dues ++ appends (drop n bs))) taken-is ∙ sym (q .1),
           )
 
 -- the same on parts
-pub chunk-parts : (region : List ℕ) (p : Parts) (bs : List ℕ) → ((ss : List Source) → mayTake (withSources p ss) ≡ true) → isDue (p .taken) ≡ false → position (p .taken) + length bs ≤ capacity → 1 ≤ length bs
-    → (n : ℕ) → n ≡ min (length bs) (tailSize - p .taken .fill) → (s : PartsStep) → ((ss : List Source) → stepWith s ss ≡ bytesStep (withSources p ss) bs) → (q : Parts) (r : List ℕ) → Ran region (s .parts) dues q r → Fed region p bs n q r
+pub chunk-parts : (region : List ℕ) (p : Parts) (bs : List ℕ) → ((ss : List Source) → mayAppend (withSources p ss) ≡ true) → isDue (p .taken) ≡ false → position (p .taken) + length bs ≤ capacity → 1 ≤ length bs
+    → (n : ℕ) → n ≡ min (length bs) (tailSize - p .taken .fill) → (s : PartsStep) → ((ss : List Source) → stepWith s ss ≡ bytesStep (withSources p ss) bs) → (q : Parts) (r : List ℕ) → Ran region (s .parts) dues q r → Appended region p bs n q r
 chunk-parts region p bs m d k l n e s f q r g = (at [] .0, at [] .1, λ ss. (at ss .2, at ss .3))
   where
-    at : (ss : List Source) → (1 ≤ n) × (n ≤ length bs) × (ranWriter r (withSources q ss) (feed (drop n bs)) ≡ ranWriter region (withSources p ss) (feed bs)) × (ranRegion r (withSources q ss) (feed (drop n bs)) ≡ ranRegion region (withSources p ss) (feed bs))
+    at : (ss : List Source) → (1 ≤ n) × (n ≤ length bs) × (ranWriter r (withSources q ss) (appends (drop n bs)) ≡ ranWriter region (withSources p ss) (appends bs)) × (ranRegion r (withSources q ss) (appends (drop n bs)) ≡ ranRegion region (withSources p ss) (appends bs))
     at ss = chunk-fed region (withSources p ss) bs (m ss) d k l n e (stepWith s ss) (f ss) (withSources q ss) r (g ss .0) (g ss .1)
 
 -- ---- bytes that leave room in the tail, and nothing is due
@@ -246,10 +246,10 @@ module _ (w : Writer) (d : isDue (w .taken) ≡ false) where
   unfolding stageOk
   quiet-by (Due o) e = absurd (false≢true (sym d ∙ and-left (isDue (w .taken)) (operationOk (w .beginning .comparing) (w .taken) o) e))
   quiet-by Idle e = refl
-  quiet-by Headed e = refl
+  quiet-by HeaderWritten e = refl
   quiet-by Committed e = refl
 
-module _ (region : List ℕ) (w : Writer) (bs : List ℕ) (m : mayTake w ≡ true) (d : isDue (w .taken) ≡ false) (k : position (w .taken) + length bs ≤ capacity) (l : 1 ≤ length bs) (h : w .taken .fill + length bs < tailSize) where
+module _ (region : List ℕ) (w : Writer) (bs : List ℕ) (m : mayAppend w ≡ true) (d : isDue (w .taken) ≡ false) (k : position (w .taken) + length bs ≤ capacity) (l : 1 ≤ length bs) (h : w .taken .fill + length bs < tailSize) where
   quiet-before : quiet (w .stage) ≡ true
   quiet-before = quiet-by w d (w .stage) (ranged w (in-range w m) .stage)
 
@@ -267,10 +267,10 @@ module _ (region : List ℕ) (w : Writer) (bs : List ℕ) (m : mayTake w ≡ tru
     quiet-after : quiet (s .writer .stage) ≡ true
     quiet-after = ap (λ (v : Writer). quiet (v .stage)) is-taken ∙ ap quiet stage-after
 
-    pub short-fed : (s .writer ≡ ranWriter region w (dues ++ (dues ++ feed bs))) × (region ≡ ranRegion region w (dues ++ (dues ++ feed bs)))
+    pub short-fed : (s .writer ≡ ranWriter region w (dues ++ (dues ++ appends bs))) × (region ≡ ranRegion region w (dues ++ (dues ++ appends bs)))
     short-fed =
         let q = quiet-settled region (s .writer) (s .writer .stage) refl quiet-after in
         let c = chunk-fed region w bs m d k l (length bs) all-fit s f (s .writer) region (q .0) (q .1) in (
-          fed-all-writer region (s .writer) bs (length bs) (omega arith) (ranWriter region w (feed bs)) (c .2) ∙ sym (quiet-dues-writer region w (dues ++ feed bs) quiet-before ∙ quiet-dues-writer region w (feed bs) quiet-before),
-          fed-all-region region (s .writer) bs (length bs) (omega arith) (ranRegion region w (feed bs)) (c .3) ∙ sym (quiet-dues-ran region w (dues ++ feed bs) quiet-before ∙ quiet-dues-ran region w (feed bs) quiet-before),
+          fed-all-writer region (s .writer) bs (length bs) (omega arith) (ranWriter region w (appends bs)) (c .2) ∙ sym (quiet-dues-writer region w (dues ++ appends bs) quiet-before ∙ quiet-dues-writer region w (appends bs) quiet-before),
+          fed-all-region region (s .writer) bs (length bs) (omega arith) (ranRegion region w (appends bs)) (c .3) ∙ sym (quiet-dues-ran region w (dues ++ appends bs) quiet-before ∙ quiet-dues-ran region w (appends bs) quiet-before),
         )

@@ -12,7 +12,7 @@ use Rattle.refusal.specs.declared.Refusal.the-variants.{Region, Turn}
 use Rattle.region.specs.Region.{regionSize}
 use Rattle.flash.specs.Flash.{Op, performed}
 use Rattle.writer.specs.declared.Stage.{Stage}
-use Rattle.writer.specs.declared.Stage.the-variants.{Idle, Due, Headed, Committed}
+use Rattle.writer.specs.declared.Stage.the-variants.{Idle, Due, HeaderWritten, Committed}
 use Rattle.writer.specs.declared.Parts.{Parts}
 use Rattle.writer.specs.declared.Writer.{Writer}
 use Rattle.writer.specs.Parts.{partsOf, withSources}
@@ -21,7 +21,7 @@ use Rattle.writer.specs.State.{stays, inRange, target}
 use Rattle.lower.specs.Lower.{bytesStep}
 use Rattle.due.specs.Due.{dueStep, dueOps, dueRegion, stepOf, opsOf}
 use Rattle.run.specs.Run.{Lower, bytes, due, lowerStep, lowerOps, lowerRegion, ranWriter, ranRegion}
-use Rattle.run.specs.Feed.{dues, feed}
+use Rattle.run.specs.Appends.{dues, appends}
 use Rattle.run.specs.Parts.{Ran}
 
 -- ---- what is due
@@ -30,14 +30,14 @@ use Rattle.run.specs.Parts.{Ran}
 abbrev pub quiet : Stage → Bool
 quiet (Due o) = false
 quiet Idle = true
-quiet Headed = true
+quiet HeaderWritten = true
 quiet Committed = true
 
 module _ (region : List ℕ) (w : Writer) where
   by-step : (t r : Bool) (s : Stage) → quiet s ≡ true → pick t (pick r (stepOf region w s) (stays w Turn)) (stays w Region) .writer ≡ w
   by-step true true (Due o) e = cc
   by-step true true Idle e = refl
-  by-step true true Headed e = refl
+  by-step true true HeaderWritten e = refl
   by-step true true Committed e = refl
   by-step true false s e = refl
   by-step false r s e = refl
@@ -45,7 +45,7 @@ module _ (region : List ℕ) (w : Writer) where
   by-ops : (t : Bool) (s : Stage) → quiet s ≡ true → pick t (opsOf (w .tail) s) [] ≡ []
   by-ops true (Due o) e = cc
   by-ops true Idle e = refl
-  by-ops true Headed e = refl
+  by-ops true HeaderWritten e = refl
   by-ops true Committed e = refl
   by-ops false s e = refl
 
@@ -92,10 +92,10 @@ unfolding ranWriter ranRegion
 ran-append-region [] ys region w = refl
 ran-append-region (c ∷ xs) ys region w = ran-append-region xs ys (lowerRegion region w c) (lowerStep region w c .writer)
 
-pub feed-append : (xs ys : List ℕ) → feed (xs ++ ys) ≡ feed xs ++ feed ys
-unfolding feed
-feed-append [] ys = refl
-feed-append (x ∷ xs) ys = ap (λ (cs : List Lower). bytes (x ∷ []) ∷ (dues ++ cs)) (feed-append xs ys)
+pub appends-append : (xs ys : List ℕ) → appends (xs ++ ys) ≡ appends xs ++ appends ys
+unfolding appends
+appends-append [] ys = refl
+appends-append (x ∷ xs) ys = ap (λ (cs : List Lower). bytes (x ∷ []) ∷ (dues ++ cs)) (appends-append xs ys)
 
 -- a run in two parts
 module _ (region : List ℕ) (w : Writer) (xs ys : List Lower) (v : Writer) (r : List ℕ) (a : v ≡ ranWriter region w xs) (b : r ≡ ranRegion region w xs) where
@@ -121,12 +121,12 @@ module _ (region : List ℕ) (w : Writer) where
 
 -- a byte, then what is due
 pub one-fed : (region : List ℕ) (w : Writer) (bs : List ℕ) → 1 ≤ length bs → (s : Step) → s ≡ bytesStep w (take 1 bs) → (v : Writer) (r : List ℕ) → v ≡ ranWriter region (s .writer) dues → r ≡ ranRegion region (s .writer) dues
-    → (ranWriter r v (feed (drop 1 bs)) ≡ ranWriter region w (feed bs)) × (ranRegion r v (feed (drop 1 bs)) ≡ ranRegion region w (feed bs))
-unfolding feed ranWriter ranRegion lowerStep lowerOps performed
+    → (ranWriter r v (appends (drop 1 bs)) ≡ ranWriter region w (appends bs)) × (ranRegion r v (appends (drop 1 bs)) ≡ ranRegion region w (appends bs))
+unfolding appends ranWriter ranRegion lowerStep lowerOps performed
 one-fed region w [] h s e v r a b = absurd (omega arith)
 one-fed region w (x ∷ xs) h s e v r a b = (
-  then-writer region (s .writer) dues (feed xs) v r a b (ranWriter r v (feed xs)) refl ∙ ap (λ (t : Step). ranWriter region (t .writer) (dues ++ feed xs)) e,
-  then-region region (s .writer) dues (feed xs) v r a b (ranRegion r v (feed xs)) refl ∙ ap (λ (t : Step). ranRegion region (t .writer) (dues ++ feed xs)) e,
+  then-writer region (s .writer) dues (appends xs) v r a b (ranWriter r v (appends xs)) refl ∙ ap (λ (t : Step). ranWriter region (t .writer) (dues ++ appends xs)) e,
+  then-region region (s .writer) dues (appends xs) v r a b (ranRegion r v (appends xs)) refl ∙ ap (λ (t : Step). ranRegion region (t .writer) (dues ++ appends xs)) e,
 )
 
 -- ---- the loop of feed
@@ -141,13 +141,13 @@ module _ {A : Type 0} (f g : List ℕ → A) (x : A) (bs : List ℕ) (i n : ℕ)
       ap g (sym (drop-drop n i bs)) ∙ ap (λ (l : List ℕ). g (drop n l)) (sym r) ∙ e ∙ ap f r ∙ k
 
 module _ (region : List ℕ) (w : Writer) (bs : List ℕ) (i : ℕ) (h : length bs ≤ i) where
-  pub fed-all-writer : (x : Writer) → ranWriter region w (feed (drop i bs)) ≡ x → w ≡ x
-  unfolding feed ranWriter
-  fed-all-writer x e = ap (λ (l : List ℕ). ranWriter region w (feed l)) (sym (drop-of-length-le bs h)) ∙ e
+  pub fed-all-writer : (x : Writer) → ranWriter region w (appends (drop i bs)) ≡ x → w ≡ x
+  unfolding appends ranWriter
+  fed-all-writer x e = ap (λ (l : List ℕ). ranWriter region w (appends l)) (sym (drop-of-length-le bs h)) ∙ e
 
-  pub fed-all-region : (x : List ℕ) → ranRegion region w (feed (drop i bs)) ≡ x → region ≡ x
-  unfolding feed ranRegion
-  fed-all-region x e = ap (λ (l : List ℕ). ranRegion region w (feed l)) (sym (drop-of-length-le bs h)) ∙ e
+  pub fed-all-region : (x : List ℕ) → ranRegion region w (appends (drop i bs)) ≡ x → region ≡ x
+  unfolding appends ranRegion
+  fed-all-region x e = ap (λ (l : List ℕ). ranRegion region w (appends l)) (sym (drop-of-length-le bs h)) ∙ e
 
 -- a run on a whole state, by its parts
 pub joined : (region : List ℕ) (w : Writer) (cs : List Lower) (p q : Parts) (v : Writer) (r : List ℕ) → p ≡ partsOf w → Ran region p cs q r → v ≡ withSources q (w .sources) → (v ≡ ranWriter region w cs) × (r ≡ ranRegion region w cs)

@@ -1,3 +1,3 @@
 pub mod Run
-pub mod Feed
+pub mod Appends
 pub mod Parts

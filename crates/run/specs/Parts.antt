@@ -7,14 +7,14 @@ use Rattle.record.specs.declared.Source.{Source}
 use Rattle.writer.specs.declared.Parts.{Parts}
 use Rattle.writer.specs.Parts.{withSources}
 use Rattle.run.specs.Run.{Lower, ranWriter, ranRegion}
-use Rattle.run.specs.Feed.{feed}
+use Rattle.run.specs.Appends.{appends}
 
 -- parts q and a region after a run from parts p
 abbrev pub Ran : List ℕ → Parts → List Lower → Parts → List ℕ → Type 0
 Ran region p cs q after = (ss : List Source) → (withSources q ss ≡ ranWriter region (withSources p ss) cs) × (after ≡ ranRegion region (withSources p ss) cs)
 
 -- parts q and a region from which feeding the bytes past the first n ends as feeding all from parts p does
-abbrev pub Fed : List ℕ → Parts → List ℕ → ℕ → Parts → List ℕ → Type 0
-Fed region p bs n q after =
+abbrev pub Appended : List ℕ → Parts → List ℕ → ℕ → Parts → List ℕ → Type 0
+Appended region p bs n q after =
     (1 ≤ n) × (n ≤ length bs)
-    × ((ss : List Source) → (ranWriter after (withSources q ss) (feed (drop n bs)) ≡ ranWriter region (withSources p ss) (feed bs)) × (ranRegion after (withSources q ss) (feed (drop n bs)) ≡ ranRegion region (withSources p ss) (feed bs)))
+    × ((ss : List Source) → (ranWriter after (withSources q ss) (appends (drop n bs)) ≡ ranWriter region (withSources p ss) (appends bs)) × (ranRegion after (withSources q ss) (appends (drop n bs)) ≡ ranRegion region (withSources p ss) (appends bs)))

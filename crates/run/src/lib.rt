@@ -10,13 +10,13 @@ ghost use Rattle.writer.specs.Parts.{withSources};
 ghost use Rattle.lower.specs.Lower as Lower;
 ghost use Rattle.run.specs.Run as Run;
 ghost use Rattle.run.specs.Run.{ranWriter, ranRegion};
-ghost use Rattle.run.specs.Feed as Feed;
+ghost use Rattle.run.specs.Appends as Appends;
 ghost use Rattle.run.specs.Parts as Partly;
 ghost use Rattle.region.specs.Region.{capacity};
 ghost use Rattle.writer.specs.State.{tailSize};
 use due::due_parts;
-use lower::append::take_parts;
-use lower::may_take_parts;
+use lower::append::append_parts;
+use lower::may_append_parts;
 use lower::room;
 use region::CAPACITY;
 use writer::Parts;
@@ -37,98 +37,98 @@ fn do_two(p: Parts, region: &mut [u8]) -> Parts
 }
 
 // Does what is still due, two operations at the most.
-fn settle_two(p: Parts, region: &mut [u8]) -> Parts
+fn flush_two(p: Parts, region: &mut [u8]) -> Parts
     ensures { λ r. ⌜ Partly.Ran (now (region .entry)) p (Run.due ∷ Run.due ∷ []) r (now (region .exit)) ⌝ }
 {
     let s = p.stage;
     match s {
         Stage::Due(_) => do_two(p, region),
         Stage::Idle => p,
-        Stage::Headed => p,
+        Stage::HeaderWritten => p,
         Stage::Committed => p,
     }
 }
 
 // What is due, of which there are at most three in a row.
 fn do_due(p: Parts, region: &mut [u8]) -> Parts
-    ensures { λ r. ⌜ Partly.Ran (now (region .entry)) p Feed.dues r (now (region .exit)) ⌝ }
+    ensures { λ r. ⌜ Partly.Ran (now (region .entry)) p Appends.dues r (now (region .exit)) ⌝ }
 {
     let a = due_parts(p, region);
-    settle_two(a.parts, region)
+    flush_two(a.parts, region)
 }
 
-fn settle_parts(p: Parts, region: &mut [u8]) -> Parts
-    ensures { λ r. ⌜ Partly.Ran (now (region .entry)) p Feed.dues r (now (region .exit)) ⌝ }
+fn flush_parts(p: Parts, region: &mut [u8]) -> Parts
+    ensures { λ r. ⌜ Partly.Ran (now (region .entry)) p Appends.dues r (now (region .exit)) ⌝ }
 {
     let s = p.stage;
     match s {
         Stage::Due(_) => do_due(p, region),
         Stage::Idle => p,
-        Stage::Headed => p,
+        Stage::HeaderWritten => p,
         Stage::Committed => p,
     }
 }
 
 // Does what is due.
-pub fn settle(w: Writer, region: &mut [u8]) -> Writer
-    ensures { λ r. ⌜ (r ≡ ranWriter (now (region .entry)) w Feed.dues) × (now (region .exit) ≡ ranRegion (now (region .entry)) w Feed.dues) ⌝ }
+pub fn flush(w: Writer, region: &mut [u8]) -> Writer
+    ensures { λ r. ⌜ (r ≡ ranWriter (now (region .entry)) w Appends.dues) × (now (region .exit) ≡ ranRegion (now (region .entry)) w Appends.dues) ⌝ }
 {
     let p = parts_of(w);
-    let q = settle_parts(p, region);
+    let q = flush_parts(p, region);
     let sources = w.sources;
     with_sources(q, sources)
 }
 
 // How many bytes were fed, and the parts after them.
-struct Fed {
+struct Appended {
     n: usize,
     parts: Parts,
 }
 
 // Feeds the first byte.
-fn feed_one(p: Parts, region: &mut [u8], bytes: &[u8]) -> Fed
+fn append_one(p: Parts, region: &mut [u8], bytes: &[u8]) -> Appended
     requires { ⌜ 1 ≤ length (now bytes) ⌝ }
-    ensures { λ r. ⌜ Partly.Fed (now (region .entry)) p (now (bytes .entry)) (r .n) (r .parts) (now (region .exit)) ⌝ }
+    ensures { λ r. ⌜ Partly.Appended (now (region .entry)) p (now (bytes .entry)) (r .n) (r .parts) (now (region .exit)) ⌝ }
 {
     let one = &bytes[0..1];
-    let s = take_parts(p, one);
-    let q = settle_parts(s.parts, region);
-    Fed { n: 1, parts: q }
+    let s = append_parts(p, one);
+    let q = flush_parts(s.parts, region);
+    Appended { n: 1, parts: q }
 }
 
 // Feeds as many bytes as the tail has room for.
-fn feed_chunk(p: Parts, region: &mut [u8], bytes: &[u8]) -> Fed
-    requires { ⌜ ((ss : List Source) → Lower.mayTake (withSources p ss) ≡ true) × (State.isDue (p .taken) ≡ false) × (State.position (p .taken) + length (now bytes) ≤ capacity) × (1 ≤ length (now bytes)) ⌝ }
-    ensures { λ r. ⌜ Partly.Fed (now (region .entry)) p (now (bytes .entry)) (r .n) (r .parts) (now (region .exit)) ⌝ }
+fn append_chunk(p: Parts, region: &mut [u8], bytes: &[u8]) -> Appended
+    requires { ⌜ ((ss : List Source) → Lower.mayAppend (withSources p ss) ≡ true) × (State.isDue (p .taken) ≡ false) × (State.position (p .taken) + length (now bytes) ≤ capacity) × (1 ≤ length (now bytes)) ⌝ }
+    ensures { λ r. ⌜ Partly.Appended (now (region .entry)) p (now (bytes .entry)) (r .n) (r .parts) (now (region .exit)) ⌝ }
 {
     let n = room(p.taken, bytes.len());
-    let s = take_parts(p, bytes);
-    let q = settle_parts(s.parts, region);
-    Fed { n, parts: q }
+    let s = append_parts(p, bytes);
+    let q = flush_parts(s.parts, region);
+    Appended { n, parts: q }
 }
 
 // Feeds the first bytes: as many as the tail has room for, or one.
-fn feed_some(p: Parts, region: &mut [u8], bytes: &[u8]) -> Fed
+fn append_some(p: Parts, region: &mut [u8], bytes: &[u8]) -> Appended
     requires { ⌜ 1 ≤ length (now bytes) ⌝ }
-    ensures { λ r. ⌜ Partly.Fed (now (region .entry)) p (now (bytes .entry)) (r .n) (r .parts) (now (region .exit)) ⌝ }
+    ensures { λ r. ⌜ Partly.Appended (now (region .entry)) p (now (bytes .entry)) (r .n) (r .parts) (now (region .exit)) ⌝ }
 {
     let t = p.taken;
-    if may_take_parts(p) & !is_due(t) {
+    if may_append_parts(p) & !is_due(t) {
         if bytes.len() <= CAPACITY - (t.written + t.fill) as usize {
-            return feed_chunk(p, region, bytes);
+            return append_chunk(p, region, bytes);
         }
     }
-    feed_one(p, region, bytes)
+    append_one(p, region, bytes)
 }
 
-fn feed_parts(p: Parts, region: &mut [u8], bytes: &[u8]) -> Parts
-    ensures { λ r. ⌜ Partly.Ran (now (region .entry)) p (Feed.feed (now (bytes .entry))) r (now (region .exit)) ⌝ }
+fn append_all_parts(p: Parts, region: &mut [u8], bytes: &[u8]) -> Parts
+    ensures { λ r. ⌜ Partly.Ran (now (region .entry)) p (Appends.appends (now (bytes .entry))) r (now (region .exit)) ⌝ }
 {
     let mut q = p;
     let mut i: usize = 0;
     while i < bytes.len() {
         let rest = &bytes[i..];
-        let f = feed_some(q, region, rest);
+        let f = append_some(q, region, rest);
         q = f.parts;
         i += f.n;
     }
@@ -136,38 +136,38 @@ fn feed_parts(p: Parts, region: &mut [u8], bytes: &[u8]) -> Parts
 }
 
 // Feeds bytes, and does what is due after each.
-pub fn feed(w: Writer, region: &mut [u8], bytes: &[u8]) -> Writer
-    ensures { λ r. ⌜ (r ≡ ranWriter (now (region .entry)) w (Feed.feed (now (bytes .entry)))) × (now (region .exit) ≡ ranRegion (now (region .entry)) w (Feed.feed (now (bytes .entry)))) ⌝ }
+pub fn append_all(w: Writer, region: &mut [u8], bytes: &[u8]) -> Writer
+    ensures { λ r. ⌜ (r ≡ ranWriter (now (region .entry)) w (Appends.appends (now (bytes .entry)))) × (now (region .exit) ≡ ranRegion (now (region .entry)) w (Appends.appends (now (bytes .entry)))) ⌝ }
 {
     let p = parts_of(w);
-    let q = feed_parts(p, region, bytes);
+    let q = append_all_parts(p, region, bytes);
     let sources = w.sources;
     with_sources(q, sources)
 }
 
-fn settle_feed_parts(p: Parts, region: &mut [u8], bytes: &[u8]) -> Parts
-    ensures { λ r. ⌜ Partly.Ran (now (region .entry)) p (Feed.dues ++ Feed.feed (now (bytes .entry))) r (now (region .exit)) ⌝ }
+fn flush_append_parts(p: Parts, region: &mut [u8], bytes: &[u8]) -> Parts
+    ensures { λ r. ⌜ Partly.Ran (now (region .entry)) p (Appends.dues ++ Appends.appends (now (bytes .entry))) r (now (region .exit)) ⌝ }
 {
-    let q = settle_parts(p, region);
-    feed_parts(q, region, bytes)
+    let q = flush_parts(p, region);
+    append_all_parts(q, region, bytes)
 }
 
 // Does what is due, then feeds bytes.
-pub fn settle_feed(w: Writer, region: &mut [u8], bytes: &[u8]) -> Writer
-    ensures { λ r. ⌜ (r ≡ ranWriter (now (region .entry)) w (Feed.dues ++ Feed.feed (now (bytes .entry)))) × (now (region .exit) ≡ ranRegion (now (region .entry)) w (Feed.dues ++ Feed.feed (now (bytes .entry)))) ⌝ }
+pub fn flush_append(w: Writer, region: &mut [u8], bytes: &[u8]) -> Writer
+    ensures { λ r. ⌜ (r ≡ ranWriter (now (region .entry)) w (Appends.dues ++ Appends.appends (now (bytes .entry)))) × (now (region .exit) ≡ ranRegion (now (region .entry)) w (Appends.dues ++ Appends.appends (now (bytes .entry)))) ⌝ }
 {
     let p = parts_of(w);
-    let q = settle_feed_parts(p, region, bytes);
+    let q = flush_append_parts(p, region, bytes);
     let sources = w.sources;
     with_sources(q, sources)
 }
 
 // Whether n bytes, some, leave room in the tail, and nothing is due before them.
-fn is_short(p: Parts, n: usize) -> bool
-    ensures { λ r. ⌜ (r ≡ true → ((ss : List Source) → Lower.mayTake (withSources p ss) ≡ true) × (State.isDue (p .taken) ≡ false) × (State.position (p .taken) + n ≤ capacity) × (1 ≤ n) × (p .taken .fill + n < tailSize)) ⌝ }
+fn fits_tail(p: Parts, n: usize) -> bool
+    ensures { λ r. ⌜ (r ≡ true → ((ss : List Source) → Lower.mayAppend (withSources p ss) ≡ true) × (State.isDue (p .taken) ≡ false) × (State.position (p .taken) + n ≤ capacity) × (1 ≤ n) × (p .taken .fill + n < tailSize)) ⌝ }
 {
     let t = p.taken;
-    if may_take_parts(p) & !is_due(t) {
+    if may_append_parts(p) & !is_due(t) {
         if n < (TAIL_SIZE_32 - t.fill) as usize {
             return (0 < n) & (n <= CAPACITY - (t.written + t.fill) as usize);
         }
@@ -176,13 +176,13 @@ fn is_short(p: Parts, n: usize) -> bool
 }
 
 // Does what is due, and again, then feeds bytes: by one call where nothing is due before and after them.
-pub fn feed_line_parts(p: Parts, region: &mut [u8], bytes: &[u8]) -> Parts
-    ensures { λ r. ⌜ Partly.Ran (now (region .entry)) p (Feed.dues ++ (Feed.dues ++ Feed.feed (now (bytes .entry)))) r (now (region .exit)) ⌝ }
+pub fn append_line_parts(p: Parts, region: &mut [u8], bytes: &[u8]) -> Parts
+    ensures { λ r. ⌜ Partly.Ran (now (region .entry)) p (Appends.dues ++ (Appends.dues ++ Appends.appends (now (bytes .entry)))) r (now (region .exit)) ⌝ }
 {
-    if is_short(p, bytes.len()) {
-        let s = take_parts(p, bytes);
+    if fits_tail(p, bytes.len()) {
+        let s = append_parts(p, bytes);
         return s.parts;
     }
-    let q = settle_parts(p, region);
-    settle_feed_parts(q, region, bytes)
+    let q = flush_parts(p, region);
+    flush_append_parts(q, region, bytes)
 }

@@ -37,11 +37,11 @@ use Rattle.writer.specs.declared.Writer.{Writer}
 use Rattle.writer.specs.declared.Step.{Step}
 use Rattle.writer.specs.State.{did, stays, position, isOpen, inRange}
 use Rattle.writer.proofs.Laws.{ranged, position-fits, open-table}
-use Rattle.lower.specs.Lower.{started, mayTake}
+use Rattle.lower.specs.Lower.{started, mayAppend}
 use Rattle.run.specs.Run.{Lower, source, table, end, close, lowerStep, lowerOps, lowerRegion, ranWriter, ranRegion}
-use Rattle.run.specs.Feed.{dues, feed}
+use Rattle.run.specs.Appends.{dues, appends}
 use Rattle.upper.specs.Upper.{Upper, runOf, argumentOk, orderOk, rowOk, allFits, refusalOf, runIf, upperRun, answered, upperStep, upperRegion, beginRefusal, keyBytes, beginRun, beganWith, beginStep, beginRegion}
-use Rattle.run.proofs.Laws.{feed-append, then-writer, then-region}
+use Rattle.run.proofs.Laws.{appends-append, then-writer, then-region}
 use Rattle.csv.specs.Csv.{maxRow}
 use Rattle.base.specs.Table.{lastTable}
 use Rattle.upper.specs.Sizes.{namesSize, maxBody}
@@ -122,9 +122,9 @@ module _ (region : List ℕ) (w : Writer) (u : Upper) where
         )
 
 -- no bytes always fit
-pub none-fits : (w : Writer) (b : Bool) → (mayTake w && b) ≡ true → leb (position (w .taken) + 0) capacity ≡ true
+pub none-fits : (w : Writer) (b : Bool) → (mayAppend w && b) ≡ true → leb (position (w .taken) + 0) capacity ≡ true
 none-fits w b e =
-    let m = and-left (mayTake w) b e in
+    let m = and-left (mayAppend w) b e in
     le-leb (position (w .taken) + 0) capacity (omega (arith, position-fits (w .taken) (ranged w (and-left (inRange w) (not (w .taken .closed)) m) .taken)))
 
 -- ---- the bytes of a call
@@ -216,15 +216,15 @@ module _ (t : ℕ) (texts lengths out o : List ℕ) (a : RowAnswer) (h : t ≤ l
 
 -- ---- the beginning
 
-module _ (region : List ℕ) (w : Writer) (xs ys zs : List ℕ) (z : xs ++ ys ≡ zs) (v : Writer) (r : List ℕ) (a : v ≡ ranWriter region w (feed xs)) (b : r ≡ ranRegion region w (feed xs)) where
-  pub feeds-writer : (u : Writer) → u ≡ ranWriter r v (feed ys) → u ≡ ranWriter region w (feed zs)
-  feeds-writer u e = then-writer region w (feed xs) (feed ys) v r a b u e ∙ ap (ranWriter region w) (sym (feed-append xs ys) ∙ ap feed z)
+module _ (region : List ℕ) (w : Writer) (xs ys zs : List ℕ) (z : xs ++ ys ≡ zs) (v : Writer) (r : List ℕ) (a : v ≡ ranWriter region w (appends xs)) (b : r ≡ ranRegion region w (appends xs)) where
+  pub appends-writer : (u : Writer) → u ≡ ranWriter r v (appends ys) → u ≡ ranWriter region w (appends zs)
+  appends-writer u e = then-writer region w (appends xs) (appends ys) v r a b u e ∙ ap (ranWriter region w) (sym (appends-append xs ys) ∙ ap appends z)
 
-  pub feeds-region : (u : List ℕ) → u ≡ ranRegion r v (feed ys) → u ≡ ranRegion region w (feed zs)
-  feeds-region u e = then-region region w (feed xs) (feed ys) v r a b u e ∙ ap (ranRegion region w) (sym (feed-append xs ys) ∙ ap feed z)
+  pub appends-region : (u : List ℕ) → u ≡ ranRegion r v (appends ys) → u ≡ ranRegion region w (appends zs)
+  appends-region u e = then-region region w (appends xs) (appends ys) v r a b u e ∙ ap (ranRegion region w) (sym (appends-append xs ys) ∙ ap appends z)
 
-pub prefix-none : (region : List ℕ) (w : Writer) (id : List ℕ) → length id ≡ 0 → (w ≡ ranWriter region w (feed (prefix id))) × (region ≡ ranRegion region w (feed (prefix id)))
-unfolding prefix feed ranWriter ranRegion
+pub prefix-none : (region : List ℕ) (w : Writer) (id : List ℕ) → length id ≡ 0 → (w ≡ ranWriter region w (appends (prefix id))) × (region ≡ ranRegion region w (appends (prefix id)))
+unfolding prefix appends ranWriter ranRegion
 prefix-none region w [] h = (refl, refl)
 prefix-none region w (x ∷ xs) h = absurd (omega arith)
 
@@ -286,8 +286,8 @@ module _ (region : List ℕ) (comparing : Bool) (now : ℤ) (id b l : List ℕ) 
   begin-refused : (x : Refusal) → beginRefusal region id b l ≡ some x → Begins (record { answer = Refused x; writer = started (NotRead x) comparing now }) region
   unfolding beginStep beginRegion beginRun ranRegion
   begin-refused x e = (
-    sym (ap (λ (o : Option Refusal). beganWith o (ranWriter region first (runIf o (feed (keyBytes id b l)))) comparing now) e),
-    sym (ap (λ (o : Option Refusal). ranRegion region first (runIf o (feed (keyBytes id b l)))) e),
+    sym (ap (λ (o : Option Refusal). beganWith o (ranWriter region first (runIf o (appends (keyBytes id b l)))) comparing now) e),
+    sym (ap (λ (o : Option Refusal). ranRegion region first (runIf o (appends (keyBytes id b l)))) e),
   )
 
   pub begin-region : (length region ≡ regionSize → ⊥) → Begins (record { answer = Refused Region; writer = started (NotRead Region) comparing now }) region
@@ -307,16 +307,16 @@ module _ (region : List ℕ) (comparing : Bool) (now : ℤ) (id b l : List ℕ) 
     unfolding beginRefusal
     begin-passed e k = rw (eq-eqb (length region) regionSize h, e, le-leb (length id) maxIdentity k)
 
-    pub begin-done : fit b l ≡ true → length id ≤ maxIdentity → (v : Writer) (r : List ℕ) → v ≡ ranWriter region first (feed (keyBytes id b l)) → r ≡ ranRegion region first (feed (keyBytes id b l)) → Begins (did v) r
+    pub begin-done : fit b l ≡ true → length id ≤ maxIdentity → (v : Writer) (r : List ℕ) → v ≡ ranWriter region first (appends (keyBytes id b l)) → r ≡ ranRegion region first (appends (keyBytes id b l)) → Begins (did v) r
     unfolding beginStep beginRegion beginRun
     begin-done e k v r x y =
         let n = begin-passed e k in (
-          ap did x ∙ sym (ap (λ (o : Option Refusal). beganWith o (ranWriter region first (runIf o (feed (keyBytes id b l)))) comparing now) n),
-          y ∙ sym (ap (λ (o : Option Refusal). ranRegion region first (runIf o (feed (keyBytes id b l)))) n),
+          ap did x ∙ sym (ap (λ (o : Option Refusal). beganWith o (ranWriter region first (runIf o (appends (keyBytes id b l)))) comparing now) n),
+          y ∙ sym (ap (λ (o : Option Refusal). ranRegion region first (runIf o (appends (keyBytes id b l)))) n),
         )
 
 -- an open table is one of the eight
-pub open-fits : (w : Writer) → (mayTake w && isOpen (w .tables)) ≡ true → w .tables .table ≤ lastTable
+pub open-fits : (w : Writer) → (mayAppend w && isOpen (w .tables)) ≡ true → w .tables .table ≤ lastTable
 open-fits w e =
-    let m = and-left (mayTake w) (isOpen (w .tables)) e in
-    open-table (position (w .taken)) (w .tables) (ranged w (and-left (inRange w) (not (w .taken .closed)) m) .tables) (and-right (mayTake w) (isOpen (w .tables)) e) .0
+    let m = and-left (mayAppend w) (isOpen (w .tables)) e in
+    open-table (position (w .taken)) (w .tables) (ranged w (and-left (inRange w) (not (w .taken .closed)) m) .tables) (and-right (mayAppend w) (isOpen (w .tables)) e) .0

@@ -25,9 +25,9 @@ use Rattle.writer.specs.declared.Answer.the-variants.{Done, Refused}
 use Rattle.writer.specs.declared.Writer.{Writer}
 use Rattle.writer.specs.declared.Step.{Step}
 use Rattle.writer.specs.State.{position, isOpen, stays}
-use Rattle.lower.specs.Lower.{started, mayTake, mayBegin}
+use Rattle.lower.specs.Lower.{started, mayAppend, mayBegin}
 use Rattle.run.specs.Run.{Lower, source, table, end, close, ranWriter, ranRegion, ranOps}
-use Rattle.run.specs.Feed.{dues, feed}
+use Rattle.run.specs.Appends.{dues, appends}
 use Rattle.base.specs.Table.{lastTable}
 use Rattle.header.specs.Header.{maxSources}
 
@@ -57,7 +57,7 @@ lowerOf closing = close ∷ []
 
 -- the run: what was due before is done first
 unfoldable pub runOf : Upper → List Lower
-runOf u = dues ++ (lowerOf u ++ (dues ++ feed (taken u)))
+runOf u = dues ++ (lowerOf u ++ (dues ++ appends (taken u)))
 
 -- 2, 11, 14, 10
 abbrev pub argumentOk : Upper → Bool
@@ -68,11 +68,11 @@ argumentOk tableEnd = true
 argumentOk closing = true
 
 abbrev pub orderOk : Writer → Upper → Bool
-orderOk w (sourceWithDates s) = mayTake w && not (isOpen (w .tables))
-orderOk w (tableWithNames t) = mayTake w && mayBegin (w .tables) t
-orderOk w (row texts lengths) = mayTake w && isOpen (w .tables)
-orderOk w tableEnd = mayTake w && isOpen (w .tables)
-orderOk w closing = mayTake w && not (isOpen (w .tables))
+orderOk w (sourceWithDates s) = mayAppend w && not (isOpen (w .tables))
+orderOk w (tableWithNames t) = mayAppend w && mayBegin (w .tables) t
+orderOk w (row texts lengths) = mayAppend w && isOpen (w .tables)
+orderOk w tableEnd = mayAppend w && isOpen (w .tables)
+orderOk w closing = mayAppend w && not (isOpen (w .tables))
 
 abbrev pub rowOk : Writer → Upper → Bool
 rowOk w (row texts lengths) = eqb (length lengths) (columnCount (w .tables .table)) && leb (length (rowOf (handed texts lengths))) maxRow
@@ -135,7 +135,7 @@ abbrev pub keyBytes : List ℕ → List ℕ → List ℕ → List ℕ
 keyBytes identity texts lengths = Key.keyOf identity (Picks.handed texts lengths)
 
 unfoldable pub beginRun : List ℕ → List ℕ → List ℕ → List ℕ → List Lower
-beginRun region identity texts lengths = runIf (beginRefusal region identity texts lengths) (feed (keyBytes identity texts lengths))
+beginRun region identity texts lengths = runIf (beginRefusal region identity texts lengths) (appends (keyBytes identity texts lengths))
 
 -- a refused beginning gives a state that every call refuses with 11
 abbrev pub beganWith : Option Refusal → Writer → Bool → ℤ → Step

@@ -8,7 +8,7 @@ ghost use Rattle.bank.specs.declared.Loaded.the-variants as Loadeds;
 ghost use Rattle.writer.specs.declared.Answer.the-variants as Answers;
 ghost use Rattle.lower.specs.Lower as Lower;
 ghost use Rattle.run.specs.Run.{ranWriter, ranRegion};
-ghost use Rattle.run.specs.Feed as Feed;
+ghost use Rattle.run.specs.Appends as Appends;
 ghost use Rattle.upper.specs.Upper as Upper;
 ghost use Rattle.region.specs.Region.{regionSize};
 use crate::MAX_BODY;
@@ -17,11 +17,11 @@ use key::KeyAnswer;
 use key::MAX_IDENTITY;
 use lower::begin::started;
 use lower::is_open;
-use lower::may_take;
+use lower::may_append;
 use refusal::Refusal;
 use region::REGION_SIZE;
-use run::feed;
-use run::settle;
+use run::append_all;
+use run::flush;
 use writer::Answer;
 use writer::Step;
 use writer::Writer;
@@ -29,8 +29,8 @@ use writer::did;
 use writer::stays;
 
 // Feeds the identity's part of the key.
-fn feed_prefix(w: Writer, region: &mut [u8], identity: &[u8]) -> Writer
-    ensures { λ r. ⌜ (r ≡ ranWriter (now (region .entry)) w (Feed.feed (Key.prefix (now (identity .entry))))) × (now (region .exit) ≡ ranRegion (now (region .entry)) w (Feed.feed (Key.prefix (now (identity .entry))))) ⌝ }
+fn append_prefix(w: Writer, region: &mut [u8], identity: &[u8]) -> Writer
+    ensures { λ r. ⌜ (r ≡ ranWriter (now (region .entry)) w (Appends.appends (Key.prefix (now (identity .entry))))) × (now (region .exit) ≡ ranRegion (now (region .entry)) w (Appends.appends (Key.prefix (now (identity .entry))))) ⌝ }
 {
     let n = identity.len();
     if n == 0 {
@@ -39,18 +39,18 @@ fn feed_prefix(w: Writer, region: &mut [u8], identity: &[u8]) -> Writer
     let mut head = [255u8; 3];
     head[1] = (n % 256) as u8;
     head[2] = (n / 256 % 256) as u8;
-    let v = feed(w, region, &head);
-    feed(v, region, identity)
+    let v = append_all(w, region, &head);
+    append_all(v, region, identity)
 }
 
 // The run of a beginning, the key behind the identity's part in the first n bytes.
 fn run_begin(w: Writer, region: &mut [u8], identity: &[u8], bytes: &[u8], n: usize) -> Writer
     requires { ⌜ n ≤ length (now bytes) ⌝ }
-    ensures { λ r. ⌜ (r ≡ ranWriter (now (region .entry)) w (Feed.feed (Key.prefix (now (identity .entry)) ++ take n (now (bytes .entry))))) × (now (region .exit) ≡ ranRegion (now (region .entry)) w (Feed.feed (Key.prefix (now (identity .entry)) ++ take n (now (bytes .entry))))) ⌝ }
+    ensures { λ r. ⌜ (r ≡ ranWriter (now (region .entry)) w (Appends.appends (Key.prefix (now (identity .entry)) ++ take n (now (bytes .entry))))) × (now (region .exit) ≡ ranRegion (now (region .entry)) w (Appends.appends (Key.prefix (now (identity .entry)) ++ take n (now (bytes .entry))))) ⌝ }
 {
     let body = &bytes[0..n];
-    let v = feed_prefix(w, region, identity);
-    feed(v, region, body)
+    let v = append_prefix(w, region, identity);
+    append_all(v, region, body)
 }
 
 // A state that every call refuses with 11.
@@ -109,9 +109,9 @@ pub fn begin(
 fn run_close(w: Writer, region: &mut [u8]) -> Writer
     ensures { λ r. ⌜ (r ≡ ranWriter (now (region .entry)) w (Upper.runOf Upper.closing)) × (now (region .exit) ≡ ranRegion (now (region .entry)) w (Upper.runOf Upper.closing)) ⌝ }
 {
-    let v = settle(w, region);
+    let v = flush(w, region);
     let k = lower::begin::close(v);
-    settle(k.writer, region)
+    flush(k.writer, region)
 }
 
 // Closes the update.
@@ -119,7 +119,7 @@ pub fn close(w: Writer, region: &mut [u8]) -> Step
     ensures { λ r. ⌜ (r ≡ Upper.upperStep (now (region .entry)) w Upper.closing) × (now (region .exit) ≡ Upper.upperRegion (now (region .entry)) w Upper.closing) ⌝ }
 {
     if region.len() == REGION_SIZE {
-        if may_take(w) & !is_open(w.tables) {
+        if may_append(w) & !is_open(w.tables) {
             let v = run_close(w, region);
             return did(v);
         }

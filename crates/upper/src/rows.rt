@@ -6,7 +6,7 @@ ghost use mathlib.Core.List.{List, _++_};
 ghost use lib.ListN.{length, take};
 ghost use Rattle.record.specs.declared.Source.{Source};
 ghost use Rattle.writer.specs.Parts.{withSources, stepWith};
-ghost use Rattle.run.specs.Feed as Feed;
+ghost use Rattle.run.specs.Appends as Appends;
 ghost use Rattle.run.specs.Parts as Partly;
 ghost use Rattle.upper.specs.Upper as Upper;
 ghost use Rattle.region.specs.Region.{regionSize};
@@ -15,11 +15,11 @@ use crate::SHORT_ROW;
 use crate::fits;
 use csv::MAX_ROW;
 use lower::is_open;
-use lower::may_take_parts;
+use lower::may_append_parts;
 use refusal::Refusal;
 use region::REGION_SIZE;
 use row::RowAnswer;
-use run::feed_line_parts;
+use run::append_line_parts;
 use writer::Parts;
 use writer::PartsStep;
 use writer::Step;
@@ -32,10 +32,10 @@ use writer::step_with;
 // The run of a row, which stands in the first n bytes.
 fn run_row(p: Parts, region: &mut [u8], bytes: &[u8], n: usize) -> Parts
     requires { ⌜ n ≤ length (now bytes) ⌝ }
-    ensures { λ r. ⌜ Partly.Ran (now (region .entry)) p (Feed.dues ++ (Feed.dues ++ Feed.feed (take n (now (bytes .entry))))) r (now (region .exit)) ⌝ }
+    ensures { λ r. ⌜ Partly.Ran (now (region .entry)) p (Appends.dues ++ (Appends.dues ++ Appends.appends (take n (now (bytes .entry))))) r (now (region .exit)) ⌝ }
 {
     let line = &bytes[0..n];
-    feed_line_parts(p, region, line)
+    append_line_parts(p, region, line)
 }
 
 // Feeds a row of the open table, where it is one and fits, of up to 8,192 bytes.
@@ -79,7 +79,7 @@ pub fn row_parts(p: Parts, region: &mut [u8], texts: &[u8], lengths: &[u32]) -> 
     ensures { λ r. ⌜ ((ss : List Source) → (stepWith r ss ≡ Upper.upperStep (now (region .entry)) (withSources p ss) (Upper.row (now (texts .entry)) (now (lengths .entry)))) × (now (region .exit) ≡ Upper.upperRegion (now (region .entry)) (withSources p ss) (Upper.row (now (texts .entry)) (now (lengths .entry))))) ⌝ }
 {
     if region.len() == REGION_SIZE {
-        if may_take_parts(p) & is_open(p.tables) {
+        if may_append_parts(p) & is_open(p.tables) {
             return row_in(p, region, texts, lengths);
         }
         return parts_stay(p, Refusal::Turn);

@@ -8,12 +8,12 @@ use crate::fits;
 use header::SOURCES_32;
 use leaf::bytes::put;
 use lower::is_open;
-use lower::may_take;
+use lower::may_append;
 use record::Source;
 use refusal::Refusal;
 use region::REGION_SIZE;
-use run::settle;
-use run::settle_feed;
+use run::flush;
+use run::flush_append;
 use writer::Step;
 use writer::Writer;
 use writer::did;
@@ -34,9 +34,9 @@ fn run_source(w: Writer, region: &mut [u8], s: Source) -> Writer
     ensures { λ r. ⌜ (r ≡ ranWriter (now (region .entry)) w (Upper.runOf (Upper.sourceWithDates s))) × (now (region .exit) ≡ ranRegion (now (region .entry)) w (Upper.runOf (Upper.sourceWithDates s))) ⌝ }
 {
     let d = dates(s);
-    let v = settle(w, region);
+    let v = flush(w, region);
     let t = lower::source::source(v, s);
-    settle_feed(t.writer, region, &d)
+    flush_append(t.writer, region, &d)
 }
 
 // Begins a source, and feeds its dates.
@@ -45,7 +45,7 @@ pub fn source(w: Writer, region: &mut [u8], s: Source) -> Step
 {
     let x = w.tables;
     if region.len() == REGION_SIZE {
-        if may_take(w) & !is_open(x) {
+        if may_append(w) & !is_open(x) {
             if (x.count < SOURCES_32) & fits(w.taken, 8) {
                 let v = run_source(w, region, s);
                 return did(v);

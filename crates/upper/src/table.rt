@@ -5,10 +5,10 @@ ghost use Rattle.run.specs.Run.{ranWriter, ranRegion};
 ghost use Rattle.upper.specs.Upper as Upper;
 use crate::fits;
 use lower::is_open;
-use lower::may_take;
+use lower::may_append;
 use refusal::Refusal;
-use run::settle;
-use run::settle_feed;
+use run::flush;
+use run::flush_append;
 use writer::Step;
 use writer::Writer;
 use writer::did;
@@ -18,7 +18,7 @@ ghost use mathlib.Core.List.{_∷_, _++_};
 ghost use lib.ListN.{length, take};
 ghost use Rattle.row.specs.Columns.{namesLine};
 ghost use Rattle.run.specs.Run as Run;
-ghost use Rattle.run.specs.Feed as Feed;
+ghost use Rattle.run.specs.Appends as Appends;
 ghost use Rattle.base.specs.Table.{lastTable};
 ghost use Rattle.upper.specs.Sizes.{namesSize};
 use crate::NAMES_SIZE;
@@ -31,9 +31,9 @@ use row::RowAnswer;
 fn run_end(w: Writer, region: &mut [u8]) -> Writer
     ensures { λ r. ⌜ (r ≡ ranWriter (now (region .entry)) w (Upper.runOf Upper.tableEnd)) × (now (region .exit) ≡ ranRegion (now (region .entry)) w (Upper.runOf Upper.tableEnd)) ⌝ }
 {
-    let v = settle(w, region);
+    let v = flush(w, region);
     let e = lower::table::end(v);
-    settle(e.writer, region)
+    flush(e.writer, region)
 }
 
 // Ends the open table.
@@ -41,7 +41,7 @@ pub fn end(w: Writer, region: &mut [u8]) -> Step
     ensures { λ r. ⌜ (r ≡ Upper.upperStep (now (region .entry)) w Upper.tableEnd) × (now (region .exit) ≡ Upper.upperRegion (now (region .entry)) w Upper.tableEnd) ⌝ }
 {
     if region.len() == REGION_SIZE {
-        if may_take(w) & is_open(w.tables) {
+        if may_append(w) & is_open(w.tables) {
             let v = run_end(w, region);
             return did(v);
         }
@@ -71,12 +71,12 @@ fn names(table: u32) -> Line
 // The run of a table's beginning, its names line in the first n bytes.
 fn run_table(w: Writer, region: &mut [u8], table: u32, names: [u8; NAMES_SIZE], n: usize) -> Writer
     requires { ⌜ n ≤ namesSize ⌝ }
-    ensures { λ r. ⌜ (r ≡ ranWriter (now (region .entry)) w (Feed.dues ++ (Run.table table ∷ (Feed.dues ++ Feed.feed (take n names))))) × (now (region .exit) ≡ ranRegion (now (region .entry)) w (Feed.dues ++ (Run.table table ∷ (Feed.dues ++ Feed.feed (take n names))))) ⌝ }
+    ensures { λ r. ⌜ (r ≡ ranWriter (now (region .entry)) w (Appends.dues ++ (Run.table table ∷ (Appends.dues ++ Appends.appends (take n names))))) × (now (region .exit) ≡ ranRegion (now (region .entry)) w (Appends.dues ++ (Run.table table ∷ (Appends.dues ++ Appends.appends (take n names))))) ⌝ }
 {
     let line = &names[0..n];
-    let v = settle(w, region);
+    let v = flush(w, region);
     let t = lower::table::table(v, table);
-    settle_feed(t.writer, region, line)
+    flush_append(t.writer, region, line)
 }
 
 // Begins a table, and feeds its names line.
@@ -85,7 +85,7 @@ pub fn table(w: Writer, region: &mut [u8], table: u32) -> Step
 {
     if region.len() == REGION_SIZE {
         if table <= LAST_TABLE {
-            if may_take(w) & may_begin(w.tables, table) {
+            if may_append(w) & may_begin(w.tables, table) {
                 let l = names(table);
                 let n = l.n;
                 let bytes = l.bytes;

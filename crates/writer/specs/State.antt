@@ -12,7 +12,7 @@ use Rattle.bank.specs.declared.Loaded.the-variants.{Found, Nothing, Refused as 
 use Rattle.writer.specs.declared.Operation.{Operation}
 use Rattle.writer.specs.declared.Operation.the-variants.{Erase, Write, Compare}
 use Rattle.writer.specs.declared.Stage.{Stage}
-use Rattle.writer.specs.declared.Stage.the-variants.{Idle, Due, Headed, Committed}
+use Rattle.writer.specs.declared.Stage.the-variants.{Idle, Due, HeaderWritten, Committed}
 use Rattle.writer.specs.declared.Taken.{Taken}
 use Rattle.writer.specs.declared.Tables.{Tables}
 use Rattle.writer.specs.declared.Writer.{Writer}
@@ -111,7 +111,7 @@ operationOk comparing t (Compare a n) = comparing && (eqb a (t .written) && eqb 
 unfoldable pub stageOk : Bool → Taken → Stage → Bool
 stageOk comparing t Idle = not (isDue t)
 stageOk comparing t (Due o) = isDue t && operationOk comparing t o
-stageOk comparing t Headed = not comparing && (t .closed && eqb (t .fill) 0)
+stageOk comparing t HeaderWritten = not comparing && (t .closed && eqb (t .fill) 0)
 stageOk comparing t Committed = not comparing && (t .closed && eqb (t .fill) 0)
 
 unfoldable pub inRange : Writer → Bool

@@ -29,7 +29,7 @@ pub enum Operation {
 pub enum Stage {
     Idle,
     Due(Operation),
-    Headed,
+    HeaderWritten,
     Committed,
 }
 
@@ -213,7 +213,7 @@ fn stage_ok(comparing: bool, t: Taken, s: Stage) -> bool
     match s {
         Stage::Idle => !is_due(t),
         Stage::Due(o) => is_due(t) & operation_ok(comparing, t, o),
-        Stage::Headed => !comparing & (t.closed & (t.fill == 0)),
+        Stage::HeaderWritten => !comparing & (t.closed & (t.fill == 0)),
         Stage::Committed => !comparing & (t.closed & (t.fill == 0)),
     }
 }

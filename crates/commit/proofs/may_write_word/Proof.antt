@@ -6,11 +6,11 @@ use Rattle.commit.proofs.may_write_word.Tie as tie
 in-range-requires : tie.Need-in-range-requires
 in-range-requires c κs = search needs
 
-is-headed-requires : tie.Need-is-headed-requires
-is-headed-requires c κs = search needs
+is-header-written-requires : tie.Need-is-header-written-requires
+is-header-written-requires c κs = search needs
 
 returns : tie.Need-returns
-returns c = λ i. c .before .in-range .ensures i && c .is-headed .ensures i
+returns c = λ i. c .before .in-range .ensures i && c .is-header-written .ensures i
 
 pub may-write-word-spec : {M : Type 1} → statement M
-may-write-word-spec = tie.close (tie.spec in-range-requires is-headed-requires returns)
+may-write-word-spec = tie.close (tie.spec in-range-requires is-header-written-requires returns)

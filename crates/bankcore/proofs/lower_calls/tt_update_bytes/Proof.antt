@@ -13,8 +13,8 @@ use Rattle.bankcore.proofs.lower_calls.tt_update_bytes.Tie as tie
 parts-of-requires : tie.Need-parts-of-requires
 parts-of-requires c κs = search needs
 
-take-parts-requires : tie.Need-take-parts-requires
-take-parts-requires c κs = search needs
+append-parts-requires : tie.Need-append-parts-requires
+append-parts-requires c κs = search needs
 
 after-parts-requires : tie.Need-after-parts-requires
 after-parts-requires c κs = search needs
@@ -27,8 +27,8 @@ returns c =
     let d = t .before in
     let a = d .before .before .args in
     let ss = a .state .sources in
-    let e = t .take-parts .ensures ss ∙ ap (λ (p : Parts). bytesStep (withSources p ss) (a .bytes .now)) (d .parts-of .ensures) in
-    ap (with-tail (t .take-parts .result .parts .tail)) (x .after-parts .ensures) ∙ ap (λ (s : Step). with-tail (s .writer .tail) (after s (a .state))) e ∙ bytes-tail (a .state) (a .bytes .now)
+    let e = t .append-parts .ensures ss ∙ ap (λ (p : Parts). bytesStep (withSources p ss) (a .bytes .now)) (d .parts-of .ensures) in
+    ap (with-tail (t .append-parts .result .parts .tail)) (x .after-parts .ensures) ∙ ap (λ (s : Step). with-tail (s .writer .tail) (after s (a .state))) e ∙ bytes-tail (a .state) (a .bytes .now)
 
 pub tt-update-bytes-spec : {M : Type 1} → statement M
-tt-update-bytes-spec = tie.close (tie.spec parts-of-requires take-parts-requires after-parts-requires returns)
+tt-update-bytes-spec = tie.close (tie.spec parts-of-requires append-parts-requires after-parts-requires returns)

@@ -9,8 +9,8 @@ use Rattle.lower.proofs.append.bytes.Tie as tie
 parts-of-requires : tie.Need-parts-of-requires
 parts-of-requires c κs = search needs
 
-take-parts-requires : tie.Need-take-parts-requires
-take-parts-requires c κs = search needs
+append-parts-requires : tie.Need-append-parts-requires
+append-parts-requires c κs = search needs
 
 step-with-requires : tie.Need-step-with-requires
 step-with-requires c κs = search needs
@@ -20,7 +20,7 @@ returns c =
     let t = c .before .before in
     let a = t .before .before .before .args in
     let ss = a .w .sources in
-    c .step-with .ensures ∙ t .take-parts .ensures ss ∙ ap (λ (p : Parts). bytesStep (withSources p ss) (a .offered .now)) (t .before .parts-of .ensures)
+    c .step-with .ensures ∙ t .append-parts .ensures ss ∙ ap (λ (p : Parts). bytesStep (withSources p ss) (a .offered .now)) (t .before .parts-of .ensures)
 
 pub bytes-spec : {M : Type 1} → statement M
-bytes-spec = tie.close (tie.spec parts-of-requires take-parts-requires step-with-requires returns)
+bytes-spec = tie.close (tie.spec parts-of-requires append-parts-requires step-with-requires returns)

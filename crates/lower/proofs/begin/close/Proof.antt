@@ -6,8 +6,8 @@ use borrow.Author.Needs.{needs}
 use Rattle.lower.proofs.begin.close.Statement.{statement}
 use Rattle.lower.proofs.begin.close.Tie as tie
 
-may-take-requires : tie.Need-may-take-requires
-may-take-requires c κs = search needs
+may-append-requires : tie.Need-may-append-requires
+may-append-requires c κs = search needs
 
 is-open-requires : tie.Need-is-open-requires
 is-open-requires c κs = search needs
@@ -23,7 +23,7 @@ returns c =
     let o = c .before .before .before in
     let m = o .before in
     let a = m .before .args in
-    c .did .ensures ∙ ap did (c .before .with-closed .ensures) ∙ close-done (a .w) ((λ i. sym (m .may-take .ensures) i && not (sym (o .is-open .ensures) i)) ∙ c .before .before .if1 .taken)
+    c .did .ensures ∙ ap did (c .before .with-closed .ensures) ∙ close-done (a .w) ((λ i. sym (m .may-append .ensures) i && not (sym (o .is-open .ensures) i)) ∙ c .before .before .if1 .taken)
 
 stays-requires : tie.Need-stays-requires
 stays-requires c κs = search needs
@@ -33,13 +33,13 @@ returns-2 c =
     let o = c .before .before in
     let m = o .before in
     let a = m .before .args in
-    c .stays .ensures ∙ close-turn (a .w) ((λ i. sym (m .may-take .ensures) i && not (sym (o .is-open .ensures) i)) ∙ c .before .if1 .left)
+    c .stays .ensures ∙ close-turn (a .w) ((λ i. sym (m .may-append .ensures) i && not (sym (o .is-open .ensures) i)) ∙ c .before .if1 .left)
 
 pub close-spec : {M : Type 1} → statement M
 close-spec =
     tie.close
     (tie.spec
-    may-take-requires
+    may-append-requires
     is-open-requires
     with-closed-requires
     did-requires

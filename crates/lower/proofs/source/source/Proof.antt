@@ -6,8 +6,8 @@ use borrow.Author.Needs.{needs}
 use Rattle.lower.proofs.source.source.Statement.{statement}
 use Rattle.lower.proofs.source.source.Tie as tie
 
-may-take-requires : tie.Need-may-take-requires
-may-take-requires c κs = search needs
+may-append-requires : tie.Need-may-append-requires
+may-append-requires c κs = search needs
 
 is-open-requires : tie.Need-is-open-requires
 is-open-requires c κs = search needs
@@ -24,7 +24,7 @@ returns c =
     let o = t .before in
     let m = o .before in
     let a = m .before .before .args in
-    c .did .ensures ∙ ap did (c .before .with-source .ensures) ∙ source-done (a .w) (a .s) ((λ i. sym (m .may-take .ensures) i && not (sym (o .is-open .ensures) i)) ∙ t .if1 .taken) (c .before .before .if2 .taken)
+    c .did .ensures ∙ ap did (c .before .with-source .ensures) ∙ source-done (a .w) (a .s) ((λ i. sym (m .may-append .ensures) i && not (sym (o .is-open .ensures) i)) ∙ t .if1 .taken) (c .before .before .if2 .taken)
 
 stays-requires : tie.Need-stays-requires
 stays-requires c κs = search needs
@@ -35,7 +35,7 @@ returns-2 c =
     let o = t .before in
     let m = o .before in
     let a = m .before .before .args in
-    c .stays .ensures ∙ source-full (a .w) (a .s) ((λ i. sym (m .may-take .ensures) i && not (sym (o .is-open .ensures) i)) ∙ t .if1 .taken) (c .before .if2 .left)
+    c .stays .ensures ∙ source-full (a .w) (a .s) ((λ i. sym (m .may-append .ensures) i && not (sym (o .is-open .ensures) i)) ∙ t .if1 .taken) (c .before .if2 .left)
 
 stays-requires-2 : tie.Need-stays-requires-2
 stays-requires-2 c κs = search needs
@@ -46,13 +46,13 @@ returns-3 c =
     let o = t .before in
     let m = o .before in
     let a = m .before .before .args in
-    c .stays2 .ensures ∙ source-turn (a .w) (a .s) ((λ i. sym (m .may-take .ensures) i && not (sym (o .is-open .ensures) i)) ∙ t .if1 .left)
+    c .stays2 .ensures ∙ source-turn (a .w) (a .s) ((λ i. sym (m .may-append .ensures) i && not (sym (o .is-open .ensures) i)) ∙ t .if1 .left)
 
 pub source-spec : {M : Type 1} → statement M
 source-spec =
     tie.close
     (tie.spec
-    may-take-requires
+    may-append-requires
     is-open-requires
     with-source-requires
     did-requires

@@ -2,7 +2,7 @@ use mathlib.Core.Path.{sym, ap, _∙_}
 use mathlib.Core.Bool.{not, _&&_}
 use Rattle.lower.proofs.Laws.{end-done, end-turn}
 use Rattle.writer.proofs.Laws.{ranged, open-table, count-fits, position-fits}
-use Rattle.lower.specs.Lower.{mayTake}
+use Rattle.lower.specs.Lower.{mayAppend}
 use Rattle.writer.specs.State.{did}
 use Rattle.writer.specs.State.{isOpen, inRange, position}
 use Rattle.base.proofs.Bools.{and-left, and-right}
@@ -10,8 +10,8 @@ use borrow.Author.Needs.{needs}
 use Rattle.lower.proofs.table.end.Statement.{statement}
 use Rattle.lower.proofs.table.end.Tie as tie
 
-may-take-requires : tie.Need-may-take-requires
-may-take-requires c κs = search needs
+may-append-requires : tie.Need-may-append-requires
+may-append-requires c κs = search needs
 
 is-open-requires : tie.Need-is-open-requires
 is-open-requires c κs = search needs
@@ -21,9 +21,9 @@ with-end-requires c κs =
     let o = c .before in
     let m = o .before in
     let a = m .before .args in
-    let e = (λ i. sym (m .may-take .ensures) i && sym (o .is-open .ensures) i) ∙ c .if1 .taken in
-    let r = ranged (a .w) (and-left (inRange (a .w)) (not (a .w .taken .closed)) (and-left (mayTake (a .w)) (isOpen (a .w .tables)) e)) in
-    let t = open-table (position (a .w .taken)) (a .w .tables) (r .tables) (and-right (mayTake (a .w)) (isOpen (a .w .tables)) e) in
+    let e = (λ i. sym (m .may-append .ensures) i && sym (o .is-open .ensures) i) ∙ c .if1 .taken in
+    let r = ranged (a .w) (and-left (inRange (a .w)) (not (a .w .taken .closed)) (and-left (mayAppend (a .w)) (isOpen (a .w .tables)) e)) in
+    let t = open-table (position (a .w .taken)) (a .w .tables) (r .tables) (and-right (mayAppend (a .w)) (isOpen (a .w .tables)) e) in
     (t .0, t .1, count-fits (position (a .w .taken)) (a .w .tables) (r .tables), t .2, position-fits (a .w .taken) (r .taken))
 
 did-requires : tie.Need-did-requires
@@ -34,7 +34,7 @@ returns c =
     let o = c .before .before .before in
     let m = o .before in
     let a = m .before .args in
-    c .did .ensures ∙ ap did (c .before .with-end .ensures) ∙ end-done (a .w) ((λ i. sym (m .may-take .ensures) i && sym (o .is-open .ensures) i) ∙ c .before .before .if1 .taken)
+    c .did .ensures ∙ ap did (c .before .with-end .ensures) ∙ end-done (a .w) ((λ i. sym (m .may-append .ensures) i && sym (o .is-open .ensures) i) ∙ c .before .before .if1 .taken)
 
 stays-requires : tie.Need-stays-requires
 stays-requires c κs = search needs
@@ -44,13 +44,13 @@ returns-2 c =
     let o = c .before .before in
     let m = o .before in
     let a = m .before .args in
-    c .stays .ensures ∙ end-turn (a .w) ((λ i. sym (m .may-take .ensures) i && sym (o .is-open .ensures) i) ∙ c .before .if1 .left)
+    c .stays .ensures ∙ end-turn (a .w) ((λ i. sym (m .may-append .ensures) i && sym (o .is-open .ensures) i) ∙ c .before .if1 .left)
 
 pub end-spec : {M : Type 1} → statement M
 end-spec =
     tie.close
     (tie.spec
-    may-take-requires
+    may-append-requires
     is-open-requires
     with-end-requires
     did-requires

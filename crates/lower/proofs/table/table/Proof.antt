@@ -2,7 +2,7 @@ use mathlib.Core.Path.{sym, ap, _∙_}
 use mathlib.Core.Bool.{not, _&&_}
 use Rattle.lower.proofs.Laws.{table-done, table-turn, table-argument}
 use Rattle.writer.proofs.Laws.{position-fits, ranged}
-use Rattle.lower.specs.Lower.{mayTake, mayBegin}
+use Rattle.lower.specs.Lower.{mayAppend, mayBegin}
 use Rattle.writer.specs.State.{did}
 use Rattle.writer.specs.State.{inRange}
 use Rattle.base.proofs.Bools.{and-left}
@@ -10,8 +10,8 @@ use borrow.Author.Needs.{needs}
 use Rattle.lower.proofs.table.table.Statement.{statement}
 use Rattle.lower.proofs.table.table.Tie as tie
 
-may-take-requires : tie.Need-may-take-requires
-may-take-requires c κs = search needs
+may-append-requires : tie.Need-may-append-requires
+may-append-requires c κs = search needs
 
 may-begin-requires : tie.Need-may-begin-requires
 may-begin-requires c κs = search needs
@@ -21,7 +21,7 @@ with-table-requires c κs =
     let o = c .before in
     let m = o .before in
     let a = m .before .before .args in
-    (m .before .if1 .taken, position-fits (a .w .taken) (ranged (a .w) (and-left (inRange (a .w)) (not (a .w .taken .closed)) (and-left (mayTake (a .w)) (mayBegin (a .w .tables) (a .table)) ((λ i. sym (m .may-take .ensures) i && sym (o .may-begin .ensures) i) ∙ c .if2 .taken))) .taken))
+    (m .before .if1 .taken, position-fits (a .w .taken) (ranged (a .w) (and-left (inRange (a .w)) (not (a .w .taken .closed)) (and-left (mayAppend (a .w)) (mayBegin (a .w .tables) (a .table)) ((λ i. sym (m .may-append .ensures) i && sym (o .may-begin .ensures) i) ∙ c .if2 .taken))) .taken))
 
 did-requires : tie.Need-did-requires
 did-requires c κs = search needs
@@ -31,7 +31,7 @@ returns c =
     let o = c .before .before .before in
     let m = o .before in
     let a = m .before .before .args in
-    c .did .ensures ∙ ap did (c .before .with-table .ensures) ∙ table-done (a .w) (a .table) (m .before .if1 .taken) ((λ i. sym (m .may-take .ensures) i && sym (o .may-begin .ensures) i) ∙ c .before .before .if2 .taken)
+    c .did .ensures ∙ ap did (c .before .with-table .ensures) ∙ table-done (a .w) (a .table) (m .before .if1 .taken) ((λ i. sym (m .may-append .ensures) i && sym (o .may-begin .ensures) i) ∙ c .before .before .if2 .taken)
 
 stays-requires : tie.Need-stays-requires
 stays-requires c κs = search needs
@@ -41,7 +41,7 @@ returns-2 c =
     let o = c .before .before in
     let m = o .before in
     let a = m .before .before .args in
-    c .stays .ensures ∙ table-turn (a .w) (a .table) (m .before .if1 .taken) ((λ i. sym (m .may-take .ensures) i && sym (o .may-begin .ensures) i) ∙ c .before .if2 .left)
+    c .stays .ensures ∙ table-turn (a .w) (a .table) (m .before .if1 .taken) ((λ i. sym (m .may-append .ensures) i && sym (o .may-begin .ensures) i) ∙ c .before .if2 .left)
 
 stays-requires-2 : tie.Need-stays-requires-2
 stays-requires-2 c κs = search needs
@@ -55,7 +55,7 @@ pub table-spec : {M : Type 1} → statement M
 table-spec =
     tie.close
     (tie.spec
-    may-take-requires
+    may-append-requires
     may-begin-requires
     with-table-requires
     did-requires

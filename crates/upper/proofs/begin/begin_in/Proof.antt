@@ -9,7 +9,7 @@ use Rattle.bank.specs.declared.Loaded.the-variants.{Refused as NotRead}
 use Rattle.writer.specs.declared.Answer.the-variants.{Refused}
 use Rattle.lower.specs.Lower.{started, begun}
 use Rattle.run.specs.Run.{ranWriter, ranRegion}
-use Rattle.run.specs.Feed.{feed}
+use Rattle.run.specs.Appends.{appends}
 use Rattle.upper.proofs.Laws.{key-not, key-fit, key-room, key-there, begin-argument, begin-identity, begin-done}
 use borrow.Author.Needs.{needs}
 use Rattle.upper.proofs.begin.begin_in.Statement.{statement}
@@ -97,8 +97,8 @@ returns-3 c =
     begin-done (y .region .now) (y .comparing) (y .at) (y .identity .now) (y .texts .now) (y .lengths .now) (s .pre) (key-fit (y .texts .now) (y .lengths .now) (replicate 2257 0) (r .key .last .1 .1 .1 .0) (r .key .result) (length-replicate {A = ℕ} 2257 0) (r .key .ensures .0) (r .key .ensures .1) (n .0 .0) (n .1)) (c .before .before .before .before .before .before .before .before .if1 .left)
     (x .result)
     (x .last .1 .0)
-    (x .ensures .0 ∙ (λ i. ranWriter (y .region .now) (e i .writer) (feed (k i))))
-    (x .ensures .1 ∙ (λ i. ranRegion (y .region .now) (e i .writer) (feed (k i)))) in
+    (x .ensures .0 ∙ (λ i. ranWriter (y .region .now) (e i .writer) (appends (k i))))
+    (x .ensures .1 ∙ (λ i. ranRegion (y .region .now) (e i .writer) (appends (k i)))) in
     (c .did .ensures ∙ d .0, d .1)
 
 pub begin-in-spec : {M : Type 1} → statement M

@@ -5,8 +5,8 @@ use native.Mathlib.Nat.{sub-zero}
 use lib.ListN.{take}
 use Rattle.key.specs.Layout.{prefix}
 use Rattle.run.specs.Run.{ranWriter, ranRegion}
-use Rattle.run.specs.Feed.{feed}
-use Rattle.upper.proofs.Laws.{feeds-writer, feeds-region}
+use Rattle.run.specs.Appends.{appends}
+use Rattle.upper.proofs.Laws.{appends-writer, appends-region}
 use borrow.Author.Needs.{needs}
 use Rattle.upper.proofs.begin.run_begin.Statement.{statement}
 use Rattle.upper.proofs.begin.run_begin.Tie as tie
@@ -20,25 +20,25 @@ part-body-start c = search needs
 part-body-end : tie.Need-part-body-end
 part-body-end c = search needs
 
-feed-prefix-requires : tie.Need-feed-prefix-requires
-feed-prefix-requires c κs = search needs
+append-prefix-requires : tie.Need-append-prefix-requires
+append-prefix-requires c κs = search needs
 
-feed-requires : tie.Need-feed-requires
-feed-requires c κs = search needs
+append-all-requires : tie.Need-append-all-requires
+append-all-requires c κs = search needs
 
 same-length : tie.Need-same-length
 same-length c = search needs
 
 returns : tie.Need-returns
 returns c =
-    let z = c .before .before .feed in
-    let y = c .before .before .before .before .before .before .feed-prefix in
+    let z = c .before .before .append-all in
+    let y = c .before .before .before .before .before .before .append-prefix in
     let a = c .before .before .before .before .before .before .before .before .before .before .before .before .args in
     let p = prefix (a .identity .now) in
     let k = ap (λ (n : ℕ). take n (a .bytes .now)) (sub-zero (a .n)) in
     let bs = take (a .n) (a .bytes .now) in (
-      feeds-writer (a .region .now) (a .w) p bs (p ++ bs) refl (y .result) (y .last .1 .0) (y .ensures .0) (y .ensures .1) (z .result) (z .ensures .0 ∙ ap (λ (l : List ℕ). ranWriter (y .last .1 .0) (y .result) (feed l)) k),
-      feeds-region (a .region .now) (a .w) p bs (p ++ bs) refl (y .result) (y .last .1 .0) (y .ensures .0) (y .ensures .1) (z .last .1 .0) (z .ensures .1 ∙ ap (λ (l : List ℕ). ranRegion (y .last .1 .0) (y .result) (feed l)) k),
+      appends-writer (a .region .now) (a .w) p bs (p ++ bs) refl (y .result) (y .last .1 .0) (y .ensures .0) (y .ensures .1) (z .result) (z .ensures .0 ∙ ap (λ (l : List ℕ). ranWriter (y .last .1 .0) (y .result) (appends l)) k),
+      appends-region (a .region .now) (a .w) p bs (p ++ bs) refl (y .result) (y .last .1 .0) (y .ensures .0) (y .ensures .1) (z .last .1 .0) (z .ensures .1 ∙ ap (λ (l : List ℕ). ranRegion (y .last .1 .0) (y .result) (appends l)) k),
     )
 
 pub run-begin-spec : {M : Type 1} → statement M
@@ -48,7 +48,7 @@ run-begin-spec =
     sub-body
     part-body-start
     part-body-end
-    feed-prefix-requires
-    feed-requires
+    append-prefix-requires
+    append-all-requires
     same-length
     returns)

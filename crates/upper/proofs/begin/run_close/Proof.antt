@@ -1,36 +1,36 @@
 use Rattle.run.specs.Run.{close, lowerStep}
-use Rattle.run.specs.Feed.{dues, feed}
+use Rattle.run.specs.Appends.{dues, appends}
 use Rattle.upper.specs.Upper.{taken, runOf}
 use Rattle.upper.proofs.Laws.{still-close, call-writer, call-region}
 use borrow.Author.Needs.{needs}
 use Rattle.upper.proofs.begin.run_close.Statement.{statement}
 use Rattle.upper.proofs.begin.run_close.Tie as tie
 
-settle-requires : tie.Need-settle-requires
-settle-requires c κs = search needs
+flush-requires : tie.Need-flush-requires
+flush-requires c κs = search needs
 
 close-requires : tie.Need-close-requires
 close-requires c κs = search needs
 
-settle-requires-2 : tie.Need-settle-requires-2
-settle-requires-2 c κs = search needs
+flush-requires-2 : tie.Need-flush-requires-2
+flush-requires-2 c κs = search needs
 
 same-length : tie.Need-same-length
 same-length c = search needs
 
 returns : tie.Need-returns
-unfolding runOf feed taken lowerStep
+unfolding runOf appends taken lowerStep
 returns c =
-    let z = c .before .before .settle2 in
+    let z = c .before .before .flush2 in
     let e = c .before .before .before .before in
     let y = e .before .before .before in
     let a = y .before .before .before .args in
-    let v = y .settle .result in
-    let r = y .settle .last .1 .0 in (
-      call-writer (a .region .now) (a .w) close still-close dues v r (y .settle .ensures .0) (y .settle .ensures .1) (e .close .result) (e .close .ensures) (z .result) (z .ensures .0),
-      call-region (a .region .now) (a .w) close still-close dues v r (y .settle .ensures .0) (y .settle .ensures .1) (e .close .result) (e .close .ensures) (z .last .1 .0) (z .ensures .1),
+    let v = y .flush .result in
+    let r = y .flush .last .1 .0 in (
+      call-writer (a .region .now) (a .w) close still-close dues v r (y .flush .ensures .0) (y .flush .ensures .1) (e .close .result) (e .close .ensures) (z .result) (z .ensures .0),
+      call-region (a .region .now) (a .w) close still-close dues v r (y .flush .ensures .0) (y .flush .ensures .1) (e .close .result) (e .close .ensures) (z .last .1 .0) (z .ensures .1),
     )
 
 pub run-close-spec : {M : Type 1} → statement M
 run-close-spec =
-    tie.close (tie.spec settle-requires close-requires settle-requires-2 same-length returns)
+    tie.close (tie.spec flush-requires close-requires flush-requires-2 same-length returns)

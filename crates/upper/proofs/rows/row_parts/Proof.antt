@@ -10,8 +10,8 @@ use borrow.Author.Needs.{needs}
 use Rattle.upper.proofs.rows.row_parts.Statement.{statement}
 use Rattle.upper.proofs.rows.row_parts.Tie as tie
 
-may-take-parts-requires : tie.Need-may-take-parts-requires
-may-take-parts-requires c κs = search needs
+may-append-parts-requires : tie.Need-may-append-parts-requires
+may-append-parts-requires c κs = search needs
 
 is-open-requires : tie.Need-is-open-requires
 is-open-requires c κs = search needs
@@ -23,8 +23,8 @@ row-in-requires c κs =
     let m = o .before in
     let a = m .before .before .before .before .before .args in (
       omega arith,
-      λ ss. (λ i. sym (m .may-take-parts .ensures ss) i && sym (o .is-open .ensures) i) ∙ t .if2 .taken,
-      open-fits (withSources (a .p) []) ((λ i. sym (m .may-take-parts .ensures []) i && sym (o .is-open .ensures) i) ∙ t .if2 .taken),
+      λ ss. (λ i. sym (m .may-append-parts .ensures ss) i && sym (o .is-open .ensures) i) ∙ t .if2 .taken,
+      open-fits (withSources (a .p) []) ((λ i. sym (m .may-append-parts .ensures []) i && sym (o .is-open .ensures) i) ∙ t .if2 .taken),
     )
 
 same-length : tie.Need-same-length
@@ -42,7 +42,7 @@ returns-2 c = λ ss.
     let o = t .before in
     let m = o .before in
     let a = m .before .before .before .before .before .args in
-    let d = upper-turn (a .region .now) (withSources (a .p) ss) (row (a .texts .now) (a .lengths .now)) (omega arith) refl ((λ i. sym (m .may-take-parts .ensures ss) i && sym (o .is-open .ensures) i) ∙ t .if2 .left) in
+    let d = upper-turn (a .region .now) (withSources (a .p) ss) (row (a .texts .now) (a .lengths .now)) (omega arith) refl ((λ i. sym (m .may-append-parts .ensures ss) i && sym (o .is-open .ensures) i) ∙ t .if2 .left) in
     (ap (λ (z : PartsStep). stepWith z ss) (c .parts-stay .ensures) ∙ d .0, d .1)
 
 parts-stay-requires-2 : tie.Need-parts-stay-requires-2
@@ -58,7 +58,7 @@ pub row-parts-spec : {M : Type 1} → statement M
 row-parts-spec =
     tie.close
     (tie.spec
-    may-take-parts-requires
+    may-append-parts-requires
     is-open-requires
     row-in-requires
     same-length

@@ -5,7 +5,7 @@ use native.Mathlib.Nat.{sub-zero}
 use lib.ListN.{take}
 use Rattle.writer.specs.Parts.{withSources}
 use Rattle.run.specs.Run.{ranWriter, ranRegion}
-use Rattle.run.specs.Feed.{dues, feed}
+use Rattle.run.specs.Appends.{dues, appends}
 use borrow.Author.Needs.{needs}
 use Rattle.upper.proofs.rows.run_row.Statement.{statement}
 use Rattle.upper.proofs.rows.run_row.Tie as tie
@@ -19,8 +19,8 @@ part-line-start c = search needs
 part-line-end : tie.Need-part-line-end
 part-line-end c = search needs
 
-feed-line-parts-requires : tie.Need-feed-line-parts-requires
-feed-line-parts-requires c κs = search needs
+append-line-parts-requires : tie.Need-append-line-parts-requires
+append-line-parts-requires c κs = search needs
 
 same-length : tie.Need-same-length
 same-length c = search needs
@@ -28,12 +28,12 @@ same-length c = search needs
 returns : tie.Need-returns
 returns c =
     let z = c .before .before in
-    let f = z .feed-line-parts in
+    let f = z .append-line-parts in
     let a = z .before .before .before .before .before .args in
     let k = ap (λ (n : ℕ). take n (a .bytes .now)) (sub-zero (a .n)) in
     λ ss. (
-      f .ensures ss .0 ∙ ap (λ (l : List ℕ). ranWriter (a .region .now) (withSources (a .p) ss) (dues ++ (dues ++ feed l))) k,
-      f .ensures ss .1 ∙ ap (λ (l : List ℕ). ranRegion (a .region .now) (withSources (a .p) ss) (dues ++ (dues ++ feed l))) k,
+      f .ensures ss .0 ∙ ap (λ (l : List ℕ). ranWriter (a .region .now) (withSources (a .p) ss) (dues ++ (dues ++ appends l))) k,
+      f .ensures ss .1 ∙ ap (λ (l : List ℕ). ranRegion (a .region .now) (withSources (a .p) ss) (dues ++ (dues ++ appends l))) k,
     )
 
 pub run-row-spec : {M : Type 1} → statement M
@@ -43,6 +43,6 @@ run-row-spec =
     sub-line
     part-line-start
     part-line-end
-    feed-line-parts-requires
+    append-line-parts-requires
     same-length
     returns)

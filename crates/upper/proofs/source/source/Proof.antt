@@ -9,8 +9,8 @@ use borrow.Author.Needs.{needs}
 use Rattle.upper.proofs.source.source.Statement.{statement}
 use Rattle.upper.proofs.source.source.Tie as tie
 
-may-take-requires : tie.Need-may-take-requires
-may-take-requires c κs = search needs
+may-append-requires : tie.Need-may-append-requires
+may-append-requires c κs = search needs
 
 is-open-requires : tie.Need-is-open-requires
 is-open-requires c κs = search needs
@@ -39,7 +39,7 @@ returns c =
     let a = m .before .before .before .before .args in
     let d =
     upper-done (a .region .now) (a .w) (sourceWithDates (a .s)) (omega arith) refl
-    ((λ i. sym (m .may-take .ensures) i && not (sym (o .is-open .ensures) i)) ∙ g .if2 .taken)
+    ((λ i. sym (m .may-append .ensures) i && not (sym (o .is-open .ensures) i)) ∙ g .if2 .taken)
     refl
     (ap (λ (b : Bool). ltb (a .w .tables .count) 3 && b) (sym (f .fits2 .ensures)) ∙ t .if3 .taken)
     (x .run-source .result)
@@ -60,7 +60,7 @@ returns-2 c =
     let o = g .before in
     let m = o .before in
     let a = m .before .before .before .before .args in
-    let d = upper-full (a .region .now) (a .w) (sourceWithDates (a .s)) (omega arith) refl ((λ i. sym (m .may-take .ensures) i && not (sym (o .is-open .ensures) i)) ∙ g .if2 .taken) refl (ap (λ (b : Bool). ltb (a .w .tables .count) 3 && b) (sym (f .fits2 .ensures)) ∙ t .if3 .left) in
+    let d = upper-full (a .region .now) (a .w) (sourceWithDates (a .s)) (omega arith) refl ((λ i. sym (m .may-append .ensures) i && not (sym (o .is-open .ensures) i)) ∙ g .if2 .taken) refl (ap (λ (b : Bool). ltb (a .w .tables .count) 3 && b) (sym (f .fits2 .ensures)) ∙ t .if3 .left) in
     (c .stays .ensures ∙ d .0, d .1)
 
 stays-requires-2 : tie.Need-stays-requires-2
@@ -72,7 +72,7 @@ returns-3 c =
     let o = g .before in
     let m = o .before in
     let a = m .before .before .before .before .args in
-    let d = upper-turn (a .region .now) (a .w) (sourceWithDates (a .s)) (omega arith) refl ((λ i. sym (m .may-take .ensures) i && not (sym (o .is-open .ensures) i)) ∙ g .if2 .left) in
+    let d = upper-turn (a .region .now) (a .w) (sourceWithDates (a .s)) (omega arith) refl ((λ i. sym (m .may-append .ensures) i && not (sym (o .is-open .ensures) i)) ∙ g .if2 .left) in
     (c .stays2 .ensures ∙ d .0, d .1)
 
 stays-requires-3 : tie.Need-stays-requires-3
@@ -88,7 +88,7 @@ pub source-spec : {M : Type 1} → statement M
 source-spec =
     tie.close
     (tie.spec
-    may-take-requires
+    may-append-requires
     is-open-requires
     fits-requires
     run-source-requires

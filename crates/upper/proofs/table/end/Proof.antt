@@ -8,8 +8,8 @@ use borrow.Author.Needs.{needs}
 use Rattle.upper.proofs.table.end.Statement.{statement}
 use Rattle.upper.proofs.table.end.Tie as tie
 
-may-take-requires : tie.Need-may-take-requires
-may-take-requires c κs = search needs
+may-append-requires : tie.Need-may-append-requires
+may-append-requires c κs = search needs
 
 is-open-requires : tie.Need-is-open-requires
 is-open-requires c κs = search needs
@@ -31,7 +31,7 @@ returns c =
     let o = t .before in
     let m = o .before in
     let a = m .before .before .before .args in
-    let h = (λ i. sym (m .may-take .ensures) i && sym (o .is-open .ensures) i) ∙ t .if2 .taken in
+    let h = (λ i. sym (m .may-append .ensures) i && sym (o .is-open .ensures) i) ∙ t .if2 .taken in
     let d = upper-done (a .region .now) (a .w) tableEnd (omega arith) refl h refl (none-fits (a .w) (isOpen (a .w .tables)) h) (x .run-end .result) (x .run-end .last .1 .0) (x .run-end .ensures .0) (x .run-end .ensures .1) in
     (c .did .ensures ∙ d .0, d .1)
 
@@ -44,7 +44,7 @@ returns-2 c =
     let o = t .before in
     let m = o .before in
     let a = m .before .before .before .args in
-    let d = upper-turn (a .region .now) (a .w) tableEnd (omega arith) refl ((λ i. sym (m .may-take .ensures) i && sym (o .is-open .ensures) i) ∙ t .if2 .left) in
+    let d = upper-turn (a .region .now) (a .w) tableEnd (omega arith) refl ((λ i. sym (m .may-append .ensures) i && sym (o .is-open .ensures) i) ∙ t .if2 .left) in
     (c .stays .ensures ∙ d .0, d .1)
 
 stays-requires-2 : tie.Need-stays-requires-2
@@ -60,7 +60,7 @@ pub end-spec : {M : Type 1} → statement M
 end-spec =
     tie.close
     (tie.spec
-    may-take-requires
+    may-append-requires
     is-open-requires
     run-end-requires
     did-requires

@@ -4,7 +4,7 @@ use Prim.Native.Nat.{ℕ}
 use native.Mathlib.Nat.{sub-zero}
 use lib.ListN.{take}
 use Rattle.run.specs.Run.{table, lowerStep, ranWriter, ranRegion}
-use Rattle.run.specs.Feed.{dues, feed}
+use Rattle.run.specs.Appends.{dues, appends}
 use Rattle.upper.proofs.Laws.{still-table, call-writer, call-region}
 use borrow.Author.Needs.{needs}
 use Rattle.upper.proofs.table.run_table.Statement.{statement}
@@ -19,14 +19,14 @@ part-line-start c = search needs
 part-line-end : tie.Need-part-line-end
 part-line-end c = search needs
 
-settle-requires : tie.Need-settle-requires
-settle-requires c κs = search needs
+flush-requires : tie.Need-flush-requires
+flush-requires c κs = search needs
 
 table-requires : tie.Need-table-requires
 table-requires c κs = search needs
 
-settle-feed-requires : tie.Need-settle-feed-requires
-settle-feed-requires c κs = search needs
+flush-append-requires : tie.Need-flush-append-requires
+flush-append-requires c κs = search needs
 
 same-length : tie.Need-same-length
 same-length c = search needs
@@ -34,16 +34,16 @@ same-length c = search needs
 returns : tie.Need-returns
 unfolding lowerStep
 returns c =
-    let z = c .before .before .settle-feed in
+    let z = c .before .before .flush-append in
     let e = c .before .before .before .before in
     let y = e .before .before .before in
     let a = y .before .before .before .before .before .args in
-    let v = y .settle .result in
-    let r = y .settle .last .1 .0 in
-    let cs = dues ++ feed (take (a .n) (a .t4)) in
+    let v = y .flush .result in
+    let r = y .flush .last .1 .0 in
+    let cs = dues ++ appends (take (a .n) (a .t4)) in
     let k = ap (λ (n : ℕ). take n (a .t4)) (sub-zero (a .n)) in (
-      call-writer (a .region .now) (a .w) (table (a .table)) (still-table (a .table)) cs v r (y .settle .ensures .0) (y .settle .ensures .1) (e .table .result) (e .table .ensures) (z .result) (z .ensures .0 ∙ ap (λ (l : List ℕ). ranWriter r (e .table .result .writer) (dues ++ feed l)) k),
-      call-region (a .region .now) (a .w) (table (a .table)) (still-table (a .table)) cs v r (y .settle .ensures .0) (y .settle .ensures .1) (e .table .result) (e .table .ensures) (z .last .1 .0) (z .ensures .1 ∙ ap (λ (l : List ℕ). ranRegion r (e .table .result .writer) (dues ++ feed l)) k),
+      call-writer (a .region .now) (a .w) (table (a .table)) (still-table (a .table)) cs v r (y .flush .ensures .0) (y .flush .ensures .1) (e .table .result) (e .table .ensures) (z .result) (z .ensures .0 ∙ ap (λ (l : List ℕ). ranWriter r (e .table .result .writer) (dues ++ appends l)) k),
+      call-region (a .region .now) (a .w) (table (a .table)) (still-table (a .table)) cs v r (y .flush .ensures .0) (y .flush .ensures .1) (e .table .result) (e .table .ensures) (z .last .1 .0) (z .ensures .1 ∙ ap (λ (l : List ℕ). ranRegion r (e .table .result .writer) (dues ++ appends l)) k),
     )
 
 pub run-table-spec : {M : Type 1} → statement M
@@ -53,8 +53,8 @@ run-table-spec =
     sub-line
     part-line-start
     part-line-end
-    settle-requires
+    flush-requires
     table-requires
-    settle-feed-requires
+    flush-append-requires
     same-length
     returns)

@@ -7,7 +7,7 @@ use lib.Dec.{leb}
 use borrow.Author.Tests.{le-leb, lt-leb}
 use Rattle.writer.specs.State.{position}
 use Rattle.run.specs.Run.{table, ranWriter, ranRegion}
-use Rattle.run.specs.Feed.{dues, feed}
+use Rattle.run.specs.Appends.{dues, appends}
 use Rattle.upper.specs.Upper.{tableWithNames, taken, runOf}
 use Rattle.upper.proofs.Laws.{upper-done, upper-full, upper-turn, upper-argument, upper-region}
 use borrow.Author.Needs.{needs}
@@ -15,8 +15,8 @@ use Rattle.upper.proofs.table.table.Statement.{statement}
 use Rattle.upper.proofs.table.table.Tie as tie
 use Rattle.region.specs.Region.{capacity}
 
-may-take-requires : tie.Need-may-take-requires
-may-take-requires c κs = search needs
+may-append-requires : tie.Need-may-append-requires
+may-append-requires c κs = search needs
 
 may-begin-requires : tie.Need-may-begin-requires
 may-begin-requires c κs = search needs
@@ -51,13 +51,13 @@ returns c =
     let e = n .names .ensures in
     let d =
     upper-done (a .region .now) (a .w) (tableWithNames (a .table)) (omega arith) h
-    ((λ i. sym (m .may-take .ensures) i && sym (o .may-begin .ensures) i) ∙ g .if3 .taken)
+    ((λ i. sym (m .may-append .ensures) i && sym (o .may-begin .ensures) i) ∙ g .if3 .taken)
     refl
     (ap (λ (k : ℕ). leb (position (a .w .taken) + k) capacity) (sym (e .1)) ∙ sym (f .fits2 .ensures) ∙ t .if4 .taken)
     (x .run-table .result)
     (x .run-table .last .1 .0)
-    (x .run-table .ensures .0 ∙ ap (λ (l : List ℕ). ranWriter (a .region .now) (a .w) (dues ++ (table (a .table) ∷ (dues ++ feed l)))) (e .2))
-    (x .run-table .ensures .1 ∙ ap (λ (l : List ℕ). ranRegion (a .region .now) (a .w) (dues ++ (table (a .table) ∷ (dues ++ feed l)))) (e .2)) in
+    (x .run-table .ensures .0 ∙ ap (λ (l : List ℕ). ranWriter (a .region .now) (a .w) (dues ++ (table (a .table) ∷ (dues ++ appends l)))) (e .2))
+    (x .run-table .ensures .1 ∙ ap (λ (l : List ℕ). ranRegion (a .region .now) (a .w) (dues ++ (table (a .table) ∷ (dues ++ appends l)))) (e .2)) in
     (c .did .ensures ∙ d .0, d .1)
 
 stays-requires : tie.Need-stays-requires
@@ -74,7 +74,7 @@ returns-2 c =
     let m = o .before in
     let a = m .before .before .before .before .args in
     let h = le-leb (a .table) 7 (omega arith) in
-    let d = upper-full (a .region .now) (a .w) (tableWithNames (a .table)) (omega arith) h ((λ i. sym (m .may-take .ensures) i && sym (o .may-begin .ensures) i) ∙ g .if3 .taken) refl (ap (λ (k : ℕ). leb (position (a .w .taken) + k) capacity) (sym (n .names .ensures .1)) ∙ sym (f .fits2 .ensures) ∙ t .if4 .left) in
+    let d = upper-full (a .region .now) (a .w) (tableWithNames (a .table)) (omega arith) h ((λ i. sym (m .may-append .ensures) i && sym (o .may-begin .ensures) i) ∙ g .if3 .taken) refl (ap (λ (k : ℕ). leb (position (a .w .taken) + k) capacity) (sym (n .names .ensures .1)) ∙ sym (f .fits2 .ensures) ∙ t .if4 .left) in
     (c .stays .ensures ∙ d .0, d .1)
 
 stays-requires-2 : tie.Need-stays-requires-2
@@ -86,7 +86,7 @@ returns-3 c =
     let o = g .before in
     let m = o .before in
     let a = m .before .before .before .before .args in
-    let d = upper-turn (a .region .now) (a .w) (tableWithNames (a .table)) (omega arith) (le-leb (a .table) 7 (omega arith)) ((λ i. sym (m .may-take .ensures) i && sym (o .may-begin .ensures) i) ∙ g .if3 .left) in
+    let d = upper-turn (a .region .now) (a .w) (tableWithNames (a .table)) (omega arith) (le-leb (a .table) 7 (omega arith)) ((λ i. sym (m .may-append .ensures) i && sym (o .may-begin .ensures) i) ∙ g .if3 .left) in
     (c .stays2 .ensures ∙ d .0, d .1)
 
 stays-requires-3 : tie.Need-stays-requires-3
@@ -111,7 +111,7 @@ pub table-spec : {M : Type 1} → statement M
 table-spec =
     tie.close
     (tie.spec
-    may-take-requires
+    may-append-requires
     may-begin-requires
     names-requires
     fits-requires

@@ -1,0 +1,21 @@
+use mathlib.Core.Path.{ap, _∙_}
+use Rattle.writer.specs.declared.Parts.{Parts}
+use Rattle.writer.specs.Parts.{withSources}
+use Rattle.lower.specs.Lower.{mayAppend}
+use borrow.Author.Needs.{needs}
+use Rattle.lower.proofs.may_append.Statement.{statement}
+use Rattle.lower.proofs.may_append.Tie as tie
+
+parts-of-requires : tie.Need-parts-of-requires
+parts-of-requires c κs = search needs
+
+may-append-parts-requires : tie.Need-may-append-parts-requires
+may-append-parts-requires c κs = search needs
+
+returns : tie.Need-returns
+returns c =
+    let ss = c .before .before .args .w .sources in
+    c .may-append-parts .ensures ss ∙ ap (λ (p : Parts). mayAppend (withSources p ss)) (c .before .parts-of .ensures)
+
+pub may-append-spec : {M : Type 1} → statement M
+may-append-spec = tie.close (tie.spec parts-of-requires may-append-parts-requires returns)

@@ -1,0 +1,13 @@
+-- Doing what is due, and feeding bytes: runs of lower calls.
+use mathlib.Core.List.{List, [], _∷_, _++_}
+use Prim.Native.Nat.{ℕ}
+use Rattle.run.specs.Run.{Lower, bytes, due}
+
+-- At most three operations are due in a row: the header sector's erase, a data sector's, the write. A due call with none due does nothing.
+abbrev pub dues : List Lower
+dues = due ∷ due ∷ due ∷ []
+
+-- a byte, then what is due, then the next
+unfoldable pub appends : List ℕ → List Lower
+appends [] = []
+appends (x ∷ xs) = bytes (x ∷ []) ∷ (dues ++ appends xs)
