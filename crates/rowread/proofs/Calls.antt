@@ -11,7 +11,7 @@ use Rattle.leaf.proofs.Laws.{written-sets}
 use Rattle.csv.specs.Read as Csv
 use Rattle.csv.proofs.Grammar.{sound, complete}
 use Rattle.refusal.specs.declared.Refusal.the-variants.{Small, Row}
-use Rattle.rowread.specs.declared.Scan.the-variants.{Whole, Broken}
+use Rattle.rowread.specs.declared.scan.Scan.the-variants.{Whole, Broken}
 use Rattle.rowread.specs.declared.ReadAnswer.{ReadAnswer}
 use Rattle.rowread.specs.declared.ReadAnswer.the-variants.{Stored, End, Refused}
 use Rattle.rowread.specs.Stored.{partAt, rowAt, valuesOf, valuesAt, joined, endsOf, found, readAnswer, after}

@@ -15,9 +15,9 @@ use Rattle.base.specs.Number.{pick}
 use Rattle.csv.specs.Csv.{isText, quote, comma, lineFeed}
 use Rattle.csv.specs.Read.{Got, got, bad, push, plainValue, plainRest, inner, closing, fieldAt, Row, row, malformed, front, rowEnd, ended, parted, values}
 use Rattle.csv.proofs.Places.{field-place}
-use Rattle.rowread.specs.declared.Piece.{Piece}
-use Rattle.rowread.specs.declared.Piece.the-variants.{Value, Bad}
-use Rattle.rowread.specs.declared.Scan.the-variants.{Whole, Broken}
+use Rattle.rowread.specs.declared.scan.Piece.{Piece}
+use Rattle.rowread.specs.declared.scan.Piece.the-variants.{Value, Bad}
+use Rattle.rowread.specs.declared.scan.Scan.the-variants.{Whole, Broken}
 use Rattle.rowread.specs.Stored.{joined}
 use Rattle.rowread.specs.Steps.{pieceOf, scanFrom, scanOf}
 

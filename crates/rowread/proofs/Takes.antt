@@ -15,12 +15,12 @@ use Rattle.csv.proofs.Grammar.{field-sound}
 use Rattle.csv.proofs.Places.{field-place}
 use Rattle.csv.proofs.Frame.{front-in-row}
 use Rattle.csv.proofs.Laws.{sets-append}
-use Rattle.rowread.specs.declared.Piece.{Piece}
-use Rattle.rowread.specs.declared.Piece.the-variants.{Value, Bad}
-use Rattle.rowread.specs.declared.Scan.{Scan}
-use Rattle.rowread.specs.declared.Scan.the-variants.{Whole, Broken}
-use Rattle.rowread.specs.declared.Quick.{Quick}
-use Rattle.rowread.specs.declared.Quick.the-variants.{Read, Not}
+use Rattle.rowread.specs.declared.scan.Piece.{Piece}
+use Rattle.rowread.specs.declared.scan.Piece.the-variants.{Value, Bad}
+use Rattle.rowread.specs.declared.scan.Scan.{Scan}
+use Rattle.rowread.specs.declared.scan.Scan.the-variants.{Whole, Broken}
+use Rattle.rowread.specs.declared.fast.Fast.{Fast}
+use Rattle.rowread.specs.declared.fast.Fast.the-variants.{Read, Not}
 use Rattle.rowread.specs.Stored.{joined, endsOf}
 use Rattle.rowread.specs.Steps.{isStop, lineOf, anyStop, textIn, cutsIn, Opens, Closes, Into, Took, Holds, TookRow, Within, Handed, Quickly}
 use Rattle.rowread.proofs.Laws.{past, plain-size, field-plain}
@@ -220,7 +220,7 @@ module _ (t : List ℕ) (e n : ℕ) (h : Opens t e n) (out ends o s : List ℕ) 
 take-sets : (l v : List ℕ) (n : ℕ) → n ≡ length v → n ≤ length l → take n (sets l 0 v) ≡ v
 take-sets l v n e h = rw (sets-eq v l 0 (omega arith)) (take-at v (drop (0 + length v) l) n (sym e))
 
-pub handed : (t : List ℕ) (width : ℕ) (room marks r m out ends o s : List ℕ) (scan : Scan) (q : Quick) → TookRow t 0 0 0 width room marks r m scan → Handed scan width r m out ends o s q → Quickly t width out ends o s q
+pub handed : (t : List ℕ) (width : ℕ) (room marks r m out ends o s : List ℕ) (scan : Scan) (q : Fast) → TookRow t 0 0 0 width room marks r m scan → Handed scan width r m out ends o s q → Quickly t width out ends o s q
 handed t width room marks r m out ends o s scan Not x h = h
 handed t width room marks r m out ends o s scan (Read next size) x h =
     let y : Holds t 0 0 0 width room marks r m next size = rw (h .0) at x in
@@ -242,7 +242,7 @@ took-within t width room marks r m Broken x e = tt
 took-within t width room marks r m (Whole next size) x e = omega (arith, x .fits, e)
 
 -- a row of the first bytes is one of them all
-pub longer : (n : ℕ) (t : List ℕ) (width : ℕ) (out ends o s : List ℕ) (q : Quick) → Quickly (take n t) width out ends o s q → Quickly t width out ends o s q
+pub longer : (n : ℕ) (t : List ℕ) (width : ℕ) (out ends o s : List ℕ) (q : Fast) → Quickly (take n t) width out ends o s q → Quickly t width out ends o s q
 longer n t width out ends o s Not x = x
 longer n t width out ends o s (Read next size) x =
     let d : drop next (take n t) ++ drop n t ≡ drop next t = sym (drop-append-le next (take n t) (drop n t) (x .inside)) ∙ rw (take-append-drop n t) in

@@ -9,12 +9,12 @@ use lib.Seq.{sets}
 use Rattle.base.specs.Number.{pick}
 use Rattle.csv.specs.Csv.{Record, quote, comma, lineFeed}
 use Rattle.csv.specs.Read.{Got, got, bad, Row, row, malformed, values}
-use Rattle.rowread.specs.declared.Piece.{Piece}
-use Rattle.rowread.specs.declared.Piece.the-variants.{Value, Bad}
-use Rattle.rowread.specs.declared.Scan.{Scan}
-use Rattle.rowread.specs.declared.Scan.the-variants.{Whole, Broken}
-use Rattle.rowread.specs.declared.Quick.{Quick}
-use Rattle.rowread.specs.declared.Quick.the-variants.{Read, Not}
+use Rattle.rowread.specs.declared.scan.Piece.{Piece}
+use Rattle.rowread.specs.declared.scan.Piece.the-variants.{Value, Bad}
+use Rattle.rowread.specs.declared.scan.Scan.{Scan}
+use Rattle.rowread.specs.declared.scan.Scan.the-variants.{Whole, Broken}
+use Rattle.rowread.specs.declared.fast.Fast.{Fast}
+use Rattle.rowread.specs.declared.fast.Fast.the-variants.{Read, Not}
 use Rattle.rowread.specs.Stored.{joined, endsOf}
 
 -- where in n bytes a value ends, and its size
@@ -124,12 +124,12 @@ TookRow t from to k width out ends o s (Whole next size) = Holds t from to k wid
 TookRow t from to k width out ends o s Broken = Unit {0}
 
 -- a quick way: the row was read, or nothing was written
-abbrev pub Quickly : List ℕ → ℕ → List ℕ → List ℕ → List ℕ → List ℕ → Quick → Type 0
+abbrev pub Quickly : List ℕ → ℕ → List ℕ → List ℕ → List ℕ → List ℕ → Fast → Type 0
 Quickly t width out ends o s (Read next size) = Holds t 0 0 0 width out ends o s next size
 Quickly t width out ends o s Not = (o ≡ out) × (s ≡ ends)
 
 -- a row that was scanned is handed out of room and marks, or nothing is written
-abbrev pub Handed : Scan → ℕ → List ℕ → List ℕ → List ℕ → List ℕ → List ℕ → List ℕ → Quick → Type 0
+abbrev pub Handed : Scan → ℕ → List ℕ → List ℕ → List ℕ → List ℕ → List ℕ → List ℕ → Fast → Type 0
 Handed scan width room marks out ends o s (Read next size) =
     (scan ≡ Whole next size) × (size ≤ length out) × (width ≤ length ends) × (o ≡ sets out 0 (take size room)) × (s ≡ sets ends 0 (take width marks))
 Handed scan width room marks out ends o s Not = (o ≡ out) × (s ≡ ends)

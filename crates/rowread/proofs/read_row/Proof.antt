@@ -2,7 +2,7 @@ use mathlib.Core.Path.{_≡_, sym, ap, _∙_}
 use Prim.Native.Nat.{_≤_, _-_}
 use native.Mathlib.Omega.{arith}
 use lib.ListN.{length, drop, length-take}
-use Rattle.rowread.specs.declared.Scan.the-variants.{Whole}
+use Rattle.rowread.specs.declared.scan.Scan.the-variants.{Whole}
 use Rattle.rowread.specs.Stored.{partAt}
 use Rattle.rowread.specs.Steps.{scanOf}
 use Rattle.rowread.proofs.Calls.{part-is, scan-inside, since, read-past, read-end, read-broken, is-row, row-bytes, read-short, read-few, read-whole, read-quick}
@@ -22,8 +22,8 @@ returns-2 c =
     let r = read-end (a .table .now) (a .width) (a .place) (a .out .now) (a .ends .now) (c .before .if1 .left) (c .if2 .taken) in
     (r .is, r .bytes, r .marks)
 
-near-requires : tie.Need-near-requires
-near-requires c κs = search needs
+end-within-requires : tie.Need-end-within-requires
+end-within-requires c κs = search needs
 
 sub-t : tie.Need-sub-t
 sub-t c = search needs
@@ -34,8 +34,8 @@ part-t-start c = search needs
 part-t-end : tie.Need-part-t-end
 part-t-end c = search needs
 
-quick-row-requires : tie.Need-quick-row-requires
-quick-row-requires c κs = search needs
+fast-row-requires : tie.Need-fast-row-requires
+fast-row-requires c κs = search needs
 
 enum-known-quick : tie.Need-enum-known-quick
 enum-known-quick c = search needs
@@ -43,9 +43,9 @@ enum-known-quick c = search needs
 add-t23 : tie.Need-add-t23
 add-t23 c =
     let a = c .before .before .before .before .before .before .before .before .before .before .before .before .before .before .before .before .before .args in
-    let r = c .before .before .before .before .before .before .before .before .before .before .before .near in
+    let r = c .before .before .before .before .before .before .before .before .before .before .before .end-within in
     let g = c .before .quick .given in
-    let x = rw (g .1) at (c .before .before .before .before .before .before .before .quick-row .ensures) in
+    let x = rw (g .1) at (c .before .before .before .before .before .before .before .fast-row .ensures) in
     omega (arith, x .inside, length-take (r .result - a .place) (drop (a .place) (a .table .now)), r .ensures)
 
 same-length : tie.Need-same-length
@@ -60,10 +60,10 @@ returns-3 c =
     let a = s .args in
     let h : a .place ≤ length (a .table .now) = c .before .before .before .before .before .before .before .before .before .before .before .before .before .if1 .left in
     let n : a .place ≡ length (a .table .now) → ⊥ = c .before .before .before .before .before .before .before .before .before .before .before .before .if2 .left in
-    let r = c .before .before .before .before .before .before .before .before .before .before .before .near in
+    let r = c .before .before .before .before .before .before .before .before .before .before .before .end-within in
     let e = part-is (a .table .now) (a .place) (r .result) h (r .ensures) in
     let g = c .before .quick .given in
-    let x = rw e at (rw (g .1) at (c .before .before .before .before .before .before .before .quick-row .ensures)) in
+    let x = rw e at (rw (g .1) at (c .before .before .before .before .before .before .before .fast-row .ensures)) in
     let w = read-quick (a .table .now) (a .width) (a .place) (a .out .now) (a .ends .now) h n x in
     (w .is, w .bytes, w .marks)
 
@@ -91,9 +91,9 @@ returns-4 c =
     let a = s .args in
     let h : a .place ≤ length (a .table .now) = c .before .before .before .before .before .before .before .before .before .before .before .before .before .before .before .if1 .left in
     let n : a .place ≡ length (a .table .now) → ⊥ = c .before .before .before .before .before .before .before .before .before .before .before .before .before .before .if2 .left in
-    let r = c .before .before .before .before .before .before .before .before .before .before .before .before .before .near in
+    let r = c .before .before .before .before .before .before .before .before .before .before .before .before .before .end-within in
     let e = part-is (a .table .now) (a .place) (r .result) h (r .ensures) in
-    let k = rw (c .before .before .before .enum-told .given .1) at (c .before .before .before .before .before .before .before .before .before .quick-row .ensures) in
+    let k = rw (c .before .before .before .enum-told .given .1) at (c .before .before .before .before .before .before .before .before .before .fast-row .ensures) in
     let w = since (k .0) (k .1) (read-broken (a .table .now) (a .width) (a .place) _ _ h n (sym (c .enum-told2 .given .1) ∙ c .before .before .scan-row .ensures ∙ ap (scanOf (a .width)) e)) in
     (w .is, w .bytes, w .marks)
 
@@ -109,9 +109,9 @@ returns-5 c =
     let a = s .args in
     let h : a .place ≤ length (a .table .now) = c .before .before .before .before .before .before .before .before .before .before .before .before .before .before .before .before .before .if1 .left in
     let n : a .place ≡ length (a .table .now) → ⊥ = c .before .before .before .before .before .before .before .before .before .before .before .before .before .before .before .before .if2 .left in
-    let r = c .before .before .before .before .before .before .before .before .before .before .before .before .before .before .before .near in
+    let r = c .before .before .before .before .before .before .before .before .before .before .before .before .before .before .before .end-within in
     let e = part-is (a .table .now) (a .place) (r .result) h (r .ensures) in
-    let k = rw (c .before .before .before .before .before .enum-told .given .1) at (c .before .before .before .before .before .before .before .before .before .before .before .quick-row .ensures) in
+    let k = rw (c .before .before .before .before .before .enum-told .given .1) at (c .before .before .before .before .before .before .before .before .before .before .before .fast-row .ensures) in
     let g = c .before .before .scan .given in
     let q : Whole (g .0 .0) (g .0 .1 .0) ≡ scanOf (a .width) (partAt (a .table .now) (a .place)) = sym (g .1) ∙ c .before .before .before .before .scan-row .ensures ∙ ap (scanOf (a .width)) e in
     let w = since (k .0) (k .1) (read-short (a .table .now) (a .width) (a .place) _ _ h n (g .0 .0) (g .0 .1 .0) q (c .if3 .taken)) in
@@ -129,9 +129,9 @@ returns-6 c =
     let a = s .args in
     let h : a .place ≤ length (a .table .now) = c .before .before .before .before .before .before .before .before .before .before .before .before .before .before .before .before .before .before .if1 .left in
     let n : a .place ≡ length (a .table .now) → ⊥ = c .before .before .before .before .before .before .before .before .before .before .before .before .before .before .before .before .before .if2 .left in
-    let r = c .before .before .before .before .before .before .before .before .before .before .before .before .before .before .before .before .near in
+    let r = c .before .before .before .before .before .before .before .before .before .before .before .before .before .before .before .before .end-within in
     let e = part-is (a .table .now) (a .place) (r .result) h (r .ensures) in
-    let k = rw (c .before .before .before .before .before .before .enum-told .given .1) at (c .before .before .before .before .before .before .before .before .before .before .before .before .quick-row .ensures) in
+    let k = rw (c .before .before .before .before .before .before .enum-told .given .1) at (c .before .before .before .before .before .before .before .before .before .before .before .before .fast-row .ensures) in
     let g = c .before .before .before .scan .given in
     let q : Whole (g .0 .0) (g .0 .1 .0) ≡ scanOf (a .width) (partAt (a .table .now) (a .place)) = sym (g .1) ∙ c .before .before .before .before .before .scan-row .ensures ∙ ap (scanOf (a .width)) e in
     let w = since (k .0) (k .1) (read-few (a .table .now) (a .width) (a .place) _ _ h n (g .0 .0) (g .0 .1 .0) q (c .before .if3 .left) (c .if4 .taken)) in
@@ -143,9 +143,9 @@ copy-row-requires c κs =
     let a = s .args in
     let h : a .place ≤ length (a .table .now) = c .before .before .before .before .before .before .before .before .before .before .before .before .before .before .before .before .before .before .before .before .if1 .left in
     let n : a .place ≡ length (a .table .now) → ⊥ = c .before .before .before .before .before .before .before .before .before .before .before .before .before .before .before .before .before .before .before .if2 .left in
-    let r = c .before .before .before .before .before .before .before .before .before .before .before .before .before .before .before .before .before .before .near in
+    let r = c .before .before .before .before .before .before .before .before .before .before .before .before .before .before .before .before .before .before .end-within in
     let e = part-is (a .table .now) (a .place) (r .result) h (r .ensures) in
-    let k = rw (c .before .before .before .before .before .before .before .before .enum-told .given .1) at (c .before .before .before .before .before .before .before .before .before .before .before .before .before .before .quick-row .ensures) in
+    let k = rw (c .before .before .before .before .before .before .before .before .enum-told .given .1) at (c .before .before .before .before .before .before .before .before .before .before .before .before .before .before .fast-row .ensures) in
     let g = c .before .before .before .before .before .scan .given in
     let q : Whole (g .0 .0) (g .0 .1 .0) ≡ scanOf (a .width) (partAt (a .table .now) (a .place)) = sym (g .1) ∙ c .before .before .before .before .before .before .before .scan-row .ensures ∙ ap (scanOf (a .width)) e in
     let y = row-bytes (a .table .now) (a .width) (a .place) (a .out .now) (a .ends .now) h n (g .0 .0) (g .0 .1 .0) q in
@@ -154,7 +154,7 @@ copy-row-requires c κs =
 add-t14 : tie.Need-add-t14
 add-t14 c =
     let a = c .before .before .before .before .before .before .before .before .before .before .before .before .before .before .before .before .before .before .before .before .before .before .before .before .before .before .before .before .before .args in
-    let r = c .before .before .before .before .before .before .before .before .before .before .before .before .before .before .before .before .before .before .before .before .before .before .before .near in
+    let r = c .before .before .before .before .before .before .before .before .before .before .before .before .before .before .before .before .before .before .before .before .before .before .before .end-within in
     let g = c .before .before .before .before .before .before .before .before .before .before .scan .given in
     let x = scan-inside (a .width) _ (g .0 .0) (g .0 .1 .0) (sym (g .1) ∙ c .before .before .before .before .before .before .before .before .before .before .before .before .scan-row .ensures) in
     omega (arith, x, length-take (r .result - a .place) (drop (a .place) (a .table .now)), r .ensures)
@@ -171,9 +171,9 @@ returns-7 c =
     let a = s .args in
     let h : a .place ≤ length (a .table .now) = c .before .before .before .before .before .before .before .before .before .before .before .before .before .before .before .before .before .before .before .before .before .before .before .before .before .if1 .left in
     let n : a .place ≡ length (a .table .now) → ⊥ = c .before .before .before .before .before .before .before .before .before .before .before .before .before .before .before .before .before .before .before .before .before .before .before .before .if2 .left in
-    let r = c .before .before .before .before .before .before .before .before .before .before .before .before .before .before .before .before .before .before .before .before .before .before .before .near in
+    let r = c .before .before .before .before .before .before .before .before .before .before .before .before .before .before .before .before .before .before .before .before .before .before .before .end-within in
     let e = part-is (a .table .now) (a .place) (r .result) h (r .ensures) in
-    let k = rw (c .before .before .before .before .before .before .before .before .before .before .before .before .before .enum-told .given .1) at (c .before .before .before .before .before .before .before .before .before .before .before .before .before .before .before .before .before .before .before .quick-row .ensures) in
+    let k = rw (c .before .before .before .before .before .before .before .before .before .before .before .before .before .enum-told .given .1) at (c .before .before .before .before .before .before .before .before .before .before .before .before .before .before .before .before .before .before .before .fast-row .ensures) in
     let g = c .before .before .before .before .before .before .before .before .before .before .scan .given in
     let q : Whole (g .0 .0) (g .0 .1 .0) ≡ scanOf (a .width) (partAt (a .table .now) (a .place)) = sym (g .1) ∙ c .before .before .before .before .before .before .before .before .before .before .before .before .scan-row .ensures ∙ ap (scanOf (a .width)) e in
     let m = c .before .before .before .before .copy-row .ensures in
@@ -186,11 +186,11 @@ read-row-spec =
     (tie.spec
     returns
     returns-2
-    near-requires
+    end-within-requires
     sub-t
     part-t-start
     part-t-end
-    quick-row-requires
+    fast-row-requires
     enum-known-quick
     add-t23
     same-length

@@ -1,0 +1,68 @@
+use mathlib.Core.Path.{ap, _∙_}
+use Prim.Native.Nat.{ℕ, _≤_, _-_, min}
+use native.Mathlib.Omega.{arith}
+use lib.ListN.{length}
+use Rattle.row.proofs.Laws.{Least, least-start, least-turn, least-end}
+use borrow.Author.Needs.{needs}
+use Rattle.row.proofs.write.first_quote.Statement.{statement}
+use Rattle.row.proofs.write.first_quote.Tie as tie
+
+abbrev Inv-loop : tie.InvT-loop
+Inv-loop v none n₀ i₀ n i = (i ≤ length v) × Least v i n
+
+abbrev μ-loop : tie.MeasureT-loop
+μ-loop v none n₀ i₀ n i = length v - i
+
+cast-none : tie.Need-cast-none Inv-loop μ-loop
+cast-none c = search needs
+
+loop-holds : tie.Need-loop-holds Inv-loop μ-loop
+loop-holds c = (omega arith, least-start (c .before .args .v .now))
+
+shared-slice-read-quote-place : tie.Need-shared-slice-read-quote-place Inv-loop μ-loop
+shared-slice-read-quote-place c = search needs
+
+cast-quote-place : tie.Need-cast-quote-place Inv-loop μ-loop
+cast-quote-place c = search needs
+
+quote-place-requires : tie.Need-quote-place-requires Inv-loop μ-loop
+quote-place-requires c κs = search needs
+
+least-requires : tie.Need-least-requires Inv-loop μ-loop
+least-requires c κs = search needs
+
+add-i : tie.Need-add-i Inv-loop μ-loop
+add-i c = search needs
+
+loop-less : tie.Need-loop-less Inv-loop μ-loop
+loop-less c = search needs
+
+loop-again : tie.Need-loop-again Inv-loop μ-loop
+loop-again c =
+    let l = c .before .before .before .before .loop in
+    let s = c .before .before .before .before .before .before in
+    let v = s .args .v .now in
+    let e = c .least .ensures ∙ ap (λ (x : ℕ). min x (l .n)) (c .before .quote-place .ensures) in
+    (omega arith, least-turn v (l .i) (l .n) _ (search needs) e (l .inv .1))
+
+returns : tie.Need-returns Inv-loop μ-loop
+returns c =
+    let l = c .before .loop in
+    least-end (c .before .before .before .args .v .now) (l .i) (l .n) (search needs) (l .inv .1)
+
+pub first-quote-spec : {M : Type 1} → statement M
+first-quote-spec =
+    tie.close
+    (tie.spec
+    Inv-loop
+    μ-loop
+    cast-none
+    loop-holds
+    shared-slice-read-quote-place
+    cast-quote-place
+    quote-place-requires
+    least-requires
+    add-i
+    loop-less
+    loop-again
+    returns)

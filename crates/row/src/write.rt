@@ -1,0 +1,230 @@
+// A value and a row written.
+ghost use mathlib.Core.Path.{_≡_};
+ghost use Prim.Native.Nat.{_+_, _-_, _≤_, _<_, min};
+ghost use lib.Dec.{eqb, leb};
+ghost use lib.ListN.{length, take, drop};
+ghost use lib.Seq.{sets};
+ghost use Rattle.base.specs.Number.{pick};
+ghost use Rattle.csv.specs.Write.{doubled, fieldOf, rowOf};
+ghost use Rattle.row.specs.Write.{handed};
+ghost use Rattle.row.specs.Steps.{Sizes, FirstQuote};
+ghost use Rattle.csv.specs.Csv.{quote, comma, lineFeed};
+use crate::size::cut;
+use crate::size::quotes;
+use csv::COMMA;
+use csv::LF;
+use csv::QUOTE;
+
+// v into out from a place on.
+pub(crate) fn copy(v: &[u8], out: &mut [u8], to: usize)
+    requires { ⌜ to + length (now v) ≤ length (now out) ⌝ }
+    ensures { λ _. ⌜ now (out .exit) ≡ sets (now (out .entry)) to (now (v .entry)) ⌝ }
+{
+    let mut i: usize = 0;
+    while i < v.len() {
+        out[to + i] = v[i];
+        i += 1;
+    }
+}
+
+// Some bytes with their quotes doubled, into out from a place on, and where they end.
+fn put_each(v: &[u8], out: &mut [u8], to: usize) -> usize
+    requires { ⌜ to + length (doubled (now v)) ≤ length (now out) ⌝ }
+    ensures { λ r. ⌜ (r ≡ to + length (doubled (now (v .entry)))) × (now (out .exit) ≡ sets (now (out .entry)) to (doubled (now (v .entry)))) ⌝ }
+{
+    let mut n = to;
+    let mut i: usize = 0;
+    while i < v.len() {
+        let b = v[i];
+        if b == QUOTE {
+            out[n] = QUOTE;
+            n += 1;
+        }
+        out[n] = b;
+        n += 1;
+        i += 1;
+    }
+    n
+}
+
+fn quote_place(byte: u8, i: u8, none: u8) -> u8
+    ensures { λ r. ⌜ r ≡ pick (eqb byte quote) i none ⌝ }
+{
+    if byte == QUOTE { i } else { none }
+}
+
+fn least(a: u8, b: u8) -> u8
+    ensures { λ r. ⌜ r ≡ min a b ⌝ }
+{
+    if a < b { a } else { b }
+}
+
+// Where the first quote stands among a few bytes, or their end: the least place, which is found for many bytes at once.
+fn first_quote(v: &[u8]) -> u8
+    requires { ⌜ length (now v) ≤ 64 ⌝ }
+    ensures { λ r. ⌜ FirstQuote (now (v .entry)) r ⌝ }
+{
+    let none = v.len() as u8;
+    let mut n = none;
+    let mut i: usize = 0;
+    while i < v.len() {
+        n = least(quote_place(v[i], i as u8, none), n);
+        i += 1;
+    }
+    n
+}
+
+// 64 bytes into out from a place on, by way of an array, which is copied whole.
+fn block(v: &[u8], out: &mut [u8], to: usize)
+    requires { ⌜ (length (now v) ≡ 64) × (to + 64 ≤ length (now out)) ⌝ }
+    ensures { λ _. ⌜ now (out .exit) ≡ sets (now (out .entry)) to (now (v .entry)) ⌝ }
+{
+    let mut b: [u8; 64] = [0; 64];
+    copy(v, &mut b, 0);
+    copy(&b, out, to);
+}
+
+// How many bytes stand before the first quote, at most 64. They are put into out; of 64 bytes, all, for those behind are written over.
+fn put_run(v: &[u8], out: &mut [u8], to: usize) -> usize
+    requires { ⌜ to + length (now v) ≤ length (now out) ⌝ }
+    ensures { λ r. ⌜ FirstQuote (take 64 (now (v .entry))) r × (now (out .exit) ≡ sets (now (out .entry)) to (take (pick (leb 64 (length (now (v .entry)))) 64 r) (now (v .entry)))) ⌝ }
+{
+    if v.len() < 64 {
+        let n = first_quote(v) as usize;
+        copy(&v[0..n], out, to);
+        return n;
+    }
+    let part = &v[0..64];
+    block(part, out, to);
+    first_quote(part) as usize
+}
+
+// A value with its quotes doubled, which takes size bytes, into out from a place on: from quote to quote.
+fn put_runs(v: &[u8], size: usize, out: &mut [u8], to: usize)
+    requires { ⌜ (size ≡ length (doubled (now v))) × (to + size ≤ length (now out)) ⌝ }
+    ensures { λ _. ⌜ now (out .exit) ≡ sets (now (out .entry)) to (doubled (now (v .entry))) ⌝ }
+{
+    let mut n = to;
+    let mut i: usize = 0;
+    while to + size - n != v.len() - i {
+        let run = put_run(&v[i..v.len()], out, n);
+        n += run;
+        i += run;
+        if run < 64 {
+            out[n] = QUOTE;
+            out[n + 1] = QUOTE;
+            n += 2;
+            i += 1;
+        }
+    }
+    copy(&v[i..v.len()], out, n);
+}
+
+// The first 64 bytes of v with their quotes doubled, into out from a place on, and where they end. More may be written behind them, for all
+// that is written over.
+fn put_block(v: &[u8], out: &mut [u8], to: usize) -> usize
+    requires { ⌜ (128 ≤ length (now v)) × (to + length (doubled (now v)) ≤ length (now out)) ⌝ }
+    ensures { λ r. ⌜ (r ≡ to + length (doubled (take 64 (now (v .entry))))) × (sets (now (out .exit)) r (doubled (drop 64 (now (v .entry)))) ≡ sets (now (out .entry)) to (doubled (now (v .entry)))) ⌝ }
+{
+    let part = &v[0..64];
+    let n = quotes(part);
+    if 1 < n {
+        return put_each(part, out, to);
+    }
+    block(part, out, to);
+    if n == 0 {
+        return to + 64;
+    }
+    let f = first_quote(part) as usize;
+    let end = f + 64;
+    block(&v[f..end], out, to + f + 1);
+    to + 65
+}
+
+// The blocks of a value that have 64 bytes or more behind them, with their quotes doubled, into out from a place on.
+fn put_blocks(v: &[u8], out: &mut [u8], to: usize) -> Put
+    requires { ⌜ to + length (doubled (now v)) ≤ length (now out) ⌝ }
+    ensures { λ r. ⌜ (r .bytes ≤ length (now (v .entry))) × (r .to + length (doubled (drop (r .bytes) (now (v .entry)))) ≡ to + length (doubled (now (v .entry)))) × (sets (now (out .exit)) (r .to) (doubled (drop (r .bytes) (now (v .entry)))) ≡ sets (now (out .entry)) to (doubled (now (v .entry)))) ⌝ }
+{
+    let mut n = to;
+    let mut i: usize = 0;
+    while 128 <= v.len() - i {
+        n = put_block(&v[i..v.len()], out, n);
+        i += 64;
+    }
+    Put { bytes: i, to: n }
+}
+
+// So many bytes of a value are put, up to a place in out.
+struct Put {
+    bytes: usize,
+    to: usize,
+}
+
+// A value with few quotes, which are doubled: its blocks, then from quote to quote.
+fn put_few(v: &[u8], size: usize, out: &mut [u8], to: usize)
+    requires { ⌜ (size ≡ length (doubled (now v))) × (to + size ≤ length (now out)) ⌝ }
+    ensures { λ _. ⌜ now (out .exit) ≡ sets (now (out .entry)) to (doubled (now (v .entry))) ⌝ }
+{
+    let p = put_blocks(v, out, to);
+    let from = p.bytes;
+    put_runs(&v[from..v.len()], to + size - p.to, out, p.to);
+}
+
+// The same: a value without quotes is copied as it is, one with many goes byte by byte.
+fn put_inner(v: &[u8], size: usize, out: &mut [u8], to: usize)
+    requires { ⌜ (size ≡ length (doubled (now v))) × (to + size ≤ length (now out)) ⌝ }
+    ensures { λ _. ⌜ now (out .exit) ≡ sets (now (out .entry)) to (doubled (now (v .entry))) ⌝ }
+{
+    if size == v.len() {
+        copy(v, out, to);
+        return;
+    }
+    if size - v.len() < v.len() / 16 {
+        put_few(v, size, out, to);
+        return;
+    }
+    put_each(v, out, to);
+}
+
+// The field of a value, whose size is given, into out from a place on.
+fn put_field(v: &[u8], size: usize, out: &mut [u8], to: usize)
+    requires { ⌜ (size ≡ length (fieldOf (now v))) × (to + size ≤ length (now out)) ⌝ }
+    ensures { λ _. ⌜ now (out .exit) ≡ sets (now (out .entry)) to (fieldOf (now (v .entry))) ⌝ }
+{
+    if size == v.len() {
+        copy(v, out, to);
+        return;
+    }
+    out[to] = QUOTE;
+    put_inner(v, size - 2, out, to + 1);
+    out[to + size - 1] = QUOTE;
+}
+
+// What stands behind field k of n.
+fn end_byte(k: usize, n: usize) -> u8
+    ensures { λ r. ⌜ r ≡ pick (eqb k n) lineFeed comma ⌝ }
+{
+    if k == n { LF } else { COMMA }
+}
+
+// The row, with the sizes of its fields, into out.
+pub(crate) fn put_row(texts: &[u8], lengths: &[u32], sizes: &[usize], out: &mut [u8])
+    requires { ⌜ (length (rowOf (handed (now texts) (now lengths))) ≤ length (now out)) × (length (now lengths) ≤ length (now sizes)) × Sizes (now sizes) 0 (handed (now texts) (now lengths)) ⌝ }
+    ensures { λ _. ⌜ now (out .exit) ≡ sets (now (out .entry)) 0 (rowOf (handed (now (texts .entry)) (now (lengths .entry)))) ⌝ }
+{
+    let mut to: usize = 0;
+    let mut from: usize = 0;
+    let mut k: usize = 0;
+    while k < lengths.len() {
+        let n = cut(texts.len() - from, lengths[k]);
+        let end = from + n;
+        let size = sizes[k];
+        put_field(&texts[from..end], size, out, to);
+        let last = to + size;
+        k += 1;
+        out[last] = end_byte(k, lengths.len());
+        to = last + 1;
+        from = end;
+    }
+}

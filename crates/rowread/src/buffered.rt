@@ -1,0 +1,291 @@
+// A row unquoted into a buffer of its own, then copied out whole.
+ghost use mathlib.Core.Path.{_≡_};
+ghost use mathlib.Core.Bool.{true};
+ghost use Prim.Native.Nat.{_+_, _-_, _≤_, _<_};
+ghost use lib.ListN.{length, take};
+ghost use lib.Seq.{sets};
+ghost use Rattle.csv.specs.Csv.{Inner, Field, maxColumns};
+ghost use Rattle.rowread.specs.Steps.{Opens, Took, TookRow, Within, Handed, Quickly};
+use crate::copy::copy_part;
+use crate::copy::copy_plain;
+use crate::fast::Fast;
+use crate::line::copy_before;
+use crate::scan::Piece;
+use crate::scan::Scan;
+use crate::scan::byte_at;
+use crate::scan::count_few;
+use crate::scan::delimiter_from;
+use crate::scan::end_within;
+use crate::scan::has_few_quotes;
+use csv::COMMA;
+use csv::LF;
+use csv::MAX_COLUMNS;
+use csv::QUOTE;
+
+// The value behind the opening quote before a place, into room as it is found, byte by byte.
+fn buffer_bytes(t: &[u8], from: usize, room: &mut [u8], to: usize) -> Piece
+    requires { ⌜ (from ≤ length (now t)) × (to + (length (now t) - from) ≤ length (now room)) ⌝ }
+    ensures { λ r. ⌜ Took Inner (now (t .entry)) from (now (room .entry)) to (now (room .exit)) r ⌝ }
+{
+    let mut p = from;
+    let mut n = to;
+    while p < t.len() {
+        let byte = t[p];
+        p += 1;
+        if byte == QUOTE {
+            if byte_at(t, p) != QUOTE {
+                return Piece::Value {
+                    next: p,
+                    size: n - to,
+                };
+            }
+            p += 1;
+        }
+        room[n] = byte;
+        n += 1;
+    }
+    Piece::Bad
+}
+
+// The same, from stop to stop.
+fn buffer_runs(t: &[u8], from: usize, room: &mut [u8], to: usize) -> Piece
+    requires { ⌜ (from ≤ length (now t)) × (to + (length (now t) - from) ≤ length (now room)) ⌝ }
+    ensures { λ r. ⌜ Took Inner (now (t .entry)) from (now (room .entry)) to (now (room .exit)) r ⌝ }
+{
+    let mut p = from;
+    let mut n = to;
+    while p < t.len() {
+        let e = delimiter_from(t, p);
+        n = copy_part(t, p, e, room, n);
+        if e == t.len() {
+            return Piece::Bad;
+        }
+        let last = t[e];
+        p = e + 1;
+        if last == QUOTE {
+            if byte_at(t, p) != QUOTE {
+                return Piece::Value {
+                    next: p,
+                    size: n - to,
+                };
+            }
+            p += 1;
+        }
+        room[n] = last;
+        n += 1;
+    }
+    Piece::Bad
+}
+
+// The value behind the opening quote before a place, into room.
+fn buffer_inner(t: &[u8], from: usize, room: &mut [u8], to: usize) -> Piece
+    requires { ⌜ (from ≤ length (now t)) × (to + (length (now t) - from) ≤ length (now room)) ⌝ }
+    ensures { λ r. ⌜ Took Inner (now (t .entry)) from (now (room .entry)) to (now (room .exit)) r ⌝ }
+{
+    if has_few_quotes(t, from) {
+        return buffer_runs(t, from, room, to);
+    }
+    buffer_bytes(t, from, room, to)
+}
+
+// The value at a place, into room.
+fn buffer_field(t: &[u8], from: usize, room: &mut [u8], to: usize) -> Piece
+    requires { ⌜ (from ≤ length (now t)) × (to + (length (now t) - from) ≤ length (now room)) ⌝ }
+    ensures { λ r. ⌜ Took Field (now (t .entry)) from (now (room .entry)) to (now (room .exit)) r ⌝ }
+{
+    if byte_at(t, from) == QUOTE {
+        return buffer_inner(t, from + 1, room, to);
+    }
+    let c = copy_plain(t, from, room, to);
+    Piece::Value {
+        next: c.next,
+        size: c.to - to,
+    }
+}
+
+// The values of a row from a place on, into room behind `size` bytes, and their ends into marks behind `count` ends.
+fn buffer_rest(
+    t: &[u8],
+    width: usize,
+    start: usize,
+    size: usize,
+    count: usize,
+    room: &mut [u8],
+    marks: &mut [usize],
+) -> Scan
+    requires { ⌜ (size ≤ start) × (start ≤ length (now t)) × (length (now t) ≤ length (now room)) × (width ≤ length (now marks)) ⌝ }
+    ensures { λ r. ⌜ TookRow (now (t .entry)) start size count width (now (room .entry)) (now (marks .entry)) (now (room .exit)) (now (marks .exit)) r ⌝ }
+{
+    let mut from = start;
+    let mut to = size;
+    let mut k = count;
+    while k < width {
+        let Piece::Value { next, size: n } = buffer_field(t, from, room, to) else {
+            return Scan::Broken;
+        };
+        to += n;
+        marks[k] = to;
+        k += 1;
+        let behind = byte_at(t, next);
+        if k == width {
+            if behind == LF {
+                return Scan::Whole {
+                    next: next + 1,
+                    size: to,
+                };
+            }
+            return Scan::Broken;
+        }
+        if behind != COMMA {
+            return Scan::Broken;
+        }
+        from = next + 1;
+    }
+    Scan::Broken
+}
+
+// The row of so many values, of which n without quotes stand before e, into room and marks.
+fn buffer_row(
+    t: &[u8],
+    width: usize,
+    e: usize,
+    n: usize,
+    room: &mut [u8],
+    marks: &mut [usize],
+) -> Scan
+    requires { ⌜ Opens (now t) e n × (n < width) × (length (now t) ≤ length (now room)) × (width ≤ length (now marks)) ⌝ }
+    ensures { λ r. ⌜ TookRow (now (t .entry)) 0 0 0 width (now (room .entry)) (now (marks .entry)) (now (room .exit)) (now (marks .exit)) r ⌝ }
+{
+    let to = copy_before(&t[0..e], room, marks);
+    buffer_rest(t, width, e, to, n, room, marks)
+}
+
+// The first ends, into ends.
+fn copy_ends(marks: &[usize], n: usize, ends: &mut [usize])
+    requires { ⌜ (n ≤ length (now marks)) × (n ≤ length (now ends)) ⌝ }
+    ensures { λ _. ⌜ now (ends .exit) ≡ sets (now (ends .entry)) 0 (take n (now (marks .entry))) ⌝ }
+{
+    let mut i: usize = 0;
+    while i < n {
+        ends[i] = marks[i];
+        i += 1;
+    }
+}
+
+// A row out of room and marks, where it fits.
+fn copy_out(
+    found: Scan,
+    width: usize,
+    room: &[u8],
+    marks: &[usize],
+    out: &mut [u8],
+    ends: &mut [usize],
+) -> Fast
+    requires { ⌜ Within (length (now room)) found × (width ≤ length (now marks)) ⌝ }
+    ensures { λ r. ⌜ Handed found width (now (room .entry)) (now (marks .entry)) (now (out .entry)) (now (ends .entry)) (now (out .exit)) (now (ends .exit)) r ⌝ }
+{
+    let Scan::Whole { next, size } = found else {
+        return Fast::Not;
+    };
+    if out.len() < size {
+        return Fast::Not;
+    }
+    if ends.len() < width {
+        return Fast::Not;
+    }
+    copy_part(room, 0, size, out, 0);
+    copy_ends(marks, width, ends);
+    Fast::Read { next, size }
+}
+
+// The row of so many values, of which n without quotes stand before e, by way of room and marks.
+fn row_through(
+    t: &[u8],
+    width: usize,
+    e: usize,
+    n: usize,
+    room: &mut [u8],
+    marks: &mut [usize],
+    out: &mut [u8],
+    ends: &mut [usize],
+) -> Fast
+    requires { ⌜ Opens (now t) e n × (n < width) × (length (now t) ≤ length (now room)) × (width ≤ length (now marks)) ⌝ }
+    ensures { λ r. ⌜ Quickly (now (t .entry)) width (now (out .entry)) (now (ends .entry)) (now (out .exit)) (now (ends .exit)) r ⌝ }
+{
+    let found = buffer_row(t, width, e, n, room, marks);
+    copy_out(found, width, room, marks, out, ends)
+}
+
+// The same, by way of a little room.
+fn with_small_buffer(
+    t: &[u8],
+    width: usize,
+    e: usize,
+    n: usize,
+    out: &mut [u8],
+    ends: &mut [usize],
+) -> Fast
+    requires { ⌜ Opens (now t) e n × (n < width) × (width ≤ maxColumns) × (length (now t) ≤ 256) ⌝ }
+    ensures { λ r. ⌜ Quickly (now (t .entry)) width (now (out .entry)) (now (ends .entry)) (now (out .exit)) (now (ends .exit)) r ⌝ }
+{
+    let mut room = [0u8; 256];
+    let mut marks = [0usize; MAX_COLUMNS];
+    row_through(t, width, e, n, &mut room, &mut marks, out, ends)
+}
+
+// The same, by way of much.
+fn with_large_buffer(
+    t: &[u8],
+    width: usize,
+    e: usize,
+    n: usize,
+    out: &mut [u8],
+    ends: &mut [usize],
+) -> Fast
+    requires { ⌜ Opens (now t) e n × (n < width) × (width ≤ maxColumns) × (length (now t) ≤ 1024) ⌝ }
+    ensures { λ r. ⌜ Quickly (now (t .entry)) width (now (out .entry)) (now (ends .entry)) (now (out .exit)) (now (ends .exit)) r ⌝ }
+{
+    let mut room = [0u8; 1024];
+    let mut marks = [0usize; MAX_COLUMNS];
+    row_through(t, width, e, n, &mut room, &mut marks, out, ends)
+}
+
+// Whether a little room will do: an LF or the end is near. Either way gives the same row.
+fn ends_soon(t: &[u8], from: usize) -> bool
+    requires { ⌜ from ≤ length (now t) ⌝ }
+{
+    if t.len() - from < 64 {
+        return true;
+    }
+    let end = from + 64;
+    count_few(&t[from..end], LF) != 0
+}
+
+// The row of so many values, of which n without quotes stand before e, by way of room of our own.
+pub(crate) fn with_buffer(
+    t: &[u8],
+    width: usize,
+    e: usize,
+    n: usize,
+    out: &mut [u8],
+    ends: &mut [usize],
+) -> Fast
+    requires { ⌜ Opens (now t) e n × (n < width) ⌝ }
+    ensures { λ r. ⌜ Quickly (now (t .entry)) width (now (out .entry)) (now (ends .entry)) (now (out .exit)) (now (ends .exit)) r ⌝ }
+{
+    if MAX_COLUMNS < width {
+        return Fast::Not;
+    }
+    if ends_soon(t, e) {
+        let end = end_within(t.len(), 0, 256);
+        if end < e {
+            return Fast::Not;
+        }
+        return with_small_buffer(&t[0..end], width, e, n, out, ends);
+    }
+    let end = end_within(t.len(), 0, 1024);
+    if end < e {
+        return Fast::Not;
+    }
+    with_large_buffer(&t[0..end], width, e, n, out, ends)
+}

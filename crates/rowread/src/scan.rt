@@ -1,0 +1,250 @@
+// Where a row's values end: delimiters, quoted and plain fields, the row's end.
+ghost use mathlib.Core.Path.{_≡_};
+ghost use Prim.Native.Nat.{_+_, _-_, _≤_, _<_, min};
+ghost use lib.ListN.{length, drop, getD};
+ghost use Rattle.base.specs.Number.{pick};
+ghost use Rattle.csv.specs.Csv.{isText};
+ghost use Rattle.csv.specs.Read.{plainValue, inner, fieldAt, rowEnd};
+ghost use Rattle.rowread.specs.Steps.{pieceOf, scanOf, isStop, FirstStop, lineOf};
+use csv::COMMA;
+use csv::LF;
+use csv::QUOTE;
+
+// A value of size bytes; next is the place of what follows it.
+pub(crate) enum Piece {
+    Value { next: usize, size: usize },
+    Bad,
+}
+
+// A row whose values have size bytes; next is the place of what follows it.
+pub(crate) enum Scan {
+    Whole { next: usize, size: usize },
+    Broken,
+}
+
+// The byte at a place, 0 past the end.
+pub(crate) fn byte_at(s: &[u8], i: usize) -> u8
+    ensures { λ r. ⌜ r ≡ getD (now (s .entry)) i 0 ⌝ }
+{
+    if i < s.len() { s[i] } else { 0 }
+}
+
+// May stand in a field without quotes.
+pub(crate) fn is_text(b: u8) -> bool
+    ensures { λ r. ⌜ r ≡ isText b ⌝ }
+{
+    !((b == QUOTE) | ((b == COMMA) | (b == LF)))
+}
+
+// Where the value without quotes ends that starts at a place.
+fn plain_end(t: &[u8], from: usize) -> usize
+    requires { ⌜ from ≤ length (now t) ⌝ }
+    ensures { λ r. ⌜ r ≡ from + length (plainValue (drop from (now (t .entry)))) ⌝ }
+{
+    let mut i = from;
+    while i < t.len() {
+        if !is_text(t[i]) {
+            return i;
+        }
+        i += 1;
+    }
+    i
+}
+
+// A byte before which a row without quotes stops: LF, where it ends, or a quote.
+fn is_delimiter(b: u8) -> bool
+    ensures { λ r. ⌜ r ≡ isStop b ⌝ }
+{
+    (b == QUOTE) | (b == LF)
+}
+
+// Where at most so many bytes end from a place on.
+pub(crate) fn end_within(len: usize, i: usize, most: usize) -> usize
+    requires { ⌜ i ≤ len ⌝ }
+    ensures { λ r. ⌜ r ≡ i + min most (len - i) ⌝ }
+{
+    if len - i < most { len } else { i + most }
+}
+
+fn delimiter_index(b: u8, i: u8) -> u8
+    ensures { λ r. ⌜ r ≡ pick (isStop b) i 32 ⌝ }
+{
+    if is_delimiter(b) { i } else { 32 }
+}
+
+fn least(a: u8, b: u8) -> u8
+    ensures { λ r. ⌜ r ≡ min a b ⌝ }
+{
+    if a < b { a } else { b }
+}
+
+// Where the first stop stands among a few bytes, or 32: the least place, which is found for many bytes at once.
+fn first_delimiter(v: &[u8]) -> u8
+    requires { ⌜ length (now v) ≤ 32 ⌝ }
+    ensures { λ r. ⌜ FirstStop (now (v .entry)) r ⌝ }
+{
+    let mut n: u8 = 32;
+    let mut i: usize = 0;
+    while i < v.len() {
+        n = least(delimiter_index(v[i], i as u8), n);
+        i += 1;
+    }
+    n
+}
+
+// Where the first stop stands from a place on, or the end.
+pub(crate) fn delimiter_from(t: &[u8], from: usize) -> usize
+    requires { ⌜ from ≤ length (now t) ⌝ }
+    ensures { λ r. ⌜ r ≡ from + length (lineOf (drop from (now (t .entry)))) ⌝ }
+{
+    let mut i = from;
+    while i < t.len() {
+        let end = end_within(t.len(), i, 32);
+        let n = first_delimiter(&t[i..end]);
+        if n < 32 {
+            return i + n as usize;
+        }
+        i = end;
+    }
+    i
+}
+
+// How often a byte stands among a few, at most as often as there are.
+pub(crate) fn count_few(v: &[u8], b: u8) -> u8
+    requires { ⌜ length (now v) ≤ 64 ⌝ }
+    ensures { λ r. ⌜ r ≤ length (now (v .entry)) ⌝ }
+{
+    let mut n: u8 = 0;
+    let mut i: usize = 0;
+    while i < v.len() {
+        if v[i] == b {
+            n += 1;
+        }
+        i += 1;
+    }
+    n
+}
+
+// Whether to go from stop to stop: no quote is near. Either way gives the same value.
+pub(crate) fn has_few_quotes(t: &[u8], from: usize) -> bool
+    requires { ⌜ from ≤ length (now t) ⌝ }
+{
+    if t.len() - from < 16 {
+        return false;
+    }
+    let end = from + 16;
+    count_few(&t[from..end], QUOTE) == 0
+}
+
+// The value behind the opening quote before a place, byte by byte.
+fn inner_bytes(t: &[u8], from: usize) -> Piece
+    requires { ⌜ from ≤ length (now t) ⌝ }
+    ensures { λ r. ⌜ r ≡ pieceOf (length (now (t .entry))) (inner (drop from (now (t .entry)))) ⌝ }
+{
+    let mut i = from;
+    let mut size: usize = 0;
+    while i < t.len() {
+        if t[i] == QUOTE {
+            i += 1;
+            if byte_at(t, i) != QUOTE {
+                return Piece::Value { next: i, size };
+            }
+        }
+        i += 1;
+        size += 1;
+    }
+    Piece::Bad
+}
+
+// The same, from stop to stop.
+fn inner_runs(t: &[u8], from: usize) -> Piece
+    requires { ⌜ from ≤ length (now t) ⌝ }
+    ensures { λ r. ⌜ r ≡ pieceOf (length (now (t .entry))) (inner (drop from (now (t .entry)))) ⌝ }
+{
+    let mut i = from;
+    let mut size: usize = 0;
+    while i < t.len() {
+        let mut e = delimiter_from(t, i);
+        if e == t.len() {
+            return Piece::Bad;
+        }
+        size += e - i;
+        if t[e] == QUOTE {
+            e += 1;
+            if byte_at(t, e) != QUOTE {
+                return Piece::Value { next: e, size };
+            }
+        }
+        i = e + 1;
+        size += 1;
+    }
+    Piece::Bad
+}
+
+// The value behind the opening quote before a place.
+fn inner_end(t: &[u8], from: usize) -> Piece
+    requires { ⌜ from ≤ length (now t) ⌝ }
+    ensures { λ r. ⌜ r ≡ pieceOf (length (now (t .entry))) (inner (drop from (now (t .entry)))) ⌝ }
+{
+    if has_few_quotes(t, from) {
+        return inner_runs(t, from);
+    }
+    inner_bytes(t, from)
+}
+
+// The value at a place.
+fn scan_field(t: &[u8], from: usize) -> Piece
+    requires { ⌜ from ≤ length (now t) ⌝ }
+    ensures { λ r. ⌜ r ≡ pieceOf (length (now (t .entry))) (fieldAt (drop from (now (t .entry)))) ⌝ }
+{
+    if byte_at(t, from) == QUOTE {
+        return inner_end(t, from + 1);
+    }
+    let e = plain_end(t, from);
+    Piece::Value {
+        next: e,
+        size: e - from,
+    }
+}
+
+// How many bytes of row end stand at a place; 0 for none.
+fn row_end(t: &[u8], i: usize) -> usize
+    requires { ⌜ i ≤ length (now t) ⌝ }
+    ensures { λ r. ⌜ r ≡ rowEnd (drop i (now (t .entry))) ⌝ }
+{
+    if byte_at(t, i) == LF { 1 } else { 0 }
+}
+
+// The row of so many values at the front.
+pub(crate) fn scan_row(t: &[u8], width: usize) -> Scan
+    ensures { λ r. ⌜ r ≡ scanOf width (now (t .entry)) ⌝ }
+{
+    if width == 0 {
+        return Scan::Broken;
+    }
+    let mut size: usize = 0;
+    let mut from: usize = 0;
+    let mut k: usize = 0;
+    while k + 1 < width {
+        let Piece::Value { next, size: n } = scan_field(t, from) else {
+            return Scan::Broken;
+        };
+        if byte_at(t, next) != COMMA {
+            return Scan::Broken;
+        }
+        size += n;
+        from = next + 1;
+        k += 1;
+    }
+    let Piece::Value { next, size: n } = scan_field(t, from) else {
+        return Scan::Broken;
+    };
+    let e = row_end(t, next);
+    if e == 0 {
+        return Scan::Broken;
+    }
+    Scan::Whole {
+        next: next + e,
+        size: size + n,
+    }
+}
