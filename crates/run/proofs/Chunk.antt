@@ -21,13 +21,16 @@ use Rattle.writer.specs.declared.PartsStep.{PartsStep}
 use Rattle.writer.specs.Parts.{withSources, stepWith}
 use Rattle.writer.specs.declared.Writer.{Writer}
 use Rattle.writer.specs.declared.Step.{Step}
-use Rattle.writer.specs.State.{position, isDue, stageOf, aligned, takenOk, tablesOk, operationOk, stageOk, inRange, tailSize}
+use Rattle.writer.specs.State.{position, isDue, stageOf, aligned, takenOk, tablesOk, operationOk, stageOk, inRange, tailSize, stays}
 use Rattle.writer.proofs.Laws.{ranged}
-use Rattle.lower.specs.Lower.{mayAppend, room, takenMore, withBytes, bytesStep}
+use Rattle.lower.specs.Lower.{mayAppend, room, takenMore, withBytes, took, bytesStep}
+use Rattle.base.specs.Number.{pick}
+use Rattle.refusal.specs.declared.Refusal.the-variants.{Full, Turn}
+use Rattle.writer.specs.declared.Answer.the-variants.{Took}
 use Rattle.lower.proofs.Laws.{bytes-took, took-some, takes-fits}
 use Rattle.run.specs.Run.{lowerStep, lowerOps, ranWriter, ranRegion}
 use Rattle.run.specs.Appends.{dues, appends}
-use Rattle.run.specs.Parts.{Ran, Appended}
+use Rattle.run.specs.Parts.{Ran, Appended, countOf}
 use Rattle.flash.specs.Flash.{performed}
 use Rattle.run.proofs.Laws.{quiet, quiet-settled, quiet-dues-writer, quiet-dues-ran, then-writer, then-region, fed-all-writer, fed-all-region}
 use Rattle.region.specs.Region.{capacity}
@@ -239,6 +242,45 @@ chunk-parts region p bs m d k l n e s f q r g = (at [] .0, at [] .1, λ ss. (at 
     at : (ss : List Source) → (1 ≤ n) × (n ≤ length bs) × (ranWriter r (withSources q ss) (appends (drop n bs)) ≡ ranWriter region (withSources p ss) (appends bs)) × (ranRegion r (withSources q ss) (appends (drop n bs)) ≡ ranRegion region (withSources p ss) (appends bs))
     at ss = chunk-fed region (withSources p ss) bs (m ss) d k l n e (stepWith s ss) (f ss) (withSources q ss) r (g ss .0) (g ss .1)
 
+-- ---- what a count of appended bytes says
+
+pub counted : (w : Writer) (bs : List ℕ) → 1 ≤ countOf (bytesStep w bs .answer)
+    → (mayAppend w ≡ true) × (isDue (w .taken) ≡ false) × (position (w .taken) + length bs ≤ capacity) × (countOf (bytesStep w bs .answer) ≡ min (length bs) (tailSize - w .taken .fill))
+unfolding bytesStep took
+counted w bs = go (mayAppend w) refl (leb (position (w .taken) + length bs) capacity) refl (isDue (w .taken)) refl
+  where
+    some : Step
+    some = record { answer = Took (room (w .taken) (length bs)); writer = withBytes w (take (room (w .taken) (length bs)) bs) }
+
+    go : (m : Bool) → mayAppend w ≡ m → (l : Bool) → leb (position (w .taken) + length bs) capacity ≡ l → (d : Bool) → isDue (w .taken) ≡ d
+        → 1 ≤ countOf (pick m (pick l (pick d (record { answer = Took 0; writer = w }) some) (stays w Full)) (stays w Turn) .answer)
+        → (mayAppend w ≡ true) × (isDue (w .taken) ≡ false) × (position (w .taken) + length bs ≤ capacity) × (countOf (pick m (pick l (pick d (record { answer = Took 0; writer = w }) some) (stays w Full)) (stays w Turn) .answer) ≡ min (length bs) (tailSize - w .taken .fill))
+    go true em true el false ed h = (em, ed, leb-true _ _ el, refl)
+    go true em true el true ed h = absurd (omega (arith, h))
+    go true em false el d ed h = absurd (omega (arith, h))
+    go false em l el d ed h = absurd (omega (arith, h))
+
+some-count : (n m : ℕ) → n ≡ m → (n ≡ 0 → ⊥) → 1 ≤ m
+some-count zero m e h = absurd (h refl)
+some-count (suc n) m e h = omega (arith, e)
+
+module _ (p : Parts) (bs : List ℕ) (s : PartsStep) (f : (ss : List Source) → stepWith s ss ≡ bytesStep (withSources p ss) bs) (h : 1 ≤ countOf (s .answer)) where
+  its-count : (ss : List Source) → countOf (s .answer) ≡ countOf (bytesStep (withSources p ss) bs .answer)
+  its-count ss = ap (λ (x : Step). countOf (x .answer)) (f ss)
+
+  pub parts-counted : (ss : List Source) → (mayAppend (withSources p ss) ≡ true) × (isDue (p .taken) ≡ false) × (position (p .taken) + length bs ≤ capacity) × (countOf (s .answer) ≡ min (length bs) (tailSize - p .taken .fill))
+  parts-counted ss =
+      let c = counted (withSources p ss) bs (omega (arith, h, its-count ss)) in
+      (c .0, c .1, c .2, its-count ss ∙ c .3)
+
+-- the same, known by its answer
+pub chunk-counted : (region : List ℕ) (p : Parts) (bs : List ℕ) (s : PartsStep) (f : (ss : List Source) → stepWith s ss ≡ bytesStep (withSources p ss) bs) (n : ℕ) → n ≡ countOf (s .answer) → (n ≡ 0 → ⊥)
+    → (q : Parts) (r : List ℕ) → Ran region (s .parts) dues q r → Appended region p bs n q r
+chunk-counted region p bs s f n e h q r g =
+    let k = some-count n (countOf (s .answer)) e h in
+    let c = parts-counted p bs s f k [] in
+    chunk-parts region p bs (λ ss. parts-counted p bs s f k ss .0) (c .1) (c .2) (omega (arith, k, c .3)) n (e ∙ c .3) s f q r g
+
 -- ---- bytes that leave room in the tail, and nothing is due
 
 module _ (w : Writer) (d : isDue (w .taken) ≡ false) where
@@ -274,3 +316,12 @@ module _ (region : List ℕ) (w : Writer) (bs : List ℕ) (m : mayAppend w ≡ t
           fed-all-writer region (s .writer) bs (length bs) (omega arith) (ranWriter region w (appends bs)) (c .2) ∙ sym (quiet-dues-writer region w (dues ++ appends bs) quiet-before ∙ quiet-dues-writer region w (appends bs) quiet-before),
           fed-all-region region (s .writer) bs (length bs) (omega arith) (ranRegion region w (appends bs)) (c .3) ∙ sym (quiet-dues-ran region w (dues ++ appends bs) quiet-before ∙ quiet-dues-ran region w (appends bs) quiet-before),
         )
+
+-- the same on parts, known by the answer
+pub line-counted : (region : List ℕ) (p : Parts) (bs : List ℕ) (s : PartsStep) (f : (ss : List Source) → stepWith s ss ≡ bytesStep (withSources p ss) bs) (n : ℕ) → n ≡ countOf (s .answer) → (n ≡ 0 → ⊥)
+    → p .taken .fill + length bs < tailSize → (ss : List Source)
+    → (withSources (s .parts) ss ≡ ranWriter region (withSources p ss) (dues ++ (dues ++ appends bs))) × (region ≡ ranRegion region (withSources p ss) (dues ++ (dues ++ appends bs)))
+line-counted region p bs s f n e h l ss =
+    let k = some-count n (countOf (s .answer)) e h in
+    let c = parts-counted p bs s f k ss in
+    short-fed region (withSources p ss) bs (c .0) (c .1) (c .2) (omega (arith, k, c .3)) l (stepWith s ss) (f ss)

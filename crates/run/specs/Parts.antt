@@ -4,6 +4,8 @@ use mathlib.Core.List.{List}
 use Prim.Native.Nat.{ℕ, _≤_}
 use lib.ListN.{length, drop}
 use Rattle.record.specs.declared.Source.{Source}
+use Rattle.writer.specs.declared.Answer.{Answer}
+use Rattle.writer.specs.declared.Answer.the-variants.{Done, Took, NoneDue, Same, Different, Refused}
 use Rattle.writer.specs.declared.Parts.{Parts}
 use Rattle.writer.specs.Parts.{withSources}
 use Rattle.run.specs.Run.{Lower, ranWriter, ranRegion}
@@ -18,3 +20,12 @@ abbrev pub Appended : List ℕ → Parts → List ℕ → ℕ → Parts → List
 Appended region p bs n q after =
     (1 ≤ n) × (n ≤ length bs)
     × ((ss : List Source) → (ranWriter after (withSources q ss) (appends (drop n bs)) ≡ ranWriter region (withSources p ss) (appends bs)) × (ranRegion after (withSources q ss) (appends (drop n bs)) ≡ ranRegion region (withSources p ss) (appends bs)))
+
+-- how many bytes a call appended
+abbrev pub countOf : Answer → ℕ
+countOf (Took n) = n
+countOf Done = 0
+countOf NoneDue = 0
+countOf Same = 0
+countOf Different = 0
+countOf (Refused r) = 0

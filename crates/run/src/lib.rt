@@ -2,28 +2,21 @@
 ghost use mathlib.Core.Path.{_≡_};
 ghost use mathlib.Core.Bool.{true, false};
 ghost use Prim.Native.Nat.{_+_, _≤_, _<_};
-ghost use mathlib.Core.List.{List, _∷_, [], _++_};
+ghost use mathlib.Core.List.{_∷_, [], _++_};
 ghost use lib.ListN.{length};
-ghost use Rattle.record.specs.declared.Source.{Source};
-ghost use Rattle.writer.specs.State as State;
-ghost use Rattle.writer.specs.Parts.{withSources};
-ghost use Rattle.lower.specs.Lower as Lower;
 ghost use Rattle.run.specs.Run as Run;
 ghost use Rattle.run.specs.Run.{ranWriter, ranRegion};
 ghost use Rattle.run.specs.Appends as Appends;
 ghost use Rattle.run.specs.Parts as Partly;
-ghost use Rattle.region.specs.Region.{capacity};
 ghost use Rattle.writer.specs.State.{tailSize};
 use due::due_parts;
 use lower::append::append_parts;
-use lower::may_append_parts;
-use lower::room;
-use region::CAPACITY;
+use writer::Answer;
 use writer::Parts;
 use writer::Stage;
 use writer::TAIL_SIZE_32;
+use writer::Taken;
 use writer::Writer;
-use writer::is_due;
 use writer::parts_of;
 use writer::with_sources;
 
@@ -96,29 +89,33 @@ fn append_one(p: Parts, region: &mut [u8], bytes: &[u8]) -> Appended
     Appended { n: 1, parts: q }
 }
 
-// Feeds as many bytes as the tail has room for.
-fn append_chunk(p: Parts, region: &mut [u8], bytes: &[u8]) -> Appended
-    requires { ⌜ ((ss : List Source) → Lower.mayAppend (withSources p ss) ≡ true) × (State.isDue (p .taken) ≡ false) × (State.position (p .taken) + length (now bytes) ≤ capacity) × (1 ≤ length (now bytes)) ⌝ }
-    ensures { λ r. ⌜ Partly.Appended (now (region .entry)) p (now (bytes .entry)) (r .n) (r .parts) (now (region .exit)) ⌝ }
+// How many bytes a call appended.
+fn count_of(a: Answer) -> usize
+    ensures { λ r. ⌜ r ≡ Partly.countOf a ⌝ }
 {
-    let n = room(p.taken, bytes.len());
-    let s = append_parts(p, bytes);
-    let q = flush_parts(s.parts, region);
-    Appended { n, parts: q }
+    match a {
+        Answer::Done => 0,
+        Answer::Took(n) => n as usize,
+        Answer::NoneDue => 0,
+        Answer::Same => 0,
+        Answer::Different => 0,
+        Answer::Refused(_) => 0,
+    }
 }
 
-// Feeds the first bytes: as many as the tail has room for, or one.
+// Appends the first bytes: as many as the lower layer takes of all, or one. The lower call tests the state's range.
 fn append_some(p: Parts, region: &mut [u8], bytes: &[u8]) -> Appended
     requires { ⌜ 1 ≤ length (now bytes) ⌝ }
     ensures { λ r. ⌜ Partly.Appended (now (region .entry)) p (now (bytes .entry)) (r .n) (r .parts) (now (region .exit)) ⌝ }
 {
-    let t = p.taken;
-    if may_append_parts(p) & !is_due(t) {
-        if bytes.len() <= CAPACITY - (t.written + t.fill) as usize {
-            return append_chunk(p, region, bytes);
-        }
+    let s = append_parts(p, bytes);
+    let answer = s.answer;
+    let n = count_of(answer);
+    if n == 0 {
+        return append_one(p, region, bytes);
     }
-    append_one(p, region, bytes)
+    let q = flush_parts(s.parts, region);
+    Appended { n, parts: q }
 }
 
 fn append_all_parts(p: Parts, region: &mut [u8], bytes: &[u8]) -> Parts
@@ -162,26 +159,26 @@ pub fn flush_append(w: Writer, region: &mut [u8], bytes: &[u8]) -> Writer
     with_sources(q, sources)
 }
 
-// Whether n bytes, some, leave room in the tail, and nothing is due before them.
-fn fits_tail(p: Parts, n: usize) -> bool
-    ensures { λ r. ⌜ (r ≡ true → ((ss : List Source) → Lower.mayAppend (withSources p ss) ≡ true) × (State.isDue (p .taken) ≡ false) × (State.position (p .taken) + n ≤ capacity) × (1 ≤ n) × (p .taken .fill + n < tailSize)) ⌝ }
+// Whether n bytes leave the tail short of full.
+fn leaves_tail_open(t: Taken, n: usize) -> bool
+    ensures { λ r. ⌜ (r ≡ true → t .fill + n < tailSize) ⌝ }
 {
-    let t = p.taken;
-    if may_append_parts(p) & !is_due(t) {
-        if n < (TAIL_SIZE_32 - t.fill) as usize {
-            return (0 < n) & (n <= CAPACITY - (t.written + t.fill) as usize);
-        }
+    if TAIL_SIZE_32 <= t.fill {
+        return false;
     }
-    false
+    n < (TAIL_SIZE_32 - t.fill) as usize
 }
 
-// Does what is due, and again, then feeds bytes: by one call where nothing is due before and after them.
+// Does what is due, and again, then appends bytes: by one call if nothing is due before and after them.
 pub fn append_line_parts(p: Parts, region: &mut [u8], bytes: &[u8]) -> Parts
     ensures { λ r. ⌜ Partly.Ran (now (region .entry)) p (Appends.dues ++ (Appends.dues ++ Appends.appends (now (bytes .entry)))) r (now (region .exit)) ⌝ }
 {
-    if fits_tail(p, bytes.len()) {
+    if leaves_tail_open(p.taken, bytes.len()) {
         let s = append_parts(p, bytes);
-        return s.parts;
+        let answer = s.answer;
+        if count_of(answer) != 0 {
+            return s.parts;
+        }
     }
     let q = flush_parts(p, region);
     flush_append_parts(q, region, bytes)
