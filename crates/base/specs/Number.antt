@@ -4,7 +4,7 @@ use mathlib.Core.Bool.{Bool, true, false}
 use lib.Dec.{ltb}
 use lib.IntN.{ℤ, pos, negsuc}
 
--- the first where the test holds, else the second
+-- a where the test holds, else b
 abbrev pub pick : {A : Type 0} → Bool → A → A → A
 pick true a b = a
 pick false a b = b
@@ -17,12 +17,11 @@ wrap32 n = n % 2 ^ 32
 abbrev pub wrappingSub32 : ℕ → ℕ → ℕ
 wrappingSub32 a b = wrap32 (a + 2 ^ 32 - b)
 
--- n bits read as a signed number, two's complement: below half it is the number, from half on it is the number less 2^n.
--- `negsuc k` is -(k + 1).
+-- x, of n bits, read as signed in two's complement: below 2^(n - 1) it is x, from there on x - 2^n. `negsuc k` is -(k + 1).
 abbrev pub signed : ℕ → ℕ → ℤ
 signed n x = pick (ltb x (2 ^ (n - 1))) (pos x) (negsuc (2 ^ n - suc x))
 
--- and back: the n bits of a signed number
+-- the n bits of a signed number, the inverse of `signed`
 abbrev pub unsigned : ℕ → ℤ → ℕ
 unsigned n (pos x) = x
 unsigned n (negsuc k) = 2 ^ n - suc k

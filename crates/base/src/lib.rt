@@ -1,4 +1,4 @@
-// What every other crate may use: operations on numbers, parts of a slice, the tables of a timetable.
+// What every other crate may use: operations on numbers and slices, the number of tables.
 pub mod number;
 pub mod slice;
 pub mod table;

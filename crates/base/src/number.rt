@@ -1,4 +1,4 @@
-// Small operations on numbers that the language lacks, or whose contract spares callers a proof.
+// Operations on numbers that the language lacks, or whose contract saves callers a proof.
 ghost use mathlib.Core.Path.{_≡_};
 ghost use Prim.Native.Nat.{_<_};
 ghost use lib.Signed.{leZ, ltZ};

@@ -3,7 +3,7 @@ ghost use mathlib.Core.Path.{_≡_};
 ghost use lib.ListN.{take, drop};
 ghost use Rattle.base.specs.Same.{same};
 
-// The n bytes from a place on, or those of them that are there.
+// The n bytes from offset `from` on, fewer where the slice ends.
 pub fn part(b: &[u8], from: usize, n: usize) -> &[u8]
     ensures { λ r. ⌜ now r ≡ take n (drop from (now (b .entry))) ⌝ }
 {
@@ -18,7 +18,7 @@ pub fn part(b: &[u8], from: usize, n: usize) -> &[u8]
     &b[from..len]
 }
 
-// Whether two slices have the same bytes. No way out of the loop, so that many are compared at once.
+// Whether two slices have the same bytes. The loop has no early exit, so that many bytes are compared at once.
 pub fn same_bytes(a: &[u8], b: &[u8]) -> bool
     ensures { λ r. ⌜ r ≡ same (now (a .entry)) (now (b .entry)) ⌝ }
 {

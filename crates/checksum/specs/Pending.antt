@@ -1,4 +1,4 @@
--- What the functions below `feed` work with. A reader of the promises need not go here.
+-- Used by the private functions that `feed` calls; no public promise needs it.
 use mathlib.Core.List.{List}
 use Prim.Native.Nat.{ℕ, _+_, _*_, _^_, _<_}
 use mathlib.Core.Path.{_≡_}
@@ -9,7 +9,7 @@ use Rattle.checksum.specs.Register.{steps}
 pub record Nibbles (t : List ℕ) : Type 0 where
   pub entry : (j n : ℕ) → j < 8 → n < 16 → getD t (16 * j + n) 0 ≡ steps (4 + 4 * j) n
 
--- pending words as one number, the first the lowest
+-- pending 64-bit words as one number, the first word lowest
 abbrev pub two : ℕ → ℕ → ℕ
 two a b = b * 2 ^ 64 + a
 

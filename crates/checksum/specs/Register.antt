@@ -1,5 +1,5 @@
--- The shift register that divides by the CRC's generator, one bit a step. The leaf crate's proofs/Division.antt proves that
--- it computes the remainder of IEEE 802.3.
+-- The shift register that divides by the CRC's generator, one bit a step. proofs/Division.antt of the crate leaf proves that it computes
+-- the remainder of IEEE 802.3.
 use mathlib.Core.List.{List, [], _∷_}
 use Prim.Native.Nat.{ℕ, zero, suc, _+_, _*_, _/_, _%_}
 use lib.Bits.{bitXor}
@@ -12,12 +12,12 @@ unfoldable pub steps : ℕ → ℕ → ℕ
 steps zero r = r
 steps (suc n) r = steps n (step r)
 
--- the register after some bytes, each added into its low bits and shifted out
+-- the register after some bytes: each is added to its low bits, then eight steps are made
 unfoldable pub run : ℕ → List ℕ → ℕ
 run r [] = r
 run r (b ∷ bs) = run (steps 8 (bitXor r (b % 256))) bs
 
--- bytes as one number, the first byte the lowest
+-- bytes as one little-endian number
 unfoldable pub little : List ℕ → ℕ
 little [] = 0
 little (b ∷ bs) = little bs * 256 + b % 256

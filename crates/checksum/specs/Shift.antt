@@ -1,4 +1,4 @@
--- What the functions below `feed_both` work with. A reader of the promises need not go here.
+-- Used by the private functions that `feed_both` calls; no public promise needs it.
 use mathlib.Core.List.{List}
 use Prim.Native.Nat.{ℕ, _+_, _*_, _<_}
 use mathlib.Core.Path.{_≡_}

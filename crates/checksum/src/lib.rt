@@ -1,3 +1,3 @@
-// The CRC's shift register, fast: one over some bytes, and two over the same bytes in one pass.
+// The CRC's shift register, many bytes at a time: one register, or two over the same bytes.
 pub mod pair;
 pub mod register;

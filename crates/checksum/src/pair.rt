@@ -1,6 +1,6 @@
 // Two of the CRC's shift registers over the same bytes.
 //
-// The register is linear: two that differ by x before n bytes differ by x after 8 n steps when these have been read.
+// The register is linear: if two registers differ by x, then after n bytes they differ by x after 8 n steps.
 ghost use mathlib.Core.Path.{_≡_};
 ghost use Prim.Native.Nat.{_+_, _*_, _%_, _<_};
 ghost use Rattle.checksum.specs.Register.{steps, run};
@@ -144,7 +144,7 @@ pub struct Both {
     pub b: u32,
 }
 
-// One lookup: a nibble in a row of the table.
+// The entry of the lowest nibble of x in a row of the table.
 fn look(t: &[u32; 128], row: u32, x: u32) -> u32
     requires { ⌜ Shifts (now t) ⌝ }
     requires { ⌜ row < 8 ⌝ }
@@ -153,7 +153,7 @@ fn look(t: &[u32; 128], row: u32, x: u32) -> u32
     t[(16 * row + x % 16) as usize]
 }
 
-// 2048 steps: what 256 bytes do to a difference.
+// 2048 steps: how 256 bytes change the difference of two registers.
 fn shift(t: &[u32; 128], x: u32) -> u32
     requires { ⌜ Shifts (now t) ⌝ }
     ensures { λ r. ⌜ r ≡ steps 2048 x ⌝ }
@@ -166,7 +166,7 @@ fn shift(t: &[u32; 128], x: u32) -> u32
                         ^ (look(t, 2, x >> 20) ^ (look(t, 1, x >> 24) ^ look(t, 0, x >> 28)))))))
 }
 
-// Both registers after some bytes; 256 bytes, and registers that are equal, are gone through once.
+// Both registers after some bytes. If there are 256 bytes, or if the registers are equal, the bytes are read once.
 pub fn feed_both(a: u32, b: u32, bytes: &[u8]) -> Both
     ensures { λ r. ⌜ (r .a ≡ run a (now (bytes .entry))) × (r .b ≡ run b (now (bytes .entry))) ⌝ }
 {

@@ -1,7 +1,7 @@
 // The CRC's shift register, many bytes at a time.
 //
-// A long input is folded: a word of 64 bits is taken away and added, shifted, to words after it, by a multiple of the generator
-// with few terms. What is left at the end goes through a table of nibbles.
+// A long input is folded: a multiple of the generator with few terms removes a 64-bit word and adds it, shifted, to words after it.
+// The bytes that are left are read with a table of nibbles.
 ghost use mathlib.Core.Path.{_≡_};
 ghost use Prim.Native.Nat.{_+_, _*_, _%_, _^_, _≤_, _<_};
 ghost use lib.Bits.{bitXor};
@@ -143,7 +143,7 @@ const TABLE: [u32; 128] = [
     1482887254,
 ];
 
-// The words that folds have added to, and that are still to come.
+// Pending words: what folds have added to the next two, three or five words of the input.
 struct Two {
     a: u64,
     b: u64,
@@ -163,7 +163,7 @@ struct Five {
     e: u64,
 }
 
-// Four bytes, the first the lowest.
+// The four bytes at offset i as a little-endian number.
 fn half(s: &[u8], i: usize) -> u64
     requires { ⌜ i + 4 ≤ length (now s) ⌝ }
     ensures { λ r. ⌜ (r ≡ little (take 4 (drop i (now (s .entry))))) × (r < 4294967296) ⌝ }
@@ -171,7 +171,7 @@ fn half(s: &[u8], i: usize) -> u64
     wide64(s[i]) + wide64(s[i + 1]) * 256 + wide64(s[i + 2]) * 65536 + wide64(s[i + 3]) * 16777216
 }
 
-// Eight bytes.
+// The eight bytes at offset i as a little-endian number.
 fn load(s: &[u8], i: usize) -> u64
     requires { ⌜ i + 8 ≤ length (now s) ⌝ }
     ensures { λ r. ⌜ r ≡ little (take 8 (drop i (now (s .entry)))) ⌝ }
@@ -179,7 +179,7 @@ fn load(s: &[u8], i: usize) -> u64
     half(s, i) + half(s, i + 4) * 4294967296
 }
 
-// One lookup: a nibble in a row of the table.
+// The entry of the lowest nibble of x in a row of the table.
 fn look(t: &[u32; 128], row: u32, x: u32) -> u32
     requires { ⌜ Nibbles (now t) ⌝ }
     requires { ⌜ row < 8 ⌝ }
@@ -211,7 +211,7 @@ fn pair(t: &[u32; 128], x: u64) -> u32
     word(t, word(t, low) ^ high)
 }
 
-// One byte.
+// The register after one byte.
 fn byte(t: &[u32; 128], crc: u32, b: u8) -> u32
     requires { ⌜ Nibbles (now t) ⌝ }
     ensures { λ r. ⌜ r ≡ steps 8 (bitXor crc (b % 256)) ⌝ }
@@ -220,7 +220,7 @@ fn byte(t: &[u32; 128], crc: u32, b: u8) -> u32
     look(t, 1, x) ^ (look(t, 0, x >> 4) ^ (x >> 8))
 }
 
-// The lowest nibble after 4 steps: a table in read-only memory, which a short input is read by.
+// The lowest nibble after 4 steps. The match becomes a table in read-only memory; short inputs use it instead of a copy of TABLE.
 fn after4(x: u32) -> u32
     ensures { λ r. ⌜ r ≡ steps 4 (x % 16) ⌝ }
 {
@@ -268,7 +268,7 @@ fn after8(x: u32) -> u32
     }
 }
 
-// One byte, by these.
+// The register after one byte, by these two.
 fn short_byte(crc: u32, b: u8) -> u32
     ensures { λ r. ⌜ r ≡ steps 8 (bitXor crc (b % 256)) ⌝ }
 {
@@ -276,7 +276,7 @@ fn short_byte(crc: u32, b: u8) -> u32
     after8(x) ^ (after4(x >> 4) ^ (x >> 8))
 }
 
-// A short input, byte by byte.
+// The register after a short input, byte by byte.
 fn short(crc: u32, s: &[u8]) -> u32
     ensures { λ r. ⌜ r ≡ run crc (now (s .entry)) ⌝ }
 {
@@ -332,7 +332,7 @@ fn fold_far(p: Five, w: u64) -> Five
     }
 }
 
-// What is pending, and the place that it is pending at.
+// Pending words, and the offset of the first of them in the input.
 struct ThreeAt {
     a: u64,
     b: u64,
@@ -354,7 +354,7 @@ struct Part {
     at: usize,
 }
 
-// All words but the last three.
+// Folds words until 24 to 31 bytes are left.
 fn near_all(crc: u32, s: &[u8]) -> ThreeAt
     requires { ⌜ 24 ≤ length (now s) ⌝ }
     ensures { λ r. ⌜ (r .at + 24 ≤ length (now (s .entry))) × (run (three (r .a) (r .b) (r .c)) (drop (r .at) (now (s .entry))) ≡ run crc (now (s .entry))) ⌝ }
@@ -377,7 +377,7 @@ fn near_all(crc: u32, s: &[u8]) -> ThreeAt
     }
 }
 
-// All words but the last five or six, two at a time.
+// Folds two words at a time, until 40 to 55 bytes are left.
 fn far_all(crc: u32, s: &[u8]) -> FiveAt
     requires { ⌜ 40 ≤ length (now s) ⌝ }
     ensures { λ r. ⌜ (r .at + 40 ≤ length (now (s .entry))) × (run (five (r .a) (r .b) (r .c) (r .d) (r .e)) (drop (r .at) (now (s .entry))) ≡ run crc (now (s .entry))) ⌝ }
@@ -405,7 +405,7 @@ fn far_all(crc: u32, s: &[u8]) -> FiveAt
     }
 }
 
-// Words by the table.
+// Reads whole words by the table.
 fn words(t: &[u32; 128], crc: u32, s: &[u8], from: usize) -> Part
     requires { ⌜ Nibbles (now t) ⌝ }
     requires { ⌜ from ≤ length (now s) ⌝ }
@@ -420,7 +420,7 @@ fn words(t: &[u32; 128], crc: u32, s: &[u8], from: usize) -> Part
     Part { crc: c, at: i }
 }
 
-// Bytes by the table.
+// Reads bytes by the table.
 fn bytes(t: &[u32; 128], crc: u32, s: &[u8], from: usize) -> u32
     requires { ⌜ Nibbles (now t) ⌝ }
     requires { ⌜ from ≤ length (now s) ⌝ }
@@ -435,7 +435,7 @@ fn bytes(t: &[u32; 128], crc: u32, s: &[u8], from: usize) -> u32
     c
 }
 
-// What is left.
+// Reads the rest by the table: whole words, then bytes.
 fn rest(t: &[u32; 128], crc: u32, s: &[u8], from: usize) -> u32
     requires { ⌜ Nibbles (now t) ⌝ }
     requires { ⌜ from ≤ length (now s) ⌝ }
@@ -445,7 +445,7 @@ fn rest(t: &[u32; 128], crc: u32, s: &[u8], from: usize) -> u32
     bytes(t, p.crc, s, p.at)
 }
 
-// One word, with what is pending for it.
+// 64 steps of the word at offset `at`, to which the pending word a is added.
 fn one(t: &[u32; 128], a: u64, s: &[u8], at: usize) -> u64
     requires { ⌜ Nibbles (now t) ⌝ }
     requires { ⌜ at + 8 ≤ length (now s) ⌝ }
@@ -454,7 +454,7 @@ fn one(t: &[u32; 128], a: u64, s: &[u8], at: usize) -> u64
     wider(pair(t, a ^ load(s, at)))
 }
 
-// The last words, with what is pending for each.
+// Reads the last three words, with the pending words added.
 fn close_near(t: &[u32; 128], p: ThreeAt, s: &[u8]) -> u32
     requires { ⌜ Nibbles (now t) ⌝ }
     requires { ⌜ p .at + 24 ≤ length (now s) ⌝ }
@@ -473,7 +473,7 @@ fn close_near(t: &[u32; 128], p: ThreeAt, s: &[u8]) -> u32
     pair(t, (v ^ q.b) ^ load(s, at + 16))
 }
 
-// The last five words: two near folds, and the three that are left.
+// Reads the last five words: two near folds, then the last three.
 fn close_far(t: &[u32; 128], p: FiveAt, s: &[u8]) -> u32
     requires { ⌜ Nibbles (now t) ⌝ }
     requires { ⌜ p .at + 40 ≤ length (now s) ⌝ }

@@ -14,7 +14,7 @@ use Rattle.key.specs.declared.KeyAnswer.the-variants.{Written, Refused}
 
 -- ---- the bytes
 
--- what each element is written as, one after the other
+-- the bytes of every element, joined
 unfoldable pub joined : {A : Type 0} → (A → List ℕ) → List A → List ℕ
 joined bytesOf [] = []
 joined bytesOf (x ∷ xs) = bytesOf x ++ joined bytesOf xs
@@ -42,11 +42,11 @@ keyOf identity ps = prefix identity ++ body (distinct ps)
 
 -- ---- the limits
 
--- how many picks a key takes, counted as handed over
+-- the most picks that may be passed, equal ones counted too
 abbrev pub maxPicks : ℕ
 maxPicks = 16
 
--- how many bytes an identity may have
+-- the most bytes of an identity
 abbrev pub maxIdentity : ℕ
 maxIdentity = 65535
 
@@ -54,7 +54,7 @@ maxIdentity = 65535
 abbrev pub longestKey : ℕ
 longestKey = 67795
 
--- how many bytes a field may have: line, route, stop code, stop, stop name
+-- the most bytes of each field: line, route, stop code, stop, stop name
 abbrev pub sizes : List ℕ
 sizes = 8 ∷ 32 ∷ 16 ∷ 32 ∷ 64 ∷ []
 
@@ -67,24 +67,24 @@ every (suc n) test = pick (every n test) (test n) false
 abbrev pub sized : (ℕ → Text) → ℕ → Bool
 sized t k = leb (length (t k)) (getD sizes (k % 5) 0)
 
--- few enough picks, and each text within its size, a name that a code empties too
+-- at most 16 picks, and each text within its size, also a stop name that is left out for a code
 unfoldable pub fit : Text → List ℕ → Bool
 fit bytes lengths = pick (leb (count lengths) maxPicks) (every (count lengths * 5) (sized (text bytes lengths))) false
 
 -- ---- the call `key`
 
--- a key where there is room for it, else 9
+-- the key's length if the output has the capacity for it, else 9
 unfoldable pub within : ℕ → List ℕ → KeyAnswer
 within room key = pick (leb (length key) room) (Written (length key)) (Refused Small)
 
--- the answer: 2, then 8, then 9, else how many bytes were written
+-- the answer: 2, then 8, then 9, else how many bytes are written
 unfoldable pub keyAnswer : Text → Text → List ℕ → ℕ → KeyAnswer
 keyAnswer identity bytes lengths room =
     pick (fit bytes lengths)
     (pick (leb (length identity) maxIdentity) (within room (keyOf identity (handed bytes lengths))) (Refused Identity))
     (Refused Argument)
 
--- the output after the call: the key at its start, and past the key as before; on a refusal as before
+-- the output after the call: the key at its start, the bytes after it unchanged; on a refusal all unchanged
 abbrev pub after : KeyAnswer → List ℕ → List ℕ → List ℕ
 after (Written n) key out = written out 0 key
 after (Refused r) key out = out

@@ -1,4 +1,4 @@
--- Numbers in a list of bytes, little-endian. A byte past the end reads 0, so every reading is total.
+-- Numbers in a list of bytes, little-endian. A byte past the end reads 0.
 use mathlib.Core.List.{List, [], _∷_, _++_}
 use Prim.Native.Nat.{ℕ, _+_, _*_, _/_, _%_, _^_}
 use lib.Dec.{leb}
@@ -7,11 +7,11 @@ use lib.ListN.{length, take, drop}
 use Rattle.base.specs.Number.{pick, signed, unsigned}
 use Rattle.base.specs.Lists.{byte}
 
--- the 32-bit number at a place
+-- the 32-bit number at an offset
 unfoldable pub word : List ℕ → ℕ → ℕ
 word l at = byte l at + byte l (at + 1) * 2 ^ 8 + byte l (at + 2) * 2 ^ 16 + byte l (at + 3) * 2 ^ 24
 
--- the signed 64-bit number at a place
+-- the signed 64-bit number at an offset
 unfoldable pub time : List ℕ → ℕ → ℤ
 time l at = signed 64 (word l at + word l (at + 4) * 2 ^ 32)
 
@@ -23,6 +23,6 @@ le32 n = n % 256 ∷ n / 2 ^ 8 % 256 ∷ n / 2 ^ 16 % 256 ∷ n / 2 ^ 24 % 256 �
 unfoldable pub le64 : ℤ → List ℕ
 le64 z = le32 (unsigned 64 z % 2 ^ 32) ++ le32 (unsigned 64 z / 2 ^ 32)
 
--- a list with bytes put at a place: they take the place of as many, and every other byte stays; bytes that don't fit change nothing
+-- a list with the bytes at an offset overwritten, all others unchanged; if they don't fit, nothing changes
 unfoldable pub written : List ℕ → ℕ → List ℕ → List ℕ
 written l at bytes = pick (leb (at + length bytes) (length l)) (take at l ++ bytes ++ drop (at + length bytes) l) l

@@ -32,7 +32,7 @@ complementFirst (suc n) (a ∷ p) = not a ∷ complementFirst n p
 unfoldable pub shifted : List ℕ → List Bool
 shifted bytes = frame bytes ++ zeros 32
 
--- p, which is the frame's M(x) x^32 with its first bits changed, divided by G(x); the remainder complemented is the CRC
+-- p is the frame's M(x) x^32 with its first bits changed; the complement of its remainder on division by G(x) is the CRC
 unfoldable pub complementedRemainder : List ℕ → List Bool → ℕ
 complementedRemainder bytes p = number (map not (remainder (length (frame bytes)) p))
 
@@ -41,6 +41,6 @@ unfoldable pub fcs : List ℕ → ℕ
 fcs bytes = complementedRemainder bytes (complementFirst 32 (shifted bytes))
 
 -- The CRC of bytes that follow others, whose CRC is `start`: the remainder of those, which is the complement of `start`, is added
--- to the first 32 bits. `start` 0 is for none: its complement is 32 ones, and adding these complements.
+-- to the first 32 bits. `start` is 0 if there are none: its complement is 32 ones, and adding these complements the bits.
 unfoldable pub crc32 : ℕ → List ℕ → ℕ
 crc32 start bytes = complementedRemainder bytes (add (shifted bytes) (map not (bits 32 start)))

@@ -13,7 +13,7 @@ use Rattle.leaf.specs.declared.date.NewDate.the-variants.{Made, InvalidD
 abbrev pub divides : ℕ → ℕ → Bool
 divides n y = eqb (y % n) 0
 
--- every fourth year is a leap year, but of the hundredth ones only every fourth
+-- a leap year is divisible by 4, and if it is divisible by 100, also by 400
 unfoldable pub leap : ℕ → Bool
 leap y = divides 4 y && (not (divides 100 y) || divides 400 y)
 
@@ -41,7 +41,7 @@ dateNumber y m d = y * 10000 + m * 100 + d
 unfoldable pub newDate : ℕ → ℕ → ℕ → NewDate
 newDate y m d = pick (isDate y m d) (Made (record { 0 = dateNumber y m d })) InvalidDate
 
--- a number is a date's
+-- n is the number of a date
 unfoldable pub validDate : ℕ → Bool
 validDate n = isDate (n / 10000) (n / 100 % 100) (n % 100)
 

@@ -7,7 +7,7 @@ use Prim.Native.Nat.{ℕ, zero, suc}
 use lib.Dec.{eqb}
 use lib.ListN.{length, drop, replicate}
 
--- n coefficients 0
+-- n zero coefficients
 abbrev pub zeros : ℕ → List Bool
 zeros n = replicate n false
 
@@ -16,7 +16,7 @@ unfoldable pub plus : Bool → Bool → Bool
 plus true b = not b
 plus false b = b
 
--- g added to the highest coefficients of p, or taken from them
+-- g added to the highest coefficients of p, which is also the difference
 unfoldable pub add : List Bool → List Bool → List Bool
 add [] g = []
 add (a ∷ p) [] = a ∷ p
@@ -43,17 +43,17 @@ unfoldable pub times : Bool → List Bool
 times true = generator
 times false = []
 
--- one turn of the long division: the leading coefficient times G is taken away, which cancels it
+-- one step of the long division: subtracting the leading coefficient times G cancels that coefficient
 unfoldable pub turn : Bool → List Bool → List Bool
 turn a p = drop 1 (add (a ∷ p) (times a))
 
--- what is left of p, of n + 32 coefficients, after n turns
+-- what is left of p, of n + 32 coefficients, after n steps
 unfoldable pub remainder : ℕ → List Bool → List Bool
 remainder zero p = p
 remainder (suc n) [] = []
 remainder (suc n) (a ∷ p) = remainder n (turn a p)
 
--- the leading coefficients met on the way
+-- the leading coefficient of each step
 unfoldable pub quotient : ℕ → List Bool → List Bool
 quotient zero p = []
 quotient (suc n) [] = []

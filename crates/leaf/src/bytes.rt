@@ -10,14 +10,14 @@ ghost use Rattle.base.specs.Number as Number;
 use base::number::wide;
 use base::number::wider;
 
-// The byte at a place, 0 past the end.
+// The byte at offset i, 0 past the end.
 pub fn get8(b: &[u8], i: usize) -> u8
     ensures { λ r. ⌜ r ≡ byte (now (b .entry)) i ⌝ }
 {
     if i < b.len() { b[i] } else { 0 }
 }
 
-// What stands from a place on, nothing past the end.
+// The bytes from offset i on, none past the end.
 fn rest(b: &[u8], i: usize) -> &[u8]
     ensures { λ r. ⌜ now r ≡ drop i (now (b .entry)) ⌝ }
 {
@@ -27,7 +27,7 @@ fn rest(b: &[u8], i: usize) -> &[u8]
     &b[b.len()..]
 }
 
-// The 32-bit number at a place; a byte past the end reads 0.
+// The 32-bit number at offset i; a byte past the end reads 0.
 pub fn get(b: &[u8], i: usize) -> u32
     ensures { λ r. ⌜ r ≡ Bytes.word (now (b .entry)) i ⌝ }
 {
@@ -38,7 +38,7 @@ pub fn get(b: &[u8], i: usize) -> u32
         + wide(get8(p, 3)) * 16777216
 }
 
-// Whether n bytes from a place on stand within len bytes.
+// Whether n bytes at offset i fit in len bytes.
 fn room(len: usize, i: usize, n: usize) -> bool
     ensures { λ r. ⌜ (r ≡ leb (i + n) len) × (r ≡ true → i + n ≤ len) ⌝ }
 {
@@ -48,7 +48,7 @@ fn room(len: usize, i: usize, n: usize) -> bool
     i <= len - n
 }
 
-// Puts a 32-bit number at a place, where it fits; else nothing changes.
+// Writes a 32-bit number at offset i if it fits; otherwise nothing changes.
 pub fn put(b: &mut [u8], i: usize, n: u32)
     ensures { λ _. ⌜ now (b .exit) ≡ Bytes.written (now (b .entry)) i (Bytes.le32 n) ⌝ }
 {
@@ -82,7 +82,7 @@ fn bits_of(z: i64) -> u64
     }
 }
 
-// The signed 64-bit number at a place; a byte past the end reads 0.
+// The signed 64-bit number at offset i; a byte past the end reads 0.
 pub fn get_time(b: &[u8], i: usize) -> i64
     ensures { λ r. ⌜ r ≡ Bytes.time (now (b .entry)) i ⌝ }
 {
@@ -90,7 +90,7 @@ pub fn get_time(b: &[u8], i: usize) -> i64
     signed_of(wider(get(p, 0)) + wider(get(p, 4)) * 4294967296)
 }
 
-// Puts a signed 64-bit number at a place, where it fits; else nothing changes.
+// Writes a signed 64-bit number at offset i if it fits; otherwise nothing changes.
 pub fn put_time(b: &mut [u8], i: usize, z: i64)
     ensures { λ _. ⌜ now (b .exit) ≡ Bytes.written (now (b .entry)) i (Bytes.le64 z) ⌝ }
 {

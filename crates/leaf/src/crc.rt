@@ -11,7 +11,7 @@ pub fn crc32(start: u32, bytes: &[u8]) -> u32
     !checksum::register::feed(!start, bytes)
 }
 
-// Both CRCs of bytes that follow others whose CRCs are a and b, as crc32 gives each.
+// The CRCs of the same bytes after others whose CRC is a, and after others whose CRC is b.
 pub fn crc32_both(a: u32, b: u32, bytes: &[u8]) -> Both
     ensures { λ r. ⌜ (r .a ≡ Crc.crc32 a (now (bytes .entry))) × (r .b ≡ Crc.crc32 b (now (bytes .entry))) ⌝ }
 {

@@ -20,10 +20,10 @@ fn is_leap(year: u16) -> bool
     (year % 4 == 0) & ((year % 100 != 0) | (year % 400 == 0))
 }
 
-// The days of each month of a common year; place 0 is no month.
+// The days of each month of a common year; index 0 is no month.
 const DAYS: [u8; 13] = [0, 31, 28, 31, 30, 31, 30, 31, 31, 30, 31, 30, 31];
 
-// The days of a month, 0 where there is no such month.
+// The days of a month, 0 if there is no such month.
 fn month_days(year: u16, month: u8) -> u8
     ensures { λ r. ⌜ r ≡ getD (0 ∷ monthDays year) month 0 ⌝ }
 {
@@ -39,7 +39,7 @@ fn month_days(year: u16, month: u8) -> u8
 }
 
 impl Date {
-    // The date of a year, a month and a day, where there is one.
+    // The date of a year, a month and a day, if there is one.
     pub fn new(year: u16, month: u8, day: u8) -> NewDate
         ensures { λ r. ⌜ r ≡ newDate year month day ⌝ }
     {
@@ -52,7 +52,7 @@ impl Date {
     }
 }
 
-// Whether a number is a date's.
+// Whether a number is a date's number.
 pub fn valid_date(d: u32) -> bool
     ensures { λ r. ⌜ r ≡ validDate d ⌝ }
 {

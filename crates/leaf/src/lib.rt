@@ -1,4 +1,4 @@
-// The leaves of the bank core: CRC-32, numbers in bytes, generations, dates. Every function answers whatever it is given.
+// The leaves of the bank core: CRC-32, numbers in bytes, generations, dates. Every function accepts any input.
 pub mod bytes;
 pub mod crc;
 pub mod date;

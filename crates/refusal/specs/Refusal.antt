@@ -1,4 +1,4 @@
--- The refusals by number: 01's table, then 02's. No call gives 15 to 23 yet: each change request brings its own.
+-- The refusals by number: 1 to 14 are 01's, 15 to 23 are 02's. No call gives 15 to 23 yet; the change requests of 02 add them.
 use Prim.Native.Nat.{ℕ}
 use Rattle.refusal.specs.declared.Refusal.{Refusal}
 use Rattle.refusal.specs.declared.Refusal.the-variants.{Region, Argument, Mark, Seal, Span, Source, Data, Identity, Small, Full, Turn, Obsolete, Unfit, Row, Key, Future, Line, Rights, LastKeeper, List, Absent, Layout, Table}

@@ -1,4 +1,4 @@
-// The refusals by word: document 01's to 14, and document 02's, which no call gives yet. Each has one number, whichever call gives it.
+// The refusals: 1 to 14 are document 01's; 15 to 23 are document 02's, and no call gives them yet. A refusal has one number in all calls.
 ghost use mathlib.Core.Path.{_≡_};
 ghost use Rattle.refusal.specs.Refusal.{numberOf};
 use base::number::wide;
@@ -60,7 +60,7 @@ pub fn number(r: Refusal) -> u8
     }
 }
 
-// The same in 32 bits, as it crosses to C.
+// The number in 32 bits, as C gets it.
 pub fn number_of(r: Refusal) -> u32
     ensures { λ n. ⌜ n ≡ numberOf r ⌝ }
 {
