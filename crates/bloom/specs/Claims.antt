@@ -23,7 +23,7 @@ SetsOnlyFour = (bits id : List ℕ) (p : ℕ) → ((i : ℕ) → i < 4 → p ≡
 abbrev pub SameLength : Type 0
 SameLength = (bits id : List ℕ) → length (inserted bits id) ≡ length bits
 
--- the four positions differ, modulo 8 already, for every hash and size
+-- the four positions differ, even modulo 8, for every hash and size
 abbrev pub Differ : Type 0
 Differ = (hash bytes i j : ℕ) → i < 4 → j < 4 → position hash bytes i % 8 ≡ position hash bytes j % 8 → i ≡ j
 

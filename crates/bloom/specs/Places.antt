@@ -1,4 +1,4 @@
--- Positions as the code hands them on.
+-- Positions as the code passes them.
 use mathlib.Core.List.{List, [], _∷_}
 use Prim.Native.Nat.{ℕ, _/_, _<_}
 use Rattle.bloom.specs.declared.Four.{Four}
@@ -7,7 +7,7 @@ use Rattle.bloom.specs.declared.Four.{Four}
 abbrev pub four : Four → List ℕ
 four p = p .a ∷ p .b ∷ p .c ∷ p .d ∷ []
 
--- each position's byte is in a filter of that many bytes
+-- each position is in a filter of `bytes` bytes
 abbrev pub Within : ℕ → List ℕ → Type 0
 Within bytes [] = Unit
 Within bytes (p ∷ ps) = (p / 8 < bytes) × Within bytes ps

@@ -30,7 +30,7 @@ fn step_of(hash: u32) -> u32
     rotate13(hash) | 1
 }
 
-// A sum, modulo the filter's bits.
+// A sum modulo the filter's number of bits.
 fn place(sum: u32, bytes: usize) -> u32
     requires { ⌜ (0 < bytes) × (bytes ≤ 65536) ⌝ }
     ensures { λ r. ⌜ (r ≡ sum % (8 * bytes)) × (r / 8 < bytes) ⌝ }
@@ -86,7 +86,7 @@ fn all_set(bits: &[u8], p: Four) -> bool
     a & (b & (c & d))
 }
 
-// Reads and sets the bits at four positions, one after the other.
+// Reads and sets the bits at four positions in order; whether all were set.
 fn set_all(bits: &mut [u8], p: Four) -> bool
     requires { ⌜ Within (length (now bits)) (four p) ⌝ }
     ensures { λ r. ⌜ (r ≡ Bloom.seen (now (bits .entry)) (four p)) × (now (bits .exit) ≡ Bloom.setAll (now (bits .entry)) (four p)) ⌝ }
@@ -98,7 +98,7 @@ fn set_all(bits: &mut [u8], p: Four) -> bool
     a & (b & (c & d))
 }
 
-// Whether a filter has a size that is taken.
+// Whether a filter has 1 to 65,536 bytes.
 fn fits(bytes: usize) -> bool
     ensures { λ r. ⌜ (r ≡ Bloom.fits bytes) × (r ≡ true → (0 < bytes) × (bytes ≤ 65536)) ⌝ }
 {

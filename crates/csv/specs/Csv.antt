@@ -1,7 +1,6 @@
 -- The rows of a stored table: the grammar of RFC 4180, section 2, rules 5 to 7, rule by rule.
--- Each rule reads `Rule bytes value rest`: the bytes begin with the rule's
--- text, which stands for the value; the rest follows it.
--- 01 departs from the RFC: a row ends in LF and not in CRLF, as the source writes it; a CR outside quotes is a byte of its field; and any
+-- `Rule bytes value rest`: the bytes begin with text of this rule, which means the value, and the rest follows it.
+-- 01 departs from the RFC: a row ends in LF and not in CRLF ("the source decides"); a CR outside quotes is a byte of its field; and any
 -- byte is text, not just those the RFC lists.
 use Prim.Native.Nat.{ℕ}
 use lib.Dec.{eqb}
@@ -22,7 +21,7 @@ carriageReturn = 13
 abbrev pub lineFeed : ℕ
 lineFeed = 10
 
--- TEXTDATA: what may stand in a field without quotes
+-- TEXTDATA: a byte of a field without quotes
 unfoldable pub isText : ℕ → Bool
 isText b = not (eqb b quote || (eqb b comma || eqb b lineFeed))
 
@@ -51,7 +50,7 @@ pub data Record : List ℕ → List (List ℕ) → List ℕ → Type 0 where
   last : {bs v e r : List ℕ} → Field bs v e → RowEnd e r → Record bs (v ∷ []) r
   more : {bs v w cs r : List ℕ} {ws : List (List ℕ)} → Field bs v (comma ∷ cs) → Record cs (w ∷ ws) r → Record bs (v ∷ w ∷ ws) r
 
--- 01's limit: how many bytes a row may have, with its LF
+-- 01's limit: the most bytes of a row, with its LF
 abbrev pub maxRow : ℕ
 maxRow = 8192
 

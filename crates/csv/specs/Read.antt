@@ -1,4 +1,4 @@
--- A row as it is read. It reads the grammar, no more and no less (specs/Claims.antt: sound, complete).
+-- How a row is read: exactly the rows of the grammar are (specs/Claims.antt: sound, complete).
 use Prim.Native.Nat.{ℕ, zero, suc}
 use lib.Dec.{eqb}
 use Rattle.base.specs.Number.{pick}
@@ -11,12 +11,12 @@ pub data Got : Type 0 where
   got : List ℕ → List ℕ → Got
   bad : Got
 
--- one byte more at the front of the value
+-- the value with a byte put before it
 abbrev pub push : ℕ → Got → Got
 push b (got v r) = got (b ∷ v) r
 push b bad = bad
 
--- a value without quotes goes as far as there is text; and what follows it
+-- a value without quotes ends before the first byte that isn't text; and what follows it
 unfoldable pub plainValue : List ℕ → List ℕ
 plainValue [] = []
 plainValue (b ∷ bs) = pick (isText b) (b ∷ plainValue bs) []
@@ -25,7 +25,7 @@ unfoldable pub plainRest : List ℕ → List ℕ
 plainRest [] = []
 plainRest (b ∷ bs) = pick (isText b) (plainRest bs) (b ∷ bs)
 
--- behind the opening quote; and behind a quote there, which closes unless another follows
+-- after the opening quote; and after a quote there, which closes the value unless another follows
 unfoldable mutual
   pub inner : List ℕ → Got
   inner [] = bad
@@ -35,7 +35,7 @@ unfoldable mutual
   closing [] = got [] []
   closing (b ∷ bs) = pick (eqb b quote) (push quote (inner bs)) (got [] (b ∷ bs))
 
--- the field at the front
+-- the field at the start
 unfoldable pub fieldAt : List ℕ → Got
 fieldAt [] = got [] []
 fieldAt (b ∷ bs) = pick (eqb b quote) (inner bs) (got (plainValue (b ∷ bs)) (plainRest (b ∷ bs)))
@@ -45,16 +45,16 @@ pub data Row : Type 0 where
   row : List (List ℕ) → List ℕ → Row
   malformed : Row
 
--- one value more at the front of the row
+-- the row with a value put before its values
 abbrev pub front : List ℕ → Row → Row
 front v (row vs r) = row (v ∷ vs) r
 front v malformed = malformed
 
--- how many bytes of row end are at the front, 0 for none
+-- how many bytes the row end at the start has, 0 if there is none
 unfoldable pub rowEnd : List ℕ → ℕ
 rowEnd bs = pick (eqb (getD bs 0 0) lineFeed) 1 0
 
--- behind the last value: a row end; behind another: a comma, where `more` reads on
+-- after the last value a row end; after another a comma, and `more` reads on
 unfoldable pub ended : List ℕ → List ℕ → Row
 ended v bs = pick (eqb (rowEnd bs) 0) malformed (row (v ∷ []) (drop (rowEnd bs) bs))
 
@@ -62,14 +62,14 @@ unfoldable pub parted : (List ℕ → Row) → List ℕ → List ℕ → Row
 parted more v [] = malformed
 parted more v (b ∷ r) = pick (eqb b comma) (front v (more r)) malformed
 
--- behind a value that is the last, or has n behind it
+-- after a value that n others follow
 abbrev pub next : ℕ → (List ℕ → Row) → Got → Row
 next zero more bad = malformed
 next (suc n) more bad = malformed
 next zero more (got v r) = ended v r
 next (suc n) more (got v r) = parted more v r
 
--- the row of n values at the front of bs
+-- the row of n values at the start of bs
 unfoldable pub values : ℕ → List ℕ → Row
 values zero bs = malformed
 values (suc n) bs = next n (values n) (fieldAt bs)

@@ -1,4 +1,4 @@
--- A row as it is written. It is in the grammar (specs/Claims.antt: written).
+-- How a row is written. It is in the grammar (specs/Claims.antt: written).
 use Prim.Native.Nat.{ℕ}
 use lib.Dec.{eqb}
 use mathlib.Core.Bool.{Bool, false, _||_}
@@ -6,7 +6,7 @@ use Rattle.base.specs.Number.{pick}
 use mathlib.Core.List.{List, [], _∷_, _++_}
 use Rattle.csv.specs.Csv.{quote, comma, carriageReturn, lineFeed}
 
--- a byte for whose sake a value is quoted: "a quote, comma, CR or LF"
+-- a byte that makes a value quoted: "a quote, comma, CR or LF"
 unfoldable pub special : ℕ → Bool
 special b = eqb b quote || (eqb b comma || (eqb b carriageReturn || eqb b lineFeed))
 
@@ -24,7 +24,7 @@ doubled (b ∷ v) = pick (eqb b quote) (quote ∷ quote ∷ doubled v) (b ∷ do
 unfoldable pub fieldOf : List ℕ → List ℕ
 fieldOf v = pick (anySpecial v) (quote ∷ doubled v ++ (quote ∷ [])) v
 
--- what stands behind a field: LF behind the last, else a comma
+-- the byte after a field: LF after the last, else a comma
 abbrev pub behind : List (List ℕ) → ℕ
 behind [] = lineFeed
 behind (v ∷ vs) = comma

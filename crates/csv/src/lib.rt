@@ -1,4 +1,4 @@
-// Rows by RFC 4180: their bytes and their size. The function does nothing: its contract is what is proved of the definitions.
+// Rows by RFC 4180: delimiters and limits. The function does nothing: its contract is what is proved of the definitions.
 ghost use Rattle.csv.specs.Claims.{Claims};
 
 pub const QUOTE: u8 = 34;
@@ -9,7 +9,7 @@ pub const CR: u8 = 13;
 
 pub const LF: u8 = 10;
 
-// The most bytes of a row.
+// The most bytes of a row, with its LF.
 pub const MAX_ROW: usize = 8192;
 
 // The most columns of a table.

@@ -7,8 +7,8 @@ use Rattle.region.specs.Region.{regionSize, bankSize}
 use Rattle.flash.specs.Flash.{Op, place, size, torn, applied}
 
 -- E5: "Take a write that is cut to leave a first part of its bytes written, and an erase that is cut to leave a first part of its sector
--- erased, the rest untouched." Up to and with the operation's first j bytes the region is as the whole operation leaves it; all after them is as
--- it was.
+-- erased, the rest untouched." Up to the end of the operation's first j bytes the region is as the whole operation leaves it; after that
+-- it is as it was.
 abbrev pub FirstPart : Type 0
 FirstPart =
     (n j : ℕ) (op : Op) (region : List ℕ) → n ≤ 1 → length region ≡ regionSize → place op + size op ≤ bankSize → j ≤ size op

@@ -10,7 +10,7 @@ use region::BANK_SIZE;
 use region::REGION_SIZE;
 use region::SECTOR_SIZE;
 
-// Whether n bytes at a place of a bank lie within it, in a region of len bytes.
+// Whether n bytes at an offset of a bank are inside it, in a region of len bytes.
 fn lies_within(len: usize, bank: u32, at: usize, n: usize) -> bool
     ensures { λ r. ⌜ (r ≡ within len bank at n) × (r ≡ true → (len ≡ regionSize) × (bank ≤ 1) × (at + n ≤ bankSize)) ⌝ }
 {
@@ -26,7 +26,7 @@ fn lies_within(len: usize, bank: u32, at: usize, n: usize) -> bool
     at <= BANK_SIZE - n
 }
 
-// Every byte becomes 255.
+// Sets every byte to 255.
 fn blank_all(s: &mut [u8])
     ensures { λ _. ⌜ now (s .exit) ≡ blank (length (now (s .entry))) (now (s .entry)) ⌝ }
 {
@@ -37,7 +37,7 @@ fn blank_all(s: &mut [u8])
     }
 }
 
-// The bytes of ws clear bits of those of s.
+// Clears the bits of s that are 0 in ws.
 fn clear_bits(s: &mut [u8], ws: &[u8])
     requires { ⌜ length (now s) ≡ length (now ws) ⌝ }
     ensures { λ _. ⌜ now (s .exit) ≡ clear (now (ws .entry)) (now (s .entry)) ⌝ }
@@ -49,7 +49,7 @@ fn clear_bits(s: &mut [u8], ws: &[u8])
     }
 }
 
-// Erases the sector at a place of a bank, where it fits; else nothing changes.
+// Erases the sector at an offset of a bank, if it is inside; otherwise nothing changes.
 pub fn erase(region: &mut [u8], bank: u32, at: usize)
     ensures { λ _. ⌜ now (region .exit) ≡ erasedIn (now (region .entry)) bank at ⌝ }
 {
@@ -60,7 +60,7 @@ pub fn erase(region: &mut [u8], bank: u32, at: usize)
     }
 }
 
-// Writes bytes at a place of a bank, where they fit; else nothing changes.
+// Writes bytes at an offset of a bank, if they fit; otherwise nothing changes.
 pub fn write(region: &mut [u8], bank: u32, at: usize, bytes: &[u8])
     ensures { λ _. ⌜ now (region .exit) ≡ writtenIn (now (region .entry)) bank at (now (bytes .entry)) ⌝ }
 {

@@ -1,4 +1,4 @@
--- 01, "Order is bytewise, field by field": on texts byte by byte, on picks text by text. What ends first comes first.
+-- 01, "Order is bytewise, field by field": texts by bytes, picks by texts. A list is before any longer one that starts with it.
 use mathlib.Core.List.{List, [], _∷_}
 use Prim.Native.Nat.{ℕ, compare, Ordering, Ordering·lt, Ordering·eq, Ordering·gt}
 
@@ -10,13 +10,13 @@ Text = List ℕ
 abbrev pub Pick : Type 0
 Pick = List Text
 
--- the first answer, or the second where the first finds no difference
+-- the first order, or the second where the first says equal
 abbrev pub orElse : Ordering → Ordering → Ordering
 orElse Ordering·lt o = Ordering·lt
 orElse Ordering·eq o = o
 orElse Ordering·gt o = Ordering·gt
 
--- two lists, element by element
+-- lexicographic order of two lists
 abbrev pub lex : {A : Type 0} → (A → A → Ordering) → List A → List A → Ordering
 lex cmp [] [] = Ordering·eq
 lex cmp [] (b ∷ t) = Ordering·lt

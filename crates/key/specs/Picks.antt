@@ -1,4 +1,4 @@
--- The picks of 01: as they are handed over, and sorted with equal ones once.
+-- The picks of 01: as they are passed, and sorted with equal ones once.
 use mathlib.Core.List.{List, [], _∷_}
 use mathlib.Core.Path.{_≡_}
 use mathlib.Core.Logic.{_⊎_}
@@ -6,14 +6,13 @@ use Prim.Native.Nat.{ℕ, zero, suc, _+_, _*_, _/_, Ordering, Ordering·lt, Orde
 use lib.ListN.{length, take, drop, getD}
 use Rattle.key.specs.Order.{Text, Pick, pickOrder}
 
--- ---- as handed over: all texts in a row, and their lengths, five to a pick
+-- ---- as passed: all texts joined, and their lengths, five to a pick
 
 unfoldable pub sum : List ℕ → ℕ
 sum [] = 0
 sum (n ∷ ns) = n + sum ns
 
--- text k: as many bytes as its length says, behind those of the lengths before it. Where the bytes end, the text ends; a missing
--- length is 0
+-- text k: as many bytes as its length says, after the texts before it; fewer where the bytes end. A missing length is 0.
 unfoldable pub text : Text → List ℕ → ℕ → Text
 text bytes lengths k = take (getD lengths k 0) (drop (sum (take k lengths)) bytes)
 
@@ -26,11 +25,11 @@ unlessCode (c ∷ cs) name = []
 unfoldable pub pickOf : (ℕ → Text) → ℕ → Pick
 pickOf t i = t (i * 5) ∷ t (i * 5 + 1) ∷ t (i * 5 + 2) ∷ t (i * 5 + 3) ∷ unlessCode (t (i * 5 + 2)) (t (i * 5 + 4)) ∷ []
 
--- pick i as handed over
+-- pick i as passed
 abbrev pub pickAt : Text → List ℕ → ℕ → Pick
 pickAt bytes lengths i = pickOf (text bytes lengths) i
 
--- how many picks there are: five lengths to each, the last perhaps with some missing
+-- how many picks there are: five lengths to each, the last one perhaps with fewer
 abbrev pub count : List ℕ → ℕ
 count lengths = (length lengths + 4) / 5
 
@@ -39,7 +38,7 @@ unfoldable pub firsts : {A : Type 0} → ℕ → (ℕ → A) → List A
 firsts zero f = []
 firsts (suc n) f = f 0 ∷ firsts n (λ k. f (suc k))
 
--- the picks as handed over
+-- the picks as passed
 abbrev pub handed : Text → List ℕ → List Pick
 handed bytes lengths = firsts (count lengths) (pickAt bytes lengths)
 
@@ -50,7 +49,7 @@ abbrev pub In : Pick → List Pick → Type 0
 In p [] = ⊥
 In p (q ∷ qs) = (p ≡ q) ⊎ In p qs
 
--- each comes before all behind it, so none stands twice
+-- each pick is smaller than all after it, so none is there twice
 abbrev pub Ascending : List Pick → Type 0
 Ascending [] = Unit {0}
 Ascending (p ∷ ps) = ((q : Pick) → In q ps → pickOrder p q ≡ Ordering·lt) × Ascending ps
@@ -61,7 +60,7 @@ pub record Sorts (ps s : List Pick) : Type 0 where
   pub kept : (p : Pick) → In p ps → In p s
   pub from : (p : Pick) → In p s → In p ps
 
--- p put in its place: before a larger one, nowhere if it is there
+-- p inserted before q if it is smaller, not at all if it is equal, else further on
 abbrev pub place : Ordering → Pick → Pick → List Pick → List Pick → List Pick
 place Ordering·lt p q qs further = p ∷ q ∷ qs
 place Ordering·eq p q qs further = q ∷ qs

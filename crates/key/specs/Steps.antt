@@ -19,38 +19,38 @@ use Rattle.key.specs.declared.picks.Place.the-variants.{At, There}
 use Rattle.key.specs.declared.matching.Matched.{Matched}
 use Rattle.key.specs.declared.matching.Matched.the-variants.{To, Differs}
 
--- an order as the code says it
+-- an order as a number of the code
 abbrev pub number : Ordering → ℕ
 number Ordering·lt = 0
 number Ordering·eq = 1
 number Ordering·gt = 2
 
--- ---- where the texts stand
+-- ---- offsets of the texts
 
--- where text k starts: behind the texts before it, at most at the end
+-- the offset of text k: after the texts before it, at most the end
 unfoldable pub placeOf : Text → List ℕ → ℕ → ℕ
 placeOf bytes lengths k = min (length bytes) (sum (take k lengths))
 
--- starts has the places of texts 0 to m
+-- `starts` has the offsets of texts 0 to m
 abbrev pub Places : Text → List ℕ → ℕ → List ℕ → Type 0
 Places bytes lengths m starts = (k : ℕ) → k ≤ m → getD starts k 0 ≡ placeOf bytes lengths k
 
--- places one behind the other, none past the end
+-- ascending offsets, none past the end
 pub record Rising (starts : List ℕ) (end : ℕ) : Type 0 where
   pub rises : (k : ℕ) → k + 1 < length starts → getD starts k 0 ≤ getD starts (k + 1) 0
   pub within : (k : ℕ) → k < length starts → getD starts k 0 ≤ end
 
--- the bytes between places k and k + 1
+-- the bytes from offset k to offset k + 1 of `starts`
 unfoldable pub between : Text → List ℕ → ℕ → Text
 between bytes starts k = take (getD starts (k + 1) 0 - getD starts k 0) (drop (getD starts k 0) bytes)
 
--- pick i of the texts between places
+-- pick i of the texts between these offsets
 abbrev pub pickIn : Text → List ℕ → ℕ → Pick
 pickIn bytes starts i = pickOf (between bytes starts) i
 
 -- ---- sorting
 
--- where p goes among sorted picks s
+-- the index at which p is inserted among sorted picks s, or that it is among them
 abbrev pub Goes : Pick → List Pick → Place → Type 0
 Goes p s (At k) = (k ≤ length s) × (insert p s ≡ take k s ++ p ∷ drop k s)
 Goes p s There = insert p s ≡ s
@@ -60,33 +60,33 @@ abbrev pub Below : ℕ → List ℕ → Type 0
 Below n [] = Unit {0}
 Below n (k ∷ s) = (k < n) × Below n s
 
--- the first m numbers of order, each below n, name the picks s in their order
+-- the first m numbers of `order`, each below n, are the indices of the picks s, in their order
 pub record Ordered (f : ℕ → Pick) (n : ℕ) (s : List Pick) (order : List ℕ) (m : ℕ) : Type 0 where
   pub is : map f (take m order) ≡ s
   pub below : Below n (take m order)
   pub room : m ≤ length order
 
--- each of the first n picks takes at most 141 bytes
+-- each of the first n picks has at most 141 bytes in a key
 abbrev pub Small : (ℕ → Pick) → ℕ → Type 0
 Small f n = (i : ℕ) → i < n → length (entry (f i)) ≤ 141
 
 -- ---- comparing
 
--- s stands in stored at a place: where it ends
+-- s compared with the stored bytes at an offset: where it ends there, or that they differ
 unfoldable pub stretch : List ℕ → ℕ → List ℕ → Matched
 stretch stored at s = pick (same (take (length s) (drop at stored)) s) (To (at + length s)) Differs
 
--- ---- picks made ready
+-- ---- picks prepared
 
--- why an identity and picks aren't taken: 2, then 8
+-- why an identity and picks are refused: 2, then 8
 abbrev pub NotReady : Text → Text → List ℕ → Refusal → Type 0
 NotReady identity bytes lengths r = ((r ≡ Argument) × (false ≡ fit bytes lengths)) ⊎ ((r ≡ Identity) × (true ≡ fit bytes lengths) × (maxIdentity < length identity))
 
--- the offsets that divide n picks, as a slice from 0 has them
+-- the offsets of n picks' texts: the slice `starts[0..n * 5 + 1]`
 abbrev pub startsOf : ℕ → List ℕ → List ℕ
 startsOf n starts = take (n * 5 + 1 - 0) starts
 
--- the picks are the n that lie between the offsets, and each is within its sizes
+-- there are n picks between the offsets, and each text is within its size
 pub record Ready (identity bytes : Text) (lengths starts : List ℕ) (n : ℕ) : Type 0 where
   pub fits : true ≡ fit bytes lengths
   pub named : length identity ≤ maxIdentity
@@ -100,6 +100,6 @@ abbrev pub Prepares : Text → Text → List ℕ → List ℕ → Prepared → T
 Prepares identity bytes lengths starts (IsReady n) = Ready identity bytes lengths starts n
 Prepares identity bytes lengths starts (Refused r) = NotReady identity bytes lengths r
 
--- offsets in a list that holds those of every text that a key takes
+-- how many offsets the texts of the most picks have, with the end
 abbrev pub startsSize : ℕ
 startsSize = maxPicks * 5 + 1

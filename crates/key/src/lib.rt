@@ -1,4 +1,4 @@
-// The key of an identity and picks: its bytes, and whether a stored key is it. Every public function answers whatever it is given.
+// The key of an identity and picks: its bytes, and whether a stored key equals it. Every public function accepts any input.
 mod matching;
 mod picks;
 mod write;
@@ -15,7 +15,7 @@ use picks::prepare;
 use refusal::Refusal;
 use write::write_key;
 
-// How many fields a pick has, how many picks and texts a key takes, and how many offsets divide these.
+// The fields of a pick, the most picks and texts of a key, and the offsets that divide these texts.
 pub const FIELDS: usize = 5;
 
 pub const MAX_PICKS: usize = 16;
@@ -40,7 +40,7 @@ pub enum SameKey {
     Refused(Refusal),
 }
 
-// Whether there are few enough picks and each text is within its size.
+// Whether there are at most 16 picks and each text is within its size.
 pub fn picks_fit(texts: &[u8], lengths: &[u32]) -> bool
     ensures { λ r. ⌜ r ≡ fit (now (texts .entry)) (now (lengths .entry)) ⌝ }
 {
@@ -52,7 +52,7 @@ pub fn picks_fit(texts: &[u8], lengths: &[u32]) -> bool
     }
 }
 
-// The key of an identity and picks, into out.
+// Writes the key of an identity and picks to out.
 pub fn key(identity: &[u8], texts: &[u8], lengths: &[u32], out: &mut [u8]) -> KeyAnswer
     ensures { λ r. ⌜ (r ≡ keyAnswer (now (identity .entry)) (now (texts .entry)) (now (lengths .entry)) (length (now (out .entry)))) × (now (out .exit) ≡ after r (keyOf (now (identity .entry)) (handed (now (texts .entry)) (now (lengths .entry)))) (now (out .entry))) ⌝ }
 {

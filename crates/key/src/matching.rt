@@ -15,7 +15,7 @@ use crate::picks::sort_picks;
 use crate::write::key_length;
 use base::slice::same_bytes;
 
-// Where the bytes that were compared end in the stored key.
+// Where the compared bytes end in the stored key, or that they differ.
 enum Matched {
     To(usize),
     Differs,

@@ -14,7 +14,7 @@ use crate::MAX_IDENTITY;
 use crate::MAX_TEXTS;
 use refusal::Refusal;
 
-// Where a pick goes among the sorted ones.
+// The index at which a pick is inserted among the sorted ones, or that it is among them.
 enum Place {
     At(usize),
     There,
@@ -51,7 +51,7 @@ fn order(a: &[u8], b: &[u8]) -> u8
     SAME
 }
 
-// Where texts 0 to m start: each behind the texts before it, at most at the end.
+// The offsets of texts 0 to m: each after the texts before it, at most the end.
 fn places(texts: &[u8], lengths: &[u32], m: usize, starts: &mut [usize])
     requires { ⌜ m < length (now starts) ⌝ }
     ensures { λ _. ⌜ Places (now (texts .entry)) (now (lengths .entry)) m (now (starts .exit)) ⌝ }
@@ -82,7 +82,7 @@ fn text<'a, 'b>(texts: &'a [u8], starts: &'b [usize], k: usize) -> &'a [u8]
     &texts[from..to]
 }
 
-// Every text is within its size.
+// Whether every text is within its size.
 fn sizes_fit(texts: &[u8], starts: &[usize], m: usize) -> bool
     requires { ⌜ Rising (now starts) (length (now texts)) × (m + 1 ≡ length (now starts)) ⌝ }
     ensures { λ r. ⌜ r ≡ every m (sized (between (now (texts .entry)) (now (starts .entry)))) ⌝ }
@@ -134,7 +134,7 @@ fn order_picks(texts: &[u8], starts: &[usize], i: usize, j: usize) -> u8
     SAME
 }
 
-// Where pick i goes among the sorted ones.
+// The index at which pick i is inserted among the sorted ones.
 fn place_of(texts: &[u8], starts: &[usize], n: usize, sorted: &[usize], i: usize) -> Place
     requires { ⌜ Rising (now starts) (length (now texts)) × (n * 5 < length (now starts)) × (i < n) × Below n (now sorted) ⌝ }
     ensures { λ r. ⌜ Goes (pickIn (now (texts .entry)) (now (starts .entry)) i) (map (pickIn (now (texts .entry)) (now (starts .entry))) (now (sorted .entry))) r ⌝ }
@@ -154,7 +154,7 @@ fn place_of(texts: &[u8], starts: &[usize], n: usize, sorted: &[usize], i: usize
     Place::At(k)
 }
 
-// Puts v at place k of the first m, and moves those behind it on by one.
+// Inserts v at index k of the first m; those from k on move by one.
 fn put_in(list: &mut [usize], m: usize, k: usize, v: usize)
     requires { ⌜ (k ≤ m) × (m < length (now list)) ⌝ }
     ensures { λ _. ⌜ take (m + 1) (now (list .exit)) ≡ take k (take m (now (list .entry))) ++ v ∷ drop k (take m (now (list .entry))) ⌝ }
@@ -170,7 +170,7 @@ fn put_in(list: &mut [usize], m: usize, k: usize, v: usize)
     list[m] = next;
 }
 
-// Puts pick i among the m sorted ones, unless it is there; how many they are then.
+// Inserts pick i among the m sorted ones, unless it is there; gives how many they are then.
 fn insert_pick(
     texts: &[u8],
     starts: &[usize],
@@ -190,7 +190,7 @@ fn insert_pick(
     m + 1
 }
 
-// The numbers of the distinct picks, sorted; how many they are.
+// Writes the indices of the distinct picks to `order`, sorted; gives how many they are.
 pub(crate) fn sort_picks(texts: &[u8], starts: &[usize], n: usize, order: &mut [usize]) -> usize
     requires { ⌜ Rising (now starts) (length (now texts)) × (n * 5 < length (now starts)) × (n ≤ length (now order)) ⌝ }
     ensures { λ r. ⌜ (r ≤ n) × Ordered (pickIn (now (texts .entry)) (now (starts .entry))) n (distinct (firsts n (pickIn (now (texts .entry)) (now (starts .entry))))) (now (order .exit)) r ⌝ }
@@ -204,7 +204,7 @@ pub(crate) fn sort_picks(texts: &[u8], starts: &[usize], n: usize, order: &mut [
     m
 }
 
-// Picks whose texts are cut and fit, and how many they are; or why there are none.
+// How many picks were prepared, or the refusal.
 pub(crate) enum Prepared {
     Ready(usize),
     Refused(Refusal),

@@ -14,7 +14,7 @@ use crate::picks::field;
 use crate::picks::sort_picks;
 use refusal::Refusal;
 
-// How many bytes pick i takes. A code leaves the name out.
+// How many bytes pick i has in the key. If it has a code, the name is left out.
 fn entry_length(texts: &[u8], starts: &[usize], i: usize) -> usize
     requires { ⌜ Rising (now starts) (length (now texts)) × (i * 5 + 5 < length (now starts)) × (length (entry (pickIn (now texts) (now starts) i)) ≤ 141) ⌝ }
     ensures { λ r. ⌜ r ≡ length (entry (pickIn (now (texts .entry)) (now (starts .entry)) i)) ⌝ }
@@ -31,7 +31,7 @@ fn entry_length(texts: &[u8], starts: &[usize], i: usize) -> usize
     end - from + FIELDS
 }
 
-// How many bytes the sorted picks take.
+// How many bytes the sorted picks have.
 fn entries_length(texts: &[u8], starts: &[usize], n: usize, sorted: &[usize]) -> usize
     requires { ⌜ Rising (now starts) (length (now texts)) × (n * 5 < length (now starts)) × Below n (now sorted) × (length (now sorted) ≤ 16) × Small (pickIn (now texts) (now starts)) n ⌝ }
     ensures { λ r. ⌜ (r ≡ length (joined entry (map (pickIn (now (texts .entry)) (now (starts .entry))) (now (sorted .entry))))) × (r ≤ 141 * 16) ⌝ }
@@ -57,7 +57,7 @@ fn prefix_length(identity: &[u8]) -> usize
     n + 3
 }
 
-// How many bytes the key of an identity and the sorted picks takes.
+// How many bytes the key of an identity and the sorted picks has.
 pub(crate) fn key_length(
     identity: &[u8],
     texts: &[u8],
@@ -71,7 +71,7 @@ pub(crate) fn key_length(
     prefix_length(identity) + 1 + entries_length(texts, starts, n, sorted)
 }
 
-// The bytes of s at a place of out.
+// Copies s to out at an offset.
 fn put_bytes(out: &mut [u8], at: usize, s: &[u8])
     requires { ⌜ at + length (now s) ≤ length (now out) ⌝ }
     ensures { λ _. ⌜ now (out .exit) ≡ written (now (out .entry)) at (now (s .entry)) ⌝ }
@@ -83,7 +83,7 @@ fn put_bytes(out: &mut [u8], at: usize, s: &[u8])
     }
 }
 
-// A text after its length byte.
+// Writes a text after its length byte.
 fn put_field(out: &mut [u8], at: usize, s: &[u8])
     requires { ⌜ at + length (fieldOf (now s)) ≤ length (now out) ⌝ }
     ensures { λ _. ⌜ now (out .exit) ≡ written (now (out .entry)) at (fieldOf (now (s .entry))) ⌝ }
@@ -92,7 +92,7 @@ fn put_field(out: &mut [u8], at: usize, s: &[u8])
     put_bytes(out, at + 1, s);
 }
 
-// Pick i as the key has it; where what follows it goes.
+// Writes pick i; gives the offset after it.
 fn put_pick(out: &mut [u8], at: usize, texts: &[u8], starts: &[usize], i: usize) -> usize
     requires { ⌜ Rising (now starts) (length (now texts)) × (i * 5 + 5 < length (now starts)) × (at + length (entry (pickIn (now texts) (now starts) i)) ≤ length (now out)) ⌝ }
     ensures { λ r. ⌜ (r ≡ at + length (entry (pickIn (now (texts .entry)) (now (starts .entry)) i))) × (now (out .exit) ≡ written (now (out .entry)) at (entry (pickIn (now (texts .entry)) (now (starts .entry)) i))) ⌝ }
@@ -108,7 +108,7 @@ fn put_pick(out: &mut [u8], at: usize, texts: &[u8], starts: &[usize], i: usize)
     to
 }
 
-// The sorted picks.
+// Writes the sorted picks.
 fn put_picks(out: &mut [u8], at: usize, texts: &[u8], starts: &[usize], n: usize, sorted: &[usize])
     requires { ⌜ Rising (now starts) (length (now texts)) × (n * 5 < length (now starts)) × Below n (now sorted) × (at + length (joined entry (map (pickIn (now texts) (now starts)) (now sorted))) ≤ length (now out)) ⌝ }
     ensures { λ _. ⌜ now (out .exit) ≡ written (now (out .entry)) at (joined entry (map (pickIn (now (texts .entry)) (now (starts .entry))) (now (sorted .entry)))) ⌝ }
@@ -122,7 +122,7 @@ fn put_picks(out: &mut [u8], at: usize, texts: &[u8], starts: &[usize], n: usize
     }
 }
 
-// The identity's part; where what follows it goes.
+// Writes the identity's prefix; gives the offset after it.
 fn put_prefix(out: &mut [u8], identity: &[u8]) -> usize
     requires { ⌜ length (prefix (now identity)) ≤ length (now out) ⌝ }
     ensures { λ r. ⌜ (r ≡ length (prefix (now (identity .entry)))) × (now (out .exit) ≡ written (now (out .entry)) 0 (prefix (now (identity .entry)))) ⌝ }
@@ -138,7 +138,7 @@ fn put_prefix(out: &mut [u8], identity: &[u8]) -> usize
     n + 3
 }
 
-// The key of an identity and n picks whose texts fit, where there is room.
+// Writes the key of an identity and n picks whose texts fit, if out has the capacity.
 pub(crate) fn write_key(
     identity: &[u8],
     texts: &[u8],

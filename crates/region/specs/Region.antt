@@ -16,7 +16,7 @@ sectorSize = 4096
 abbrev pub capacity : ℕ
 capacity = 487424
 
--- sector 0 of a bank is the header's
+-- a bank has sectors 0 to 119; sector 0 is the header's
 abbrev pub lastSector : ℕ
 lastSector = 119
 

@@ -173,7 +173,7 @@ columns =
 unfoldable pub columnsOf : ℕ → List (List ℕ)
 columnsOf table = getD columns table []
 
--- how many they are
+-- how many columns a table has
 abbrev pub columnCount : ℕ → ℕ
 columnCount table = length (columnsOf table)
 

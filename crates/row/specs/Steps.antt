@@ -7,7 +7,7 @@ use Rattle.csv.specs.Write.{fieldOf}
 use Rattle.row.specs.Columns.{columns, line}
 use Rattle.csv.specs.Csv.{quote}
 
--- the names lines of tables, one behind the other
+-- the names lines of tables, joined
 unfoldable pub lines : List (List (List ℕ)) → List ℕ
 lines [] = []
 lines (c ∷ cs) = line c ++ lines cs
@@ -15,11 +15,11 @@ lines (c ∷ cs) = line c ++ lines cs
 unfoldable pub allLines : List ℕ
 allLines = lines columns
 
--- sizes has from place k on the sizes of the fields of some values
+-- `sizes` has, from index k on, the sizes of the fields of some values
 abbrev pub Sizes : List ℕ → ℕ → List (List ℕ) → Type 0
 Sizes sizes k [] = Unit {0}
 Sizes sizes k (v ∷ vs) = (getD sizes k 0 ≡ length (fieldOf v)) × Sizes sizes (k + 1) vs
 
--- n is the place of the first quote, or the length for none
+-- n is the index of the first quote, or the length if there is none
 abbrev pub FirstQuote : List ℕ → ℕ → Type 0
 FirstQuote v n = (n ≤ length v) × ((j : ℕ) → j < n → getD v j 0 ≡ quote → ⊥) × (n < length v → getD v n 0 ≡ quote)

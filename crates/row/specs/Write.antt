@@ -13,8 +13,8 @@ use Rattle.row.specs.declared.RowAnswer.the-variants.{Written, Refused}
 use Rattle.row.specs.Columns.{columnCount, namesLine}
 use Rattle.base.specs.Table.{lastTable}
 
--- the values as handed over, texts in a row with their lengths: each has as many bytes as its length says, behind the values before it;
--- where the bytes end, the value ends
+-- the values as passed, texts joined, with their lengths: each has as many bytes as its length says, after the values before it;
+-- fewer where the bytes end
 unfoldable pub cutBy : List ℕ → List ℕ → List (List ℕ)
 cutBy [] t = []
 cutBy (n ∷ ns) t = take n t ∷ cutBy ns (drop n t)
@@ -22,16 +22,16 @@ cutBy (n ∷ ns) t = take n t ∷ cutBy ns (drop n t)
 abbrev pub handed : List ℕ → List ℕ → List (List ℕ)
 handed texts lengths = cutBy lengths texts
 
--- bytes where there is room for them, else 9
+-- how many bytes are written if the output has the capacity for them, else 9
 unfoldable pub within : ℕ → List ℕ → RowAnswer
 within room bytes = pick (leb (length bytes) room) (Written (length bytes)) (Refused Small)
 
--- the output after a call: the bytes at its start, and past them as before; on a refusal as before
+-- the output after a call: the bytes at its start, the rest unchanged; on a refusal all unchanged
 abbrev pub after : RowAnswer → List ℕ → List ℕ → List ℕ
 after (Written n) bytes out = Bytes.written out 0 bytes
 after (Refused r) bytes out = out
 
--- `names_line`: 2 for a table above 7, then 9, else how many bytes were written
+-- `names_line`: 2 for a table above 7, then 9, else how many bytes are written
 unfoldable pub namesAnswer : ℕ → ℕ → RowAnswer
 namesAnswer table room = pick (leb table lastTable) (within room (namesLine table)) (Refused Argument)
 

@@ -1,4 +1,4 @@
-// The lines of a table as they are written: its column names, and a row. Every public function answers whatever it is given.
+// The lines of a table as they are written: its column names, and a row. Every public function accepts any input.
 mod size;
 mod write;
 
@@ -19,7 +19,7 @@ use csv::MAX_ROW;
 use refusal::Refusal;
 
 pub enum RowAnswer {
-    // The line stands in the first so many bytes.
+    // The line is in the first n bytes.
     Written(usize),
     Refused(Refusal),
 }
@@ -27,7 +27,7 @@ pub enum RowAnswer {
 // How many columns each table has.
 const COUNTS: [usize; TABLES] = [3, 3, 5, 8, 10, 3, 2, 8];
 
-// Where each table's names line starts among all of them, and their end.
+// The offset of each table's names line among all of them, and their end.
 const STARTS: [usize; 9] = [0, 37, 65, 120, 218, 306, 337, 367, 473];
 
 // How many columns a table has, 0 above table 7.
@@ -42,7 +42,7 @@ pub fn column_count(table: u32) -> usize
     counts[t]
 }
 
-// The names line of a table, out of all of them, where there is room.
+// Copies a table's names line to out, if it fits; `all` has the names lines of all tables.
 fn put_line(all: &[u8], table: usize, out: &mut [u8]) -> RowAnswer
     requires { ⌜ (now all ≡ allLines) × (table < 8) ⌝ }
     ensures { λ r. ⌜ (r ≡ within (length (now (out .entry))) (namesLine table)) × (now (out .exit) ≡ after r (namesLine table) (now (out .entry))) ⌝ }
@@ -58,7 +58,7 @@ fn put_line(all: &[u8], table: usize, out: &mut [u8]) -> RowAnswer
     RowAnswer::Written(names.len())
 }
 
-// The names line of a table, into out.
+// Writes the names line of a table to out.
 pub fn names_line(table: u32, out: &mut [u8]) -> RowAnswer
     ensures { λ r. ⌜ (r ≡ namesAnswer table (length (now (out .entry)))) × (now (out .exit) ≡ after r (namesLine table) (now (out .entry))) ⌝ }
 {
@@ -70,7 +70,7 @@ pub fn names_line(table: u32, out: &mut [u8]) -> RowAnswer
     put_line(all, table as usize, out)
 }
 
-// The row of some values of a table, into out: texts in a row, with their lengths.
+// Writes the row of a table's values to out. The values are passed as joined texts and their lengths.
 pub fn row(table: u32, texts: &[u8], lengths: &[u32], out: &mut [u8]) -> RowAnswer
     ensures { λ r. ⌜ (r ≡ rowAnswer table (now (texts .entry)) (now (lengths .entry)) (length (now (out .entry)))) × (now (out .exit) ≡ after r (rowOf (handed (now (texts .entry)) (now (lengths .entry)))) (now (out .entry))) ⌝ }
 {

@@ -1,4 +1,4 @@
-// How many bytes a value and a row take.
+// How many bytes a value's field and a row have.
 ghost use mathlib.Core.Path.{_≡_};
 ghost use Prim.Native.Nat.{_+_, _-_, _≤_, _<_, min};
 ghost use lib.ListN.{length, drop};
@@ -12,17 +12,17 @@ use csv::LF;
 use csv::MAX_ROW;
 use csv::QUOTE;
 
-// What the size of a row over its limit is given as.
+// The size that is given for a row over its limit.
 const TOO_LONG: usize = MAX_ROW + 1;
 
-// A byte for whose sake its value is quoted: quote, comma, CR, LF.
+// Whether a byte makes its value quoted: quote, comma, CR, LF.
 fn is_special(b: u8) -> bool
     ensures { λ r. ⌜ r ≡ special b ⌝ }
 {
     (b == QUOTE) | ((b == COMMA) | ((b == CR) | (b == LF)))
 }
 
-// Whether there is one among a few bytes; they are counted, so that many are tested at once.
+// Whether one of at most 64 bytes is special. They are counted, so that many are tested at once.
 fn some_special(v: &[u8]) -> bool
     requires { ⌜ length (now v) ≤ 64 ⌝ }
     ensures { λ r. ⌜ r ≡ anySpecial (now (v .entry)) ⌝ }
@@ -41,7 +41,7 @@ fn some_special(v: &[u8]) -> bool
     true
 }
 
-// Whether there is one from a place on.
+// Whether there is a special byte from an offset on.
 fn special_from(v: &[u8], from: usize) -> bool
     requires { ⌜ from ≤ length (now v) ⌝ }
     ensures { λ r. ⌜ r ≡ anySpecial (drop from (now (v .entry))) ⌝ }
@@ -56,7 +56,7 @@ fn special_from(v: &[u8], from: usize) -> bool
     false
 }
 
-// Where the bytes end that are tested at once from a place on.
+// The end of the bytes from i on that are tested at once, at most 32.
 fn near(len: usize, i: usize) -> usize
     requires { ⌜ i ≤ len ⌝ }
     ensures { λ r. ⌜ r ≡ i + min 32 (len - i) ⌝ }
@@ -82,7 +82,7 @@ fn any_special(v: &[u8]) -> bool
     false
 }
 
-// How many quotes there are among a few bytes: what they grow by when these are doubled.
+// How many of at most 64 bytes are quotes, which is what doubling adds.
 pub(crate) fn quotes(v: &[u8]) -> u8
     requires { ⌜ length (now v) ≤ 64 ⌝ }
     ensures { λ r. ⌜ r + length (now (v .entry)) ≡ length (doubled (now (v .entry))) ⌝ }
@@ -113,7 +113,7 @@ fn doubled_size(v: &[u8]) -> usize
     n + quotes(&v[i..v.len()]) as usize
 }
 
-// How many bytes a value has whose length is n: at most what is left.
+// How many bytes a value of length n has: at most those that are left.
 pub(crate) fn cut(left: usize, n: u32) -> usize
     ensures { λ r. ⌜ r ≡ min n left ⌝ }
 {
@@ -132,7 +132,7 @@ fn field_size(v: &[u8]) -> usize
     v.len()
 }
 
-// The row's size, or 8,193 for any above 8,192, with the sizes of its fields.
+// The row's size, or 8,193 for any above 8,192; and the sizes of its fields.
 pub(crate) fn row_size(texts: &[u8], lengths: &[u32], sizes: &mut [usize]) -> usize
     requires { ⌜ length (now lengths) ≤ length (now sizes) ⌝ }
     ensures { λ r. ⌜ (r ≡ min (maxRow + 1) (length (rowOf (handed (now (texts .entry)) (now (lengths .entry)))))) × (r ≤ maxRow → Sizes (now (sizes .exit)) 0 (handed (now (texts .entry)) (now (lengths .entry)))) ⌝ }

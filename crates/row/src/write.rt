@@ -1,4 +1,4 @@
-// A value and a row written.
+// Writes a value and a row.
 ghost use mathlib.Core.Path.{_≡_};
 ghost use Prim.Native.Nat.{_+_, _-_, _≤_, _<_, min};
 ghost use lib.Dec.{eqb, leb};
@@ -15,7 +15,7 @@ use csv::COMMA;
 use csv::LF;
 use csv::QUOTE;
 
-// v into out from a place on.
+// Copies v to out at an offset.
 pub(crate) fn copy(v: &[u8], out: &mut [u8], to: usize)
     requires { ⌜ to + length (now v) ≤ length (now out) ⌝ }
     ensures { λ _. ⌜ now (out .exit) ≡ sets (now (out .entry)) to (now (v .entry)) ⌝ }
@@ -27,7 +27,7 @@ pub(crate) fn copy(v: &[u8], out: &mut [u8], to: usize)
     }
 }
 
-// Some bytes with their quotes doubled, into out from a place on, and where they end.
+// Copies bytes to out at an offset, quotes doubled; gives where they end.
 fn put_each(v: &[u8], out: &mut [u8], to: usize) -> usize
     requires { ⌜ to + length (doubled (now v)) ≤ length (now out) ⌝ }
     ensures { λ r. ⌜ (r ≡ to + length (doubled (now (v .entry)))) × (now (out .exit) ≡ sets (now (out .entry)) to (doubled (now (v .entry)))) ⌝ }
@@ -59,7 +59,7 @@ fn least(a: u8, b: u8) -> u8
     if a < b { a } else { b }
 }
 
-// Where the first quote stands among a few bytes, or their end: the least place, which is found for many bytes at once.
+// The index of the first quote of at most 64 bytes, or their end. It is taken as the least index, so that many are tested at once.
 fn first_quote(v: &[u8]) -> u8
     requires { ⌜ length (now v) ≤ 64 ⌝ }
     ensures { λ r. ⌜ FirstQuote (now (v .entry)) r ⌝ }
@@ -74,7 +74,7 @@ fn first_quote(v: &[u8]) -> u8
     n
 }
 
-// 64 bytes into out from a place on, by way of an array, which is copied whole.
+// Copies 64 bytes to out at an offset. The array in between is copied whole.
 fn block(v: &[u8], out: &mut [u8], to: usize)
     requires { ⌜ (length (now v) ≡ 64) × (to + 64 ≤ length (now out)) ⌝ }
     ensures { λ _. ⌜ now (out .exit) ≡ sets (now (out .entry)) to (now (v .entry)) ⌝ }
@@ -84,7 +84,8 @@ fn block(v: &[u8], out: &mut [u8], to: usize)
     copy(&b, out, to);
 }
 
-// How many bytes stand before the first quote, at most 64. They are put into out; of 64 bytes, all, for those behind are written over.
+// Copies the bytes before the first quote to out and gives how many they are, at most 64. Of 64 bytes all are copied: those from the
+// quote on are overwritten later.
 fn put_run(v: &[u8], out: &mut [u8], to: usize) -> usize
     requires { ⌜ to + length (now v) ≤ length (now out) ⌝ }
     ensures { λ r. ⌜ FirstQuote (take 64 (now (v .entry))) r × (now (out .exit) ≡ sets (now (out .entry)) to (take (pick (leb 64 (length (now (v .entry)))) 64 r) (now (v .entry)))) ⌝ }
@@ -99,7 +100,7 @@ fn put_run(v: &[u8], out: &mut [u8], to: usize) -> usize
     first_quote(part) as usize
 }
 
-// A value with its quotes doubled, which takes size bytes, into out from a place on: from quote to quote.
+// Copies a value to out at an offset with its quotes doubled, `size` bytes in all, from quote to quote.
 fn put_runs(v: &[u8], size: usize, out: &mut [u8], to: usize)
     requires { ⌜ (size ≡ length (doubled (now v))) × (to + size ≤ length (now out)) ⌝ }
     ensures { λ _. ⌜ now (out .exit) ≡ sets (now (out .entry)) to (doubled (now (v .entry))) ⌝ }
@@ -120,8 +121,8 @@ fn put_runs(v: &[u8], size: usize, out: &mut [u8], to: usize)
     copy(&v[i..v.len()], out, n);
 }
 
-// The first 64 bytes of v with their quotes doubled, into out from a place on, and where they end. More may be written behind them, for all
-// that is written over.
+// Copies the first 64 bytes of v to out at an offset, quotes doubled; gives where they end. Bytes written after that end are
+// overwritten later.
 fn put_block(v: &[u8], out: &mut [u8], to: usize) -> usize
     requires { ⌜ (128 ≤ length (now v)) × (to + length (doubled (now v)) ≤ length (now out)) ⌝ }
     ensures { λ r. ⌜ (r ≡ to + length (doubled (take 64 (now (v .entry))))) × (sets (now (out .exit)) r (doubled (drop 64 (now (v .entry)))) ≡ sets (now (out .entry)) to (doubled (now (v .entry)))) ⌝ }
@@ -141,7 +142,7 @@ fn put_block(v: &[u8], out: &mut [u8], to: usize) -> usize
     to + 65
 }
 
-// The blocks of a value that have 64 bytes or more behind them, with their quotes doubled, into out from a place on.
+// Copies those blocks of a value that 64 bytes or more follow to out at an offset, quotes doubled.
 fn put_blocks(v: &[u8], out: &mut [u8], to: usize) -> Put
     requires { ⌜ to + length (doubled (now v)) ≤ length (now out) ⌝ }
     ensures { λ r. ⌜ (r .bytes ≤ length (now (v .entry))) × (r .to + length (doubled (drop (r .bytes) (now (v .entry)))) ≡ to + length (doubled (now (v .entry)))) × (sets (now (out .exit)) (r .to) (doubled (drop (r .bytes) (now (v .entry)))) ≡ sets (now (out .entry)) to (doubled (now (v .entry)))) ⌝ }
@@ -155,13 +156,13 @@ fn put_blocks(v: &[u8], out: &mut [u8], to: usize) -> Put
     Put { bytes: i, to: n }
 }
 
-// So many bytes of a value are put, up to a place in out.
+// How many bytes of a value are copied, and where they end in out.
 struct Put {
     bytes: usize,
     to: usize,
 }
 
-// A value with few quotes, which are doubled: its blocks, then from quote to quote.
+// Copies a value with few quotes to out, quotes doubled: by blocks, then from quote to quote.
 fn put_few(v: &[u8], size: usize, out: &mut [u8], to: usize)
     requires { ⌜ (size ≡ length (doubled (now v))) × (to + size ≤ length (now out)) ⌝ }
     ensures { λ _. ⌜ now (out .exit) ≡ sets (now (out .entry)) to (doubled (now (v .entry))) ⌝ }
@@ -171,7 +172,7 @@ fn put_few(v: &[u8], size: usize, out: &mut [u8], to: usize)
     put_runs(&v[from..v.len()], to + size - p.to, out, p.to);
 }
 
-// The same: a value without quotes is copied as it is, one with many goes byte by byte.
+// Copies a value to out, quotes doubled: unchanged if it has none, by blocks if it has few, else byte by byte.
 fn put_inner(v: &[u8], size: usize, out: &mut [u8], to: usize)
     requires { ⌜ (size ≡ length (doubled (now v))) × (to + size ≤ length (now out)) ⌝ }
     ensures { λ _. ⌜ now (out .exit) ≡ sets (now (out .entry)) to (doubled (now (v .entry))) ⌝ }
@@ -187,7 +188,7 @@ fn put_inner(v: &[u8], size: usize, out: &mut [u8], to: usize)
     put_each(v, out, to);
 }
 
-// The field of a value, whose size is given, into out from a place on.
+// Writes the field of a value, `size` bytes, to out at an offset.
 fn put_field(v: &[u8], size: usize, out: &mut [u8], to: usize)
     requires { ⌜ (size ≡ length (fieldOf (now v))) × (to + size ≤ length (now out)) ⌝ }
     ensures { λ _. ⌜ now (out .exit) ≡ sets (now (out .entry)) to (fieldOf (now (v .entry))) ⌝ }
@@ -201,14 +202,14 @@ fn put_field(v: &[u8], size: usize, out: &mut [u8], to: usize)
     out[to + size - 1] = QUOTE;
 }
 
-// What stands behind field k of n.
+// The byte after field k of n, counted from 1.
 fn end_byte(k: usize, n: usize) -> u8
     ensures { λ r. ⌜ r ≡ pick (eqb k n) lineFeed comma ⌝ }
 {
     if k == n { LF } else { COMMA }
 }
 
-// The row, with the sizes of its fields, into out.
+// Writes the row to out; `sizes` are those of its fields.
 pub(crate) fn put_row(texts: &[u8], lengths: &[u32], sizes: &[usize], out: &mut [u8])
     requires { ⌜ (length (rowOf (handed (now texts) (now lengths))) ≤ length (now out)) × (length (now lengths) ≤ length (now sizes)) × Sizes (now sizes) 0 (handed (now texts) (now lengths)) ⌝ }
     ensures { λ _. ⌜ now (out .exit) ≡ sets (now (out .entry)) 0 (rowOf (handed (now (texts .entry)) (now (lengths .entry)))) ⌝ }

@@ -11,7 +11,7 @@ use Rattle.rowread.specs.Stored.{valuesAt, joined, readAnswer}
 abbrev Text : Type 0
 Text = List ℕ
 
--- a row of some values that the writer writes, and for which there is room
+-- values that the writer writes as a row, and that fit in the outputs
 pub record Fits (width room slots : ℕ) (vs : List Text) : Type 0 where
   pub some : 1 ≤ width
   pub wide : length vs ≡ width
@@ -19,18 +19,18 @@ pub record Fits (width room slots : ℕ) (vs : List Text) : Type 0 where
   pub bytes : length (joined vs) ≤ room
   pub ends : width ≤ slots
 
--- where a written row stands, whatever stands before and behind it, its values are read, and the place behind it (reads-written)
+-- a written row is read back, whatever bytes are before and after it: its values, and the place after it (reads-written)
 abbrev pub ReadsWritten : Type 0
 ReadsWritten = (before behind : Text) (vs : List Text) (width room slots : ℕ) → Fits width room slots vs
     → (readAnswer (before ++ (rowOf vs ++ behind)) width (length before) room slots ≡ Stored (length before + length (rowOf vs)) (length (joined vs)))
     × (valuesAt (before ++ (rowOf vs ++ behind)) width (length before) ≡ vs)
 
--- the rows of a table, one behind the other
+-- the rows of a table, joined
 unfoldable pub tableOf : List (List Text) → Text
 tableOf [] = []
 tableOf (vs ∷ rows) = rowOf vs ++ tableOf rows
 
--- from a place on, rows are read one by one, each where the one before it said, and then the table's end is met
+-- from a place on, rows are read one by one, each at the place that the read before it gave, up to the table's end
 pub data Reads (table : Text) (width room slots : ℕ) : ℕ → List (List Text) → Type 0 where
   atEnd : {place : ℕ} → readAnswer table width place room slots ≡ End → Reads table width room slots place []
   onward : {place next size : ℕ} {vs : List Text} {rows : List (List Text)} → readAnswer table width place room slots ≡ Stored next size
@@ -44,7 +44,7 @@ AllFit width room slots (vs ∷ rows) = Fits width room slots vs × AllFit width
 abbrev pub ReadsTable : Type 0
 ReadsTable = (width room slots : ℕ) (rows : List (List Text)) → AllFit width room slots rows → Reads (tableOf rows) width room slots 0 rows
 
--- what is read as a row is one by the grammar, which has one reading (stored-is-a-row; csv's Claims: oneReading)
+-- what is read as a row is one by the grammar, which has one reading (stored-is-a-row; specs/Claims.antt of csv: oneReading)
 abbrev pub StoredIsARow : Type 0
 StoredIsARow = (table : Text) (width place room slots next size : ℕ) → readAnswer table width place room slots ≡ Stored next size
     → Record (drop place table) (valuesAt table width place) (drop next table)

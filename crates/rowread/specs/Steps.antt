@@ -17,7 +17,7 @@ use Rattle.rowread.specs.declared.fast.Fast.{Fast}
 use Rattle.rowread.specs.declared.fast.Fast.the-variants.{Read, Not}
 use Rattle.rowread.specs.Stored.{joined, endsOf}
 
--- where in n bytes a value ends, and its size
+-- the end of a value in n bytes, and its size
 abbrev pub pieceOf : ℕ → Got → Piece
 pieceOf n (got v r) = Value (n - length r) (length v)
 pieceOf n bad = Bad
@@ -34,7 +34,7 @@ restOf bad = []
 abbrev pub IsGot : Got → Type 0
 IsGot g = g ≡ got (valueOf g) (restOf g)
 
--- where in n bytes a row ends that was found behind values of `from` bytes, and the size of them all
+-- the end in n bytes of a row whose values follow others of `from` bytes, and the size of all these values
 abbrev pub scanFrom : ℕ → ℕ → Row → Scan
 scanFrom n from (row vs r) = Whole (n - length r) (from + length (joined vs))
 scanFrom n from malformed = Broken
@@ -48,20 +48,20 @@ IsRow malformed = ⊥
 
 -- ---- a row without quotes
 
--- a byte before which it stops: a quote or LF
+-- a delimiter, before which a line without quotes ends: a quote or LF
 unfoldable pub isStop : ℕ → Bool
 isStop b = eqb b quote || eqb b lineFeed
 
--- the bytes before the first one
+-- the bytes before the first delimiter
 unfoldable pub lineOf : List ℕ → List ℕ
 lineOf [] = []
 lineOf (b ∷ t) = pick (isStop b) [] (b ∷ lineOf t)
 
--- n is the place of the first one, 32 for none
+-- n is the index of the first delimiter, 32 if there is none
 abbrev pub FirstStop : List ℕ → ℕ → Type 0
 FirstStop v n = (n ≤ 32) × (n ≡ 32 → length (lineOf v) ≡ length v) × (n < 32 → (n ≡ length (lineOf v)) × (n < length v))
 
--- how many of them are commas, which are the others, and where among these the values end: those that a comma follows, and all
+-- of bytes without quotes: how many are commas; the others; and where in these the values end, those that a comma follows, and all
 unfoldable pub commasIn : List ℕ → ℕ
 commasIn [] = 0
 commasIn (b ∷ v) = pick (eqb b comma) 1 0 + commasIn v
@@ -83,18 +83,18 @@ unfoldable pub anyStop : List ℕ → Bool
 anyStop [] = false
 anyStop (b ∷ v) = isStop b || anyStop v
 
--- values without quotes stand before a place, each with its comma: n of them
+-- before offset e there are n values without quotes, each with its comma
 pub record Opens (t : List ℕ) (e n : ℕ) : Type 0 where
   pub inside : e ≤ length t
   pub clean : anyStop (take e t) ≡ false
   pub afterComma : (e ≡ 0 → ⊥) → getD t (e - 1) 0 ≡ comma
   pub count : n ≡ commasIn (take e t)
 
--- the value whose opening quote stands at e is closed at c, has no stop inside, and ends the row
+-- the value whose opening quote is at e is closed at c, has no delimiter inside, and ends the row
 abbrev pub Closes : List ℕ → ℕ → ℕ → Type 0
 Closes t e c = (c ≡ e + 1 + length (lineOf (drop (e + 1) t))) × (getD t c 0 ≡ quote) × (getD t (c + 1) 0 ≡ lineFeed)
 
--- the value by a rule of the grammar that stands at a place of t was put into out
+-- by a rule of the grammar a value was read at an offset of t and put into out
 pub record Into (Rule : List ℕ → List ℕ → List ℕ → Type 0) (t : List ℕ) (from : ℕ) (out : List ℕ) (to : ℕ) (o : List ℕ) (next size : ℕ) : Type 0 where
   pub value : List ℕ
   pub read : Rule (drop from t) value (drop next t)
@@ -107,7 +107,7 @@ abbrev pub Took : (List ℕ → List ℕ → List ℕ → Type 0) → List ℕ �
 Took Rule t from out to o (Value next size) = Into Rule t from out to o next size
 Took Rule t from out to o Bad = Unit {0}
 
--- the values of a row from a place on, of which k stand before it, were put into out behind `to` bytes, and their ends into ends
+-- the values of a row from an offset on, with k values before it, were put into out after `to` bytes, and their ends into `ends`
 pub record Holds (t : List ℕ) (from to k width : ℕ) (out ends o s : List ℕ) (next size : ℕ) : Type 0 where
   pub values : List (List ℕ)
   pub read : Record (drop from t) values (drop next t)
@@ -123,18 +123,18 @@ abbrev pub TookRow : List ℕ → ℕ → ℕ → ℕ → ℕ → List ℕ → L
 TookRow t from to k width out ends o s (Whole next size) = Holds t from to k width out ends o s next size
 TookRow t from to k width out ends o s Broken = Unit {0}
 
--- a quick way: the row was read, or nothing was written
+-- a fast path: the row was read, or nothing was written
 abbrev pub Quickly : List ℕ → ℕ → List ℕ → List ℕ → List ℕ → List ℕ → Fast → Type 0
 Quickly t width out ends o s (Read next size) = Holds t 0 0 0 width out ends o s next size
 Quickly t width out ends o s Not = (o ≡ out) × (s ≡ ends)
 
--- a row that was scanned is handed out of room and marks, or nothing is written
+-- a row that was scanned is copied from the buffers `room` and `marks`, or nothing is written
 abbrev pub Handed : Scan → ℕ → List ℕ → List ℕ → List ℕ → List ℕ → List ℕ → List ℕ → Fast → Type 0
 Handed scan width room marks out ends o s (Read next size) =
     (scan ≡ Whole next size) × (size ≤ length out) × (width ≤ length ends) × (o ≡ sets out 0 (take size room)) × (s ≡ sets ends 0 (take width marks))
 Handed scan width room marks out ends o s Not = (o ≡ out) × (s ≡ ends)
 
--- what was scanned has no more bytes than there is room
+-- the scanned values have at most as many bytes as the buffer
 abbrev pub Within : ℕ → Scan → Type 0
 Within room (Whole next size) = size ≤ room
 Within room Broken = Unit {0}

@@ -1,4 +1,4 @@
--- The call that reads a stored row: at a place of a table, a row of so many values.
+-- The call that reads a stored row: a row of `width` values at a place of a table.
 use Prim.Native.Nat.{ℕ, _+_, _-_}
 use lib.Dec.{eqb, leb}
 use mathlib.Core.List.{List, [], _∷_, _++_}
@@ -13,11 +13,11 @@ use Rattle.rowread.specs.declared.ReadAnswer.the-variants.{Stored, End, 
 
 -- ---- the row
 
--- the bytes among which a row may stand that starts at a place: one that goes on behind them is too long, and ends before its LF here
+-- the bytes that a row at a place may have: a row that goes on after them is too long, and has no LF among them
 abbrev pub partAt : List ℕ → ℕ → List ℕ
 partAt table place = take maxRow (drop place table)
 
--- the row of so many values at a place
+-- the row of `width` values at a place
 abbrev pub rowAt : List ℕ → ℕ → ℕ → Csv.Row
 rowAt table width place = Csv.values width (partAt table place)
 
@@ -29,7 +29,7 @@ valuesOf Csv.malformed = []
 abbrev pub valuesAt : List ℕ → ℕ → ℕ → List (List ℕ)
 valuesAt table width place = valuesOf (rowAt table width place)
 
--- ---- what is handed out
+-- ---- the outputs
 
 -- the values joined
 unfoldable pub joined : List (List ℕ) → List ℕ
@@ -41,8 +41,8 @@ unfoldable pub endsOf : ℕ → List (List ℕ) → List ℕ
 endsOf from [] = []
 endsOf from (v ∷ vs) = (from + length v) ∷ endsOf (from + length v) vs
 
--- a row read within n bytes from a place on: 14 where it is malformed; then 9 where the values joined, or their ends, don't fit; else
--- the place behind the row, and how many bytes the values have
+-- a row read within n bytes from a place on: 14 if it is malformed; then 9 if the values joined, or their ends, don't fit; else
+-- the place after the row, and how many bytes the values have
 abbrev pub found : ℕ → ℕ → ℕ → ℕ → Csv.Row → ReadAnswer
 found place n room slots Csv.malformed = Refused Row
 found place n room slots (Csv.row vs rest) =
@@ -57,7 +57,7 @@ readAnswer table width place room slots =
     (pick (eqb place (length table)) End (found place (length (partAt table place)) room slots (rowAt table width place)))
     (Refused Row)
 
--- a lent output after the call: where a row was read, what is handed out at its start, and past that as before; else as before
+-- a lent output after the call: if a row was read, `new` at its start and the rest unchanged; else all unchanged
 abbrev pub after : ReadAnswer → List ℕ → List ℕ → List ℕ
 after (Stored next size) new out = written out 0 new
 after End new out = out

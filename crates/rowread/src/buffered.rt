@@ -1,4 +1,4 @@
-// A row unquoted into a buffer of its own, then copied out whole.
+// A row unquoted into a buffer, then copied to the outputs whole.
 ghost use mathlib.Core.Path.{_≡_};
 ghost use mathlib.Core.Bool.{true};
 ghost use Prim.Native.Nat.{_+_, _-_, _≤_, _<_};
@@ -22,7 +22,7 @@ use csv::LF;
 use csv::MAX_COLUMNS;
 use csv::QUOTE;
 
-// The value behind the opening quote before a place, into room as it is found, byte by byte.
+// Unquotes the value after an opening quote into room, byte by byte.
 fn buffer_bytes(t: &[u8], from: usize, room: &mut [u8], to: usize) -> Piece
     requires { ⌜ (from ≤ length (now t)) × (to + (length (now t) - from) ≤ length (now room)) ⌝ }
     ensures { λ r. ⌜ Took Inner (now (t .entry)) from (now (room .entry)) to (now (room .exit)) r ⌝ }
@@ -47,7 +47,7 @@ fn buffer_bytes(t: &[u8], from: usize, room: &mut [u8], to: usize) -> Piece
     Piece::Bad
 }
 
-// The same, from stop to stop.
+// The same, from delimiter to delimiter.
 fn buffer_runs(t: &[u8], from: usize, room: &mut [u8], to: usize) -> Piece
     requires { ⌜ (from ≤ length (now t)) × (to + (length (now t) - from) ≤ length (now room)) ⌝ }
     ensures { λ r. ⌜ Took Inner (now (t .entry)) from (now (room .entry)) to (now (room .exit)) r ⌝ }
@@ -77,7 +77,7 @@ fn buffer_runs(t: &[u8], from: usize, room: &mut [u8], to: usize) -> Piece
     Piece::Bad
 }
 
-// The value behind the opening quote before a place, into room.
+// Unquotes the value after an opening quote into room.
 fn buffer_inner(t: &[u8], from: usize, room: &mut [u8], to: usize) -> Piece
     requires { ⌜ (from ≤ length (now t)) × (to + (length (now t) - from) ≤ length (now room)) ⌝ }
     ensures { λ r. ⌜ Took Inner (now (t .entry)) from (now (room .entry)) to (now (room .exit)) r ⌝ }
@@ -88,7 +88,7 @@ fn buffer_inner(t: &[u8], from: usize, room: &mut [u8], to: usize) -> Piece
     buffer_bytes(t, from, room, to)
 }
 
-// The value at a place, into room.
+// Copies the value at an offset into room, unquoted.
 fn buffer_field(t: &[u8], from: usize, room: &mut [u8], to: usize) -> Piece
     requires { ⌜ (from ≤ length (now t)) × (to + (length (now t) - from) ≤ length (now room)) ⌝ }
     ensures { λ r. ⌜ Took Field (now (t .entry)) from (now (room .entry)) to (now (room .exit)) r ⌝ }
@@ -103,7 +103,7 @@ fn buffer_field(t: &[u8], from: usize, room: &mut [u8], to: usize) -> Piece
     }
 }
 
-// The values of a row from a place on, into room behind `size` bytes, and their ends into marks behind `count` ends.
+// Copies the values of a row from an offset on into room after `size` bytes, and their ends into marks after `count` ends.
 fn buffer_rest(
     t: &[u8],
     width: usize,
@@ -144,7 +144,7 @@ fn buffer_rest(
     Scan::Broken
 }
 
-// The row of so many values, of which n without quotes stand before e, into room and marks.
+// Copies a row of `width` values into room and marks; n values without quotes are before e.
 fn buffer_row(
     t: &[u8],
     width: usize,
@@ -160,7 +160,7 @@ fn buffer_row(
     buffer_rest(t, width, e, to, n, room, marks)
 }
 
-// The first ends, into ends.
+// Copies the first n ends.
 fn copy_ends(marks: &[usize], n: usize, ends: &mut [usize])
     requires { ⌜ (n ≤ length (now marks)) × (n ≤ length (now ends)) ⌝ }
     ensures { λ _. ⌜ now (ends .exit) ≡ sets (now (ends .entry)) 0 (take n (now (marks .entry))) ⌝ }
@@ -172,7 +172,7 @@ fn copy_ends(marks: &[usize], n: usize, ends: &mut [usize])
     }
 }
 
-// A row out of room and marks, where it fits.
+// Copies a row from room and marks to the outputs, if it fits.
 fn copy_out(
     found: Scan,
     width: usize,
@@ -198,7 +198,7 @@ fn copy_out(
     Fast::Read { next, size }
 }
 
-// The row of so many values, of which n without quotes stand before e, by way of room and marks.
+// Reads a row of `width` values with room and marks as buffers; n values without quotes are before e.
 fn row_through(
     t: &[u8],
     width: usize,
@@ -216,7 +216,7 @@ fn row_through(
     copy_out(found, width, room, marks, out, ends)
 }
 
-// The same, by way of a little room.
+// The same with a buffer of 256 bytes.
 fn with_small_buffer(
     t: &[u8],
     width: usize,
@@ -233,7 +233,7 @@ fn with_small_buffer(
     row_through(t, width, e, n, &mut room, &mut marks, out, ends)
 }
 
-// The same, by way of much.
+// The same with a buffer of 1,024 bytes.
 fn with_large_buffer(
     t: &[u8],
     width: usize,
@@ -250,7 +250,7 @@ fn with_large_buffer(
     row_through(t, width, e, n, &mut room, &mut marks, out, ends)
 }
 
-// Whether a little room will do: an LF or the end is near. Either way gives the same row.
+// Whether to use the small buffer: an LF or the end is within 64 bytes. Both give the same row.
 fn ends_soon(t: &[u8], from: usize) -> bool
     requires { ⌜ from ≤ length (now t) ⌝ }
 {
@@ -261,7 +261,7 @@ fn ends_soon(t: &[u8], from: usize) -> bool
     count_few(&t[from..end], LF) != 0
 }
 
-// The row of so many values, of which n without quotes stand before e, by way of room of our own.
+// Reads a row of `width` values with a buffer; n values without quotes are before e.
 pub(crate) fn with_buffer(
     t: &[u8],
     width: usize,

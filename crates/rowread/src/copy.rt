@@ -1,4 +1,4 @@
-// Values copied out of a row that was scanned, their quotes taken off.
+// Values copied from a row that was scanned, unquoted.
 ghost use mathlib.Core.Path.{_≡_};
 ghost use Prim.Native.Nat.{_+_, _-_, _≤_, _<_};
 ghost use lib.ListN.{length, take, drop};
@@ -12,13 +12,13 @@ use crate::scan::has_few_quotes;
 use crate::scan::is_text;
 use csv::QUOTE;
 
-// Where a value that was copied ends: in the row, and in the output.
+// Where a copied value ends: in the row, and in the output.
 pub(crate) struct Copied {
     pub(crate) next: usize,
     pub(crate) to: usize,
 }
 
-// The value without quotes at a place, into out.
+// Copies the value without quotes at an offset to out.
 pub(crate) fn copy_plain(t: &[u8], from: usize, out: &mut [u8], to: usize) -> Copied
     requires { ⌜ (from ≤ length (now t)) × (to + length (plainValue (drop from (now t))) ≤ length (now out)) ⌝ }
     ensures { λ r. ⌜ (now (out .exit) ≡ sets (now (out .entry)) to (plainValue (drop from (now (t .entry))))) × (r .next ≡ from + length (plainValue (drop from (now (t .entry))))) × (r .to ≡ to + length (plainValue (drop from (now (t .entry))))) ⌝ }
@@ -37,7 +37,7 @@ pub(crate) fn copy_plain(t: &[u8], from: usize, out: &mut [u8], to: usize) -> Co
     Copied { next: i, to: n }
 }
 
-// Bytes of t from a place to another, into out, and where they end there.
+// Copies the bytes of t from one offset to another to out; gives where they end there.
 pub(crate) fn copy_part(t: &[u8], from: usize, end: usize, out: &mut [u8], to: usize) -> usize
     requires { ⌜ (from ≤ end) × (end ≤ length (now t)) × (to + (end - from) ≤ length (now out)) ⌝ }
     ensures { λ r. ⌜ (r ≡ to + (end - from)) × (now (out .exit) ≡ sets (now (out .entry)) to (take (end - from) (drop from (now (t .entry))))) ⌝ }
@@ -52,7 +52,7 @@ pub(crate) fn copy_part(t: &[u8], from: usize, end: usize, out: &mut [u8], to: u
     n
 }
 
-// The value behind the opening quote before a place, into out, byte by byte.
+// Unquotes the value after an opening quote to out, byte by byte.
 fn copy_bytes(t: &[u8], from: usize, out: &mut [u8], to: usize) -> Copied
     requires { ⌜ (from ≤ length (now t)) × IsGot (inner (drop from (now t))) × (to + length (valueOf (inner (drop from (now t)))) ≤ length (now out)) ⌝ }
     ensures { λ r. ⌜ (now (out .exit) ≡ sets (now (out .entry)) to (valueOf (inner (drop from (now (t .entry)))))) × (r .next ≡ length (now (t .entry)) - length (restOf (inner (drop from (now (t .entry)))))) × (r .to ≡ to + length (valueOf (inner (drop from (now (t .entry)))))) ⌝ }
@@ -74,7 +74,7 @@ fn copy_bytes(t: &[u8], from: usize, out: &mut [u8], to: usize) -> Copied
     Copied { next: p, to: n }
 }
 
-// The same, from stop to stop.
+// The same, from delimiter to delimiter.
 fn copy_runs(t: &[u8], from: usize, out: &mut [u8], to: usize) -> Copied
     requires { ⌜ (from ≤ length (now t)) × IsGot (inner (drop from (now t))) × (to + length (valueOf (inner (drop from (now t)))) ≤ length (now out)) ⌝ }
     ensures { λ r. ⌜ (now (out .exit) ≡ sets (now (out .entry)) to (valueOf (inner (drop from (now (t .entry)))))) × (r .next ≡ length (now (t .entry)) - length (restOf (inner (drop from (now (t .entry)))))) × (r .to ≡ to + length (valueOf (inner (drop from (now (t .entry)))))) ⌝ }
@@ -98,7 +98,7 @@ fn copy_runs(t: &[u8], from: usize, out: &mut [u8], to: usize) -> Copied
     Copied { next: p, to: n }
 }
 
-// The value behind the opening quote before a place, into out.
+// Unquotes the value after an opening quote to out.
 fn copy_inner(t: &[u8], from: usize, out: &mut [u8], to: usize) -> Copied
     requires { ⌜ (from ≤ length (now t)) × IsGot (inner (drop from (now t))) × (to + length (valueOf (inner (drop from (now t)))) ≤ length (now out)) ⌝ }
     ensures { λ r. ⌜ (now (out .exit) ≡ sets (now (out .entry)) to (valueOf (inner (drop from (now (t .entry)))))) × (r .next ≡ length (now (t .entry)) - length (restOf (inner (drop from (now (t .entry)))))) × (r .to ≡ to + length (valueOf (inner (drop from (now (t .entry)))))) ⌝ }
@@ -109,7 +109,7 @@ fn copy_inner(t: &[u8], from: usize, out: &mut [u8], to: usize) -> Copied
     copy_bytes(t, from, out, to)
 }
 
-// The value at a place, into out.
+// Copies the value at an offset to out, unquoted.
 fn copy_field(t: &[u8], from: usize, out: &mut [u8], to: usize) -> Copied
     requires { ⌜ (from ≤ length (now t)) × IsGot (fieldAt (drop from (now t))) × (to + length (valueOf (fieldAt (drop from (now t)))) ≤ length (now out)) ⌝ }
     ensures { λ r. ⌜ (now (out .exit) ≡ sets (now (out .entry)) to (valueOf (fieldAt (drop from (now (t .entry)))))) × (r .next ≡ length (now (t .entry)) - length (restOf (fieldAt (drop from (now (t .entry)))))) × (r .to ≡ to + length (valueOf (fieldAt (drop from (now (t .entry)))))) ⌝ }
@@ -120,7 +120,7 @@ fn copy_field(t: &[u8], from: usize, out: &mut [u8], to: usize) -> Copied
     copy_plain(t, from, out, to)
 }
 
-// The values of the row at the front, and their ends.
+// Copies the values of the row at the start of t, and their ends.
 pub(crate) fn copy_row(t: &[u8], width: usize, out: &mut [u8], ends: &mut [usize])
     requires { ⌜ IsRow (values width (now t)) × (length (joined (valuesOf (values width (now t)))) ≤ length (now out)) × (width ≤ length (now ends)) ⌝ }
     ensures { λ _. ⌜ (now (out .exit) ≡ sets (now (out .entry)) 0 (joined (valuesOf (values width (now (t .entry)))))) × (now (ends .exit) ≡ sets (now (ends .entry)) 0 (endsOf 0 (valuesOf (values width (now (t .entry)))))) ⌝ }

@@ -15,13 +15,13 @@ use crate::scan::delimiter_from;
 use csv::LF;
 use csv::QUOTE;
 
-// What a quick way found of a row: its values were handed out, or nothing was.
+// What a fast path did: the values are written, or nothing is.
 pub(crate) enum Fast {
     Read { next: usize, size: usize },
     Not,
 }
 
-// A row whose first stop, at e, is a quote.
+// A row whose first delimiter, at e, is a quote.
 fn fast_quoted(t: &[u8], width: usize, e: usize, out: &mut [u8], ends: &mut [usize]) -> Fast
     requires { ⌜ (length (now t) ≤ maxRow) × (e ≡ length (lineOf (now t))) × (getD (now t) e 0 ≡ quote) ⌝ }
     ensures { λ r. ⌜ Quickly (now (t .entry)) width (now (out .entry)) (now (ends .entry)) (now (out .exit)) (now (ends .exit)) r ⌝ }
@@ -42,7 +42,7 @@ fn fast_quoted(t: &[u8], width: usize, e: usize, out: &mut [u8], ends: &mut [usi
     with_buffer(t, width, e, n, out, ends)
 }
 
-// A row whose first stop, at e, is its LF.
+// A row whose first delimiter, at e, is its LF.
 fn fast_line(t: &[u8], width: usize, e: usize, out: &mut [u8], ends: &mut [usize]) -> Fast
     requires { ⌜ (length (now t) ≤ maxRow) × (e ≡ length (lineOf (now t))) × (getD (now t) e 0 ≡ lineFeed) ⌝ }
     ensures { λ r. ⌜ Quickly (now (t .entry)) width (now (out .entry)) (now (ends .entry)) (now (out .exit)) (now (ends .exit)) r ⌝ }
@@ -64,7 +64,7 @@ fn fast_line(t: &[u8], width: usize, e: usize, out: &mut [u8], ends: &mut [usize
     Fast::Not
 }
 
-// The row of so many values at the front, where it is read quickly.
+// Reads the row of `width` values at the start of t, if a fast path can.
 pub(crate) fn fast_row(t: &[u8], width: usize, out: &mut [u8], ends: &mut [usize]) -> Fast
     requires { ⌜ length (now t) ≤ maxRow ⌝ }
     ensures { λ r. ⌜ Quickly (now (t .entry)) width (now (out .entry)) (now (ends .entry)) (now (out .exit)) (now (ends .exit)) r ⌝ }

@@ -1,4 +1,4 @@
-// A stored row is read, by RFC 4180. Nothing is handed out before the whole row was gone through, so that a refusal leaves the outputs alone.
+// Reads a stored row by RFC 4180. Nothing is written before the whole row is read, so that a refusal leaves the outputs unchanged.
 mod buffered;
 mod copy;
 mod fast;
@@ -19,14 +19,14 @@ use csv::MAX_ROW;
 use refusal::Refusal;
 
 pub enum ReadAnswer {
-    // The values, joined, stand in the first size bytes, and the next row starts at next.
+    // The values, joined, are in the first size bytes, and the next row starts at next.
     Stored { next: usize, size: usize },
     // The table's end: no row.
     End,
     Refused(Refusal),
 }
 
-// The row of so many values at a place of a table: its values, joined, into out, and where each ends into ends.
+// Reads the row of `width` values at a place of a table: its values, joined, to out, and where each ends to ends.
 pub fn read_row(
     table: &[u8],
     width: usize,

@@ -14,7 +14,7 @@ use csv::COMMA;
 use csv::LF;
 use csv::QUOTE;
 
-// How many commas there are among a few bytes.
+// How many of at most 64 bytes are commas.
 fn count_few_commas(v: &[u8]) -> u8
     requires { ⌜ length (now v) ≤ 64 ⌝ }
     ensures { λ r. ⌜ r ≡ commasIn (now (v .entry)) ⌝ }
@@ -30,7 +30,7 @@ fn count_few_commas(v: &[u8]) -> u8
     n
 }
 
-// How many commas there are.
+// How many bytes are commas.
 pub(crate) fn count_commas(v: &[u8]) -> usize
     requires { ⌜ length (now v) ≤ maxRow ⌝ }
     ensures { λ r. ⌜ r ≡ commasIn (now (v .entry)) ⌝ }
@@ -45,7 +45,7 @@ pub(crate) fn count_commas(v: &[u8]) -> usize
     n + count_few_commas(&v[i..v.len()]) as usize
 }
 
-// The values of bytes v without quotes, into out, and the ends of those that a comma follows; how many bytes they have.
+// Copies the values of bytes without quotes to out, and the ends of those that a comma follows; gives how many bytes they have.
 pub(crate) fn copy_before(v: &[u8], out: &mut [u8], ends: &mut [usize]) -> usize
     requires { ⌜ (length (textIn (now v)) ≤ length (now out)) × (commasIn (now v) ≤ length (now ends)) ⌝ }
     ensures { λ r. ⌜ (r ≡ length (textIn (now (v .entry)))) × (now (out .exit) ≡ sets (now (out .entry)) 0 (textIn (now (v .entry)))) × (now (ends .exit) ≡ sets (now (ends .entry)) 0 (cutsIn 0 (now (v .entry)))) ⌝ }
@@ -67,7 +67,7 @@ pub(crate) fn copy_before(v: &[u8], out: &mut [u8], ends: &mut [usize]) -> usize
     n
 }
 
-// The values of a row without quotes, whose bytes are v, and their ends.
+// Copies the values of a row without quotes, whose bytes are v, and their ends.
 pub(crate) fn copy_line(v: &[u8], out: &mut [u8], ends: &mut [usize])
     requires { ⌜ (length (textIn (now v)) ≤ length (now out)) × (commasIn (now v) < length (now ends)) ⌝ }
     ensures { λ _. ⌜ (now (out .exit) ≡ sets (now (out .entry)) 0 (textIn (now (v .entry)))) × (now (ends .exit) ≡ sets (now (ends .entry)) 0 (marksIn 0 (now (v .entry)))) ⌝ }
@@ -77,7 +77,7 @@ pub(crate) fn copy_line(v: &[u8], out: &mut [u8], ends: &mut [usize])
     ends[k] = n;
 }
 
-// Whether the bytes before a place are none or end in a comma.
+// Whether offset e is at the start or after a comma.
 pub(crate) fn after_comma(t: &[u8], e: usize) -> bool
     requires { ⌜ e ≤ length (now t) ⌝ }
     ensures { λ r. ⌜ (r ≡ true → (e ≡ 0 → ⊥) → getD (now (t .entry)) (e - 1) 0 ≡ comma) ⌝ }
@@ -88,7 +88,7 @@ pub(crate) fn after_comma(t: &[u8], e: usize) -> bool
     t[e - 1] == COMMA
 }
 
-// Where the value is closed whose opening quote stands at e, if it has no stop inside and ends the row; else 0.
+// Where the value whose opening quote is at e is closed, if it has no delimiter inside and ends the row; else 0.
 pub(crate) fn closing_quote(t: &[u8], e: usize) -> usize
     requires { ⌜ e < length (now t) ⌝ }
     ensures { λ r. ⌜ ((r ≡ 0 → ⊥) → Closes (now (t .entry)) e r) ⌝ }
@@ -102,7 +102,7 @@ pub(crate) fn closing_quote(t: &[u8], e: usize) -> usize
     0
 }
 
-// A row of n values without quotes and a last one that starts at e and is closed at c.
+// Reads a row of n values without quotes and a last one whose opening quote is at e and closing quote at c.
 pub(crate) fn last_quoted(
     t: &[u8],
     e: usize,

@@ -10,33 +10,33 @@ use csv::COMMA;
 use csv::LF;
 use csv::QUOTE;
 
-// A value of size bytes; next is the place of what follows it.
+// A value of size bytes; next is the offset after it.
 pub(crate) enum Piece {
     Value { next: usize, size: usize },
     Bad,
 }
 
-// A row whose values have size bytes; next is the place of what follows it.
+// A row whose values have size bytes; next is the offset after it.
 pub(crate) enum Scan {
     Whole { next: usize, size: usize },
     Broken,
 }
 
-// The byte at a place, 0 past the end.
+// The byte at an index, 0 past the end.
 pub(crate) fn byte_at(s: &[u8], i: usize) -> u8
     ensures { λ r. ⌜ r ≡ getD (now (s .entry)) i 0 ⌝ }
 {
     if i < s.len() { s[i] } else { 0 }
 }
 
-// May stand in a field without quotes.
+// Whether a byte may be in a field without quotes.
 pub(crate) fn is_text(b: u8) -> bool
     ensures { λ r. ⌜ r ≡ isText b ⌝ }
 {
     !((b == QUOTE) | ((b == COMMA) | (b == LF)))
 }
 
-// Where the value without quotes ends that starts at a place.
+// The end of the value without quotes at an offset.
 fn plain_end(t: &[u8], from: usize) -> usize
     requires { ⌜ from ≤ length (now t) ⌝ }
     ensures { λ r. ⌜ r ≡ from + length (plainValue (drop from (now (t .entry)))) ⌝ }
@@ -51,14 +51,14 @@ fn plain_end(t: &[u8], from: usize) -> usize
     i
 }
 
-// A byte before which a row without quotes stops: LF, where it ends, or a quote.
+// Whether a byte is a delimiter, before which a line without quotes ends: a quote or LF.
 fn is_delimiter(b: u8) -> bool
     ensures { λ r. ⌜ r ≡ isStop b ⌝ }
 {
     (b == QUOTE) | (b == LF)
 }
 
-// Where at most so many bytes end from a place on.
+// The end of the bytes from i on, at most `most`.
 pub(crate) fn end_within(len: usize, i: usize, most: usize) -> usize
     requires { ⌜ i ≤ len ⌝ }
     ensures { λ r. ⌜ r ≡ i + min most (len - i) ⌝ }
@@ -78,7 +78,7 @@ fn least(a: u8, b: u8) -> u8
     if a < b { a } else { b }
 }
 
-// Where the first stop stands among a few bytes, or 32: the least place, which is found for many bytes at once.
+// The index of the first delimiter of at most 32 bytes, or 32. It is taken as the least index, so that many are tested at once.
 fn first_delimiter(v: &[u8]) -> u8
     requires { ⌜ length (now v) ≤ 32 ⌝ }
     ensures { λ r. ⌜ FirstStop (now (v .entry)) r ⌝ }
@@ -92,7 +92,7 @@ fn first_delimiter(v: &[u8]) -> u8
     n
 }
 
-// Where the first stop stands from a place on, or the end.
+// The offset of the first delimiter from an offset on, or the end.
 pub(crate) fn delimiter_from(t: &[u8], from: usize) -> usize
     requires { ⌜ from ≤ length (now t) ⌝ }
     ensures { λ r. ⌜ r ≡ from + length (lineOf (drop from (now (t .entry)))) ⌝ }
@@ -109,7 +109,7 @@ pub(crate) fn delimiter_from(t: &[u8], from: usize) -> usize
     i
 }
 
-// How often a byte stands among a few, at most as often as there are.
+// How many of at most 64 bytes are b; the contract only bounds it.
 pub(crate) fn count_few(v: &[u8], b: u8) -> u8
     requires { ⌜ length (now v) ≤ 64 ⌝ }
     ensures { λ r. ⌜ r ≤ length (now (v .entry)) ⌝ }
@@ -125,7 +125,7 @@ pub(crate) fn count_few(v: &[u8], b: u8) -> u8
     n
 }
 
-// Whether to go from stop to stop: no quote is near. Either way gives the same value.
+// Whether to read from delimiter to delimiter: the next 16 bytes have no quote. Both give the same value.
 pub(crate) fn has_few_quotes(t: &[u8], from: usize) -> bool
     requires { ⌜ from ≤ length (now t) ⌝ }
 {
@@ -136,7 +136,7 @@ pub(crate) fn has_few_quotes(t: &[u8], from: usize) -> bool
     count_few(&t[from..end], QUOTE) == 0
 }
 
-// The value behind the opening quote before a place, byte by byte.
+// The value after an opening quote, byte by byte.
 fn inner_bytes(t: &[u8], from: usize) -> Piece
     requires { ⌜ from ≤ length (now t) ⌝ }
     ensures { λ r. ⌜ r ≡ pieceOf (length (now (t .entry))) (inner (drop from (now (t .entry)))) ⌝ }
@@ -156,7 +156,7 @@ fn inner_bytes(t: &[u8], from: usize) -> Piece
     Piece::Bad
 }
 
-// The same, from stop to stop.
+// The same, from delimiter to delimiter.
 fn inner_runs(t: &[u8], from: usize) -> Piece
     requires { ⌜ from ≤ length (now t) ⌝ }
     ensures { λ r. ⌜ r ≡ pieceOf (length (now (t .entry))) (inner (drop from (now (t .entry)))) ⌝ }
@@ -181,7 +181,7 @@ fn inner_runs(t: &[u8], from: usize) -> Piece
     Piece::Bad
 }
 
-// The value behind the opening quote before a place.
+// The value after an opening quote.
 fn inner_end(t: &[u8], from: usize) -> Piece
     requires { ⌜ from ≤ length (now t) ⌝ }
     ensures { λ r. ⌜ r ≡ pieceOf (length (now (t .entry))) (inner (drop from (now (t .entry)))) ⌝ }
@@ -192,7 +192,7 @@ fn inner_end(t: &[u8], from: usize) -> Piece
     inner_bytes(t, from)
 }
 
-// The value at a place.
+// The value at an offset.
 fn scan_field(t: &[u8], from: usize) -> Piece
     requires { ⌜ from ≤ length (now t) ⌝ }
     ensures { λ r. ⌜ r ≡ pieceOf (length (now (t .entry))) (fieldAt (drop from (now (t .entry)))) ⌝ }
@@ -207,7 +207,7 @@ fn scan_field(t: &[u8], from: usize) -> Piece
     }
 }
 
-// How many bytes of row end stand at a place; 0 for none.
+// How many bytes the row end at an offset has, 0 if there is none.
 fn row_end(t: &[u8], i: usize) -> usize
     requires { ⌜ i ≤ length (now t) ⌝ }
     ensures { λ r. ⌜ r ≡ rowEnd (drop i (now (t .entry))) ⌝ }
@@ -215,7 +215,7 @@ fn row_end(t: &[u8], i: usize) -> usize
     if byte_at(t, i) == LF { 1 } else { 0 }
 }
 
-// The row of so many values at the front.
+// The row of `width` values at the start of t.
 pub(crate) fn scan_row(t: &[u8], width: usize) -> Scan
     ensures { λ r. ⌜ r ≡ scanOf width (now (t .entry)) ⌝ }
 {
