@@ -52,7 +52,7 @@ abbrev pub orElse : Validated → Loaded → Loaded
 orElse (Good b) other = Found b
 orElse (Refused r) other = other
 
--- load: the first one to pass is given; only 1 is refused
+-- load: the first bank to pass is given; the only refusal is 1
 unfoldable pub loaded : List ℕ → Loaded
 loaded region =
     pick (eqb (length region) regionSize)

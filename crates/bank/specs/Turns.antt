@@ -19,7 +19,7 @@ use Rattle.bank.specs.declared.turns.Progress.the-variants.{Hashed, Yes,
 use Rattle.bank.specs.declared.turns.Turn.{Turn}
 use Rattle.bank.specs.Bank.{named, validated, dataIn}
 
--- a refusal, and a verdict, give back the state
+-- the answer p with the state s; a refusal and a verdict leave the state unchanged
 abbrev pub stays : Checking → Progress → Turn
 stays s p = record { progress = p; next = s }
 
@@ -73,7 +73,7 @@ turned region s n =
     (stays s (Refused OutOfTurn)))
     (stays s (Refused Region))
 
--- turn after turn: the state then, and the sum of the reported numbers
+-- after turns of these numbers of bytes: the state, and the sum of the reported numbers
 unfoldable pub after : List ℕ → Checking → List ℕ → Checking
 after region s [] = s
 after region s (n ∷ ns) = after region (turned region s n .next) ns
@@ -87,7 +87,7 @@ unfoldable pub total : List ℕ → Checking → List ℕ → ℕ
 total region s [] = 0
 total region s (n ∷ ns) = reported (turned region s n .progress) + total region (turned region s n .next) ns
 
--- what validate says, as a turn says it
+-- validate's answer as a turn's
 abbrev pub asVerdict : Validated → Progress
 asVerdict (Good b) = Yes
 asVerdict (Bad r) = Refused r

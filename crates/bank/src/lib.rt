@@ -23,7 +23,7 @@ pub enum Loaded {
     Refused(Refusal),
 }
 
-// What a call that names a bank tests first.
+// Tests a bank that a call names by number: 1, 2, then 3 to 6.
 pub fn header(region: &[u8], number: u32) -> Validated
     ensures { λ r. ⌜ r ≡ Banks.named (now (region .entry)) number ⌝ }
 {
@@ -52,7 +52,7 @@ fn data_ok(region: &[u8], b: Bank) -> bool
     crc32(0, d) == b.crc
 }
 
-// A bank's header and data tested.
+// Tests a bank's header and data: 1, 2, then 3 to 7.
 pub fn validate(region: &[u8], number: u32) -> Validated
     ensures { λ r. ⌜ r ≡ Banks.validated (now (region .entry)) number ⌝ }
 {

@@ -16,14 +16,14 @@ ghost use Prim.Native.Nat.{_-_, _≤_, min};
 use region::CAPACITY_32;
 use region::REGION_SIZE;
 
-// How far data checking is on a bank.
+// The state of data checking on a bank.
 pub struct Checking {
     pub bank: u32,
     pub position: u32,
     pub crc: u32,
 }
 
-// What a turn says: how many bytes it hashed, or the verdict.
+// A turn's answer: how many bytes it hashed, or the verdict.
 pub enum Progress {
     Hashed(u32),
     Yes,

@@ -41,7 +41,7 @@ dueOps region w = pick (eqb (length region) regionSize && inRange w) (opsOf (w .
 unfoldable pub dueRegion : List ℕ → Writer → List ℕ
 dueRegion region w = performed (target (w .beginning .active)) (dueOps region w) region
 
--- Comparing: whether the tail's bytes are other than the active bank's at that place, or go past its data.
+-- comparing: the tail's bytes differ from the active bank's at the same offset, or go past its data
 unfoldable pub differs : List ℕ → Loaded → Taken → List ℕ → Bool
 differs region (Found b) t tail =
     not (leb (position t) (b .length)) || not (same (take (t .fill) (drop (sectorSize + t .written) (bankOf region (b .number)))) (take (t .fill) tail))
@@ -58,7 +58,7 @@ withStage w s = record { stage = s; beginning = w .beginning; taken = w .taken; 
 abbrev pub withEmptied : Writer → Bool → Writer
 withEmptied w d = record { stage = Idle; beginning = w .beginning; taken = emptied (w .taken) d; tables = w .tables; sources = w .sources; tail = w .tail }
 
--- the state after the operation: after the header sector's erase the data's first one is due, after an erase the write
+-- the state after the operation: after the erase of the header sector that of the first data sector is due, after another the write
 unfoldable pub operated : List ℕ → Writer → Operation → Writer
 operated region w (Erase k) = withStage w (Due (pick (eqb k 0) (dataDue (w .taken)) (writeDue (w .taken))))
 operated region w (Write a n) = withEmptied w (w .taken .different)

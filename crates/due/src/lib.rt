@@ -1,4 +1,4 @@
-// The lower layer's due call: one erase, write or comparison, or none is due.
+// The lower layer's due call: does one erase, write or comparison, or answers that none is due.
 ghost use mathlib.Core.Path.{_≡_};
 ghost use mathlib.Core.Bool.{true};
 ghost use mathlib.Core.List.{List, [], _++_};
@@ -45,7 +45,7 @@ use writer::parts_stay;
 use writer::step_with;
 use writer::target;
 
-// The tail's first n bytes, and 255 behind them.
+// The tail's first n bytes, and 255 after them.
 fn filled(tail: [u8; TAIL_SIZE], n: usize) -> [u8; TAIL_SIZE]
     requires { ⌜ n ≤ tailSize ⌝ }
     ensures { λ r. ⌜ r ≡ take n tail ++ fill 255 (tailSize - n) ⌝ }
@@ -59,7 +59,7 @@ fn filled(tail: [u8; TAIL_SIZE], n: usize) -> [u8; TAIL_SIZE]
     t
 }
 
-// n, made a multiple of 4.
+// n rounded up to a multiple of 4.
 fn padded_length(n: usize) -> usize
     requires { ⌜ n ≤ tailSize ⌝ }
     ensures { λ r. ⌜ (r ≡ n + (4 - n % 4) % 4) × (r ≤ tailSize) ⌝ }
@@ -67,7 +67,7 @@ fn padded_length(n: usize) -> usize
     n + (4 - n % 4) % 4
 }
 
-// Writes the tail's first n bytes, padded, at a place of the data.
+// Writes the tail's first n bytes, padded, at an offset of the data.
 fn write_tail(region: &mut [u8], bank: u32, tail: [u8; TAIL_SIZE], a: u32, n: u32)
     requires { ⌜ n ≤ tailSize ⌝ }
     ensures { λ _. ⌜ now (region .exit) ≡ writtenIn (now (region .entry)) bank (sectorSize + a) (Due.padded (take n tail)) ⌝ }
@@ -123,7 +123,7 @@ fn with_emptied(p: Parts, different: bool) -> Parts
     }
 }
 
-// What is due after an erase.
+// The operation that is due after an erase.
 fn next_due(t: Taken, sector: u32) -> Operation
     ensures { λ r. ⌜ r ≡ pick (eqb sector 0) (State.dataDue t) (State.writeDue t) ⌝ }
 {
@@ -234,7 +234,7 @@ fn do_due(p: Parts, region: &mut [u8]) -> PartsStep
     parts_stay(p, Refusal::Region)
 }
 
-// Does the operation that is due, one a call. What it leaves as it was is taken from p itself, which saves copies of it.
+// Does the operation that is due, one a call. Parts that it leaves unchanged come from p itself, which saves copies.
 pub fn due_parts(p: Parts, region: &mut [u8]) -> PartsStep
     ensures { λ r. ⌜ ((ss : List Source) → (stepWith r ss ≡ Due.dueStep (now (region .entry)) (withSources p ss)) × (now (region .exit) ≡ Due.dueRegion (now (region .entry)) (withSources p ss))) ⌝ }
 {

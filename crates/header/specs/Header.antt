@@ -50,7 +50,7 @@ recordsOffset = 48
 abbrev pub headerSize : ℕ
 headerSize = recordsOffset + maxSources * recordSize
 
--- the record of a version at a place, and the first n records
+-- the record of a version at an offset, and the first n records
 unfoldable pub recordAt : ℕ → List ℕ → ℕ → Source
 recordAt v l at = decoded v (drop at l)
 
@@ -110,7 +110,7 @@ sourceOk b s = datesOk s && (leb (s .present) 255 && (updatedOk (b .checked) (s 
 unfoldable pub judge : Bank → List Source → Validated
 judge b ss = pick (spanOk b) (pick (each (sourceOk b) ss) (Good b) (Refused BadSource)) (Refused Span)
 
--- 3 to 6: what a bank's bytes say before the data are looked at
+-- 3 to 6: the tests of a bank that don't read its data
 unfoldable pub headerOf : ℕ → List ℕ → Validated
 headerOf n l =
     pick (marked l)

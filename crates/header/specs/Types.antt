@@ -1,4 +1,4 @@
--- What the types of a bank's numbers and of its records say of their values: all that a program holds are so.
+-- What the types of a bank's numbers and records say of their values. It holds of all of them in a program.
 use mathlib.Core.List.{List}
 use Prim.Native.Nat.{ℕ, _<_}
 use mir.Syntax.{w64}
@@ -8,7 +8,7 @@ use Rattle.record.specs.declared.Source.{Source}
 use Rattle.record.specs.Types.{U32, Sized, Ranged}
 use Rattle.header.specs.declared.Bank.{Bank}
 
--- every number of a list is a byte's
+-- every number of a list is below 256
 abbrev pub Bytes : List ℕ → Type 0
 Bytes l = (k : ℕ) → byte l k < 256
 

@@ -33,7 +33,7 @@ recordBytes ss = puts sourceBytes ss ++ fill 0 ((maxSources - length ss) * recor
 unfoldable pub crcOf : Bank → List Source → ℕ
 crcOf b ss = crc32 0 (numberBytes b ++ (fill 0 (recordsOffset - crcOffset) ++ recordBytes ss))
 
--- the header, with four bytes in the commit word's place
+-- the header, with `word` as its commit word
 unfoldable pub headerBytes : Bank → List Source → List ℕ → List ℕ
 headerBytes b ss word = numberBytes b ++ (le32 (crcOf b ss) ++ (word ++ recordBytes ss))
 

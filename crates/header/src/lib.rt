@@ -1,4 +1,4 @@
-// A bank's header: its numbers and records, and the tests that need no data.
+// A bank's header: its numbers and records, and the tests that don't read the data.
 pub mod write;
 
 ghost use mathlib.Core.Path.{_≡_};
@@ -53,7 +53,7 @@ pub const MAGIC: u32 = 0x43465454;
 
 pub const COMMIT_WORD: u32 = 0x434f4d54;
 
-// What the first write of a header has in the commit word.
+// The commit word as the first write of a header has it.
 pub const BLANK_WORD: u32 = 0xffffffff;
 
 // A bank's numbers; `key` is the key's length.
@@ -116,7 +116,7 @@ fn is_sealed(b: &[u8]) -> bool
     get(b, CRC_OFFSET) == header_crc(b, size)
 }
 
-// Lengths, count and checked time.
+// Whether lengths, count and checked time pass 5.
 pub fn span_ok(b: Bank) -> bool
     ensures { λ r. ⌜ r ≡ spanOk b ⌝ }
 {
@@ -156,7 +156,7 @@ fn blocks_ok(b: Bank, ts: [Block; TABLES]) -> bool
     ok
 }
 
-// Dates, present bits, updated time and blocks of a source.
+// Whether dates, present bits, updated time and blocks of a source pass 6.
 pub fn source_ok(b: Bank, s: Source) -> bool
     ensures { λ r. ⌜ r ≡ sourceOk b s ⌝ }
 {
@@ -165,7 +165,7 @@ pub fn source_ok(b: Bank, s: Source) -> bool
         & ((s.present <= 255) & (updated_ok(b.checked, s.updated) & blocks_ok(b, ts)))
 }
 
-// The record of a version at a place of a bank.
+// The record of a version at an offset of a bank.
 pub fn record_at(b: &[u8], version: u32, at: usize) -> Source
     ensures { λ r. ⌜ r ≡ recordAt version (now (b .entry)) at ⌝ }
 {
@@ -173,7 +173,7 @@ pub fn record_at(b: &[u8], version: u32, at: usize) -> Source
     decode(rest, version)
 }
 
-// The first n records.
+// Whether the first n records pass 6.
 fn records_ok(l: &[u8], b: Bank, n: usize) -> bool
     requires { ⌜ n ≤ 3 ⌝ }
     ensures { λ r. ⌜ r ≡ each (sourceOk b) (recordsOf (b .version) (now (l .entry)) n) ⌝ }
@@ -191,7 +191,7 @@ fn records_ok(l: &[u8], b: Bank, n: usize) -> bool
     ok
 }
 
-// What a bank's bytes say before the data are looked at.
+// The tests of a bank that don't read its data: refusals 3 to 6.
 pub fn header_of(l: &[u8], number: u32) -> Validated
     ensures { λ r. ⌜ r ≡ headerOf number (now (l .entry)) ⌝ }
 {

@@ -81,7 +81,7 @@ fn put_second(out: &mut [u8], b: Bank)
     put_time(out, 32, b.checked);
 }
 
-// The arrays of a record have their lengths.
+// Does nothing: its contract says that the arrays of a record have their lengths.
 fn have_lengths(
     original: [u32; ORIGINAL_WORDS],
     tables: [Block; TABLES],
@@ -103,7 +103,7 @@ fn is_sized(s: Source)
     have_lengths(original, tables, stamp, id, validator);
 }
 
-// The first n records, one after the other.
+// Writes the first n records, one after the other.
 fn put_records(out: &mut [u8], ss: [Source; SOURCES], n: usize)
     requires { ⌜ (n ≤ 3) × (length (now out) ≡ headerSize) ⌝ }
     ensures { λ _. ⌜ (now (out .exit) ≡ sets (now (out .entry)) 48 (puts sourceBytes (take n ss))) × (length (puts sourceBytes (take n ss)) ≡ n * 384) × (length ss ≡ 3) ⌝ }

@@ -1,4 +1,4 @@
--- A source's record: 01's 'Versions 1, 2, 3 have three records ..'.
+-- A source's record: 01, "Versions 1, 2, 3 have three records ..".
 use mathlib.Core.List.{List, _∷_, _++_}
 use Prim.Native.Nat.{ℕ, _+_, _*_, _-_}
 use lib.Dec.{ltb}
@@ -18,7 +18,7 @@ currentVersion = 3
 abbrev pub recordSize : ℕ
 recordSize = 384
 
--- bytes of the fields that are carried raw; a validator is a length byte, at most 64 bytes and one more
+-- bytes of the fields that are "carried raw"; a validator is a length byte, a kind byte and 64 bytes
 abbrev pub stampSize : ℕ
 stampSize = 12
 
@@ -31,7 +31,7 @@ validatorSize = 66
 abbrev pub maxValidator : ℕ
 maxValidator = 64
 
--- the table of versions: bytes of a record, and tables
+-- by version: the bytes of a record, and how many tables it has
 abbrev pub sourceSize : ℕ → ℕ
 sourceSize v = pick (ltb v 2) 160 (pick (ltb v 3) 352 recordSize)
 
@@ -46,7 +46,7 @@ blockAt l at = record { offset = word l at; length = word l (at + 4); crc = word
 abbrev pub noBlock : Block
 noBlock = record { offset = 0; length = 0; crc = 0 }
 
--- zeros: what stands where there is no source
+-- all zeros: used where there is no source
 unfoldable pub noSource : Source
 noSource =
     record {
@@ -78,11 +78,11 @@ sourceOf n l =
       validator = many byte 1 l (n * 20 + 113) validatorSize;
     }
 
--- the record of a version that stands first in l
+-- the record of a version at the start of l
 unfoldable pub decoded : ℕ → List ℕ → Source
 decoded v l = sourceOf (tableCount v) (take (sourceSize v) l)
 
--- a record as written: the bytes before the tables, the tables, what is after them, and zeros
+-- a record as written: the fields before the tables, the tables, the fields after them, and zeros
 unfoldable pub headBytes : Source → List ℕ
 headBytes s = le32 (s .start) ++ (le32 (s .end) ++ (le32 (s .present) ++ le64 (s .updated)))
 

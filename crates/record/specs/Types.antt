@@ -1,4 +1,4 @@
--- What the types of a record's fields say of its values: every record that a program holds is so.
+-- What the types of a record's fields say of its values. It holds of every record in a program.
 use mathlib.Core.Path.{_≡_}
 use mathlib.Core.List.{List, [], _∷_}
 use Prim.Native.Nat.{ℕ, _<_, _^_}
@@ -8,7 +8,7 @@ use mir.Val.{SFits}
 use Rattle.record.specs.declared.Block.{Block}
 use Rattle.record.specs.declared.Source.{Source}
 
--- P of each
+-- P holds of every element
 unfoldable pub All : {A : Type 0} → (A → Type 0) → List A → Type 0
 All P [] = Unit {0}
 All P (x ∷ xs) = P x × All P xs

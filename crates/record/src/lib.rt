@@ -30,7 +30,7 @@ use leaf::bytes::get8;
 use leaf::bytes::put;
 use leaf::bytes::put_time;
 
-// A record's arrays.
+// Sizes of a record's arrays.
 
 pub const ORIGINAL_WORDS: usize = 2 * TABLES;
 
@@ -44,7 +44,7 @@ pub const VALIDATOR_SIZE: usize = 66;
 pub const MAX_ID: u8 = ID_SIZE as u8;
 
 pub const MAX_VALIDATOR: u8 = 64;
-// A record of the version that is written, and that version.
+// The size of a record of the version that is written, and that version.
 pub const RECORD_SIZE: usize = 384;
 
 pub const VERSION: u32 = 3;
@@ -120,7 +120,7 @@ fn table_count(version: u32) -> usize
     if version < 3 { 7 } else { TABLES }
 }
 
-// The first n bytes, all where there are fewer.
+// The first n bytes, all if there are fewer.
 fn first(b: &[u8], n: usize) -> &[u8]
     ensures { λ r. ⌜ now r ≡ take n (now (b .entry)) ⌝ }
 {
@@ -130,7 +130,7 @@ fn first(b: &[u8], n: usize) -> &[u8]
     &b[0..b.len()]
 }
 
-// The 32-bit number at a place, in one load where all of it is there.
+// The 32-bit number at an offset, in one load if all of it is there.
 fn word_at(r: &[u8], at: usize) -> u32
     ensures { λ x. ⌜ x ≡ word (now (r .entry)) at ⌝ }
 {
@@ -187,7 +187,7 @@ fn blocks_at(r: &[u8], at: usize, n: usize) -> [Block; TABLES]
     t
 }
 
-// The first n bytes of out become those of s from a place on, which are there.
+// Copies n bytes of s from an offset on to the start of out; all of them are there.
 fn copy_there(out: &mut [u8], s: &[u8], at: usize, n: usize)
     requires { ⌜ (n ≤ length (now out)) × (at + n ≤ length (now s)) ⌝ }
     ensures { λ _. ⌜ now (out .exit) ≡ many byte 1 (now (s .entry)) at n ++ drop n (now (out .entry)) ⌝ }
@@ -200,7 +200,7 @@ fn copy_there(out: &mut [u8], s: &[u8], at: usize, n: usize)
     }
 }
 
-// The same where some may be missing: these are 0.
+// The same if some may be missing: these are 0.
 fn copy_some(out: &mut [u8], s: &[u8], at: usize, n: usize)
     requires { ⌜ (n ≤ length (now out)) × (at ≤ 1000000) × (n ≤ 1000000) ⌝ }
     ensures { λ _. ⌜ now (out .exit) ≡ many byte 1 (now (s .entry)) at n ++ drop n (now (out .entry)) ⌝ }
@@ -224,7 +224,7 @@ fn copy_in(out: &mut [u8], s: &[u8], at: usize, n: usize)
     }
 }
 
-// The record with n tables that r is.
+// Reads r as a record with n tables.
 fn read(r: &[u8], n: usize) -> Source
     requires { ⌜ n ≤ 8 ⌝ }
     ensures { λ x. ⌜ x ≡ sourceOf n (now (r .entry)) ⌝ }
@@ -251,7 +251,7 @@ fn read(r: &[u8], n: usize) -> Source
     }
 }
 
-// The record of a version that stands first in bytes.
+// The record of a version at the start of bytes.
 pub fn decode(bytes: &[u8], version: u32) -> Source
     ensures { λ r. ⌜ r ≡ decoded version (now (bytes .entry)) ⌝ }
 {
@@ -378,7 +378,7 @@ fn put_tail(out: &mut [u8], at: usize, s: Source)
     put_validator(out, at + 93, validator);
 }
 
-// The record of version 3 at a place where it fits.
+// Writes the record of version 3 at an offset, where it fits.
 fn put_source(out: &mut [u8], at: usize, s: Source)
     requires { ⌜ at + 384 ≤ length (now out) ⌝ }
     ensures { λ _. ⌜ (now (out .exit) ≡ sets (now (out .entry)) at (sourceBytes s)) × (length (sourceBytes s) ≡ 384) ⌝ }
@@ -390,7 +390,7 @@ fn put_source(out: &mut [u8], at: usize, s: Source)
     put_bytes(out, at + 339, &zeros);
 }
 
-// The arrays of a record have their lengths.
+// These do nothing: their contracts say that the arrays of a record have their lengths.
 fn has_words(ws: [u32; ORIGINAL_WORDS])
     ensures { λ _. ⌜ length ws ≡ 16 ⌝ }
 {}
@@ -426,7 +426,7 @@ fn has_size(s: Source)
     has_validator(validator);
 }
 
-// Puts the record of version 3 at a place, where it fits; else nothing changes.
+// Writes the record of version 3 at an offset, if it fits; otherwise nothing changes.
 pub fn encode(s: Source, out: &mut [u8], at: usize)
     ensures { λ _. ⌜ now (out .exit) ≡ written (now (out .entry)) at (sourceBytes s) ⌝ }
 {

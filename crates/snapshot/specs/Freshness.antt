@@ -23,7 +23,7 @@ use Rattle.snapshot.specs.declared.freshness.Freshness.{Freshness}
 use Rattle.snapshot.specs.declared.freshness.FreshAnswer.{FreshAnswer}
 use Rattle.snapshot.specs.declared.freshness.FreshAnswer.the-variants.{Fresh, Refused}
 
--- a call's further arguments are tested with the bank's number: 1, 2, then 3 to 6
+-- `fits` says whether a call's other arguments pass 2; they are tested with the bank's number: 1, 2, then 3 to 6
 unfoldable pub namedIf : Bool → List ℕ → ℕ → Validated
 namedIf fits region n = pick fits (named region n) (pick (eqb (length region) regionSize) (Bad Argument) (Bad Region))
 
@@ -53,12 +53,12 @@ unfoldable pub left : Source → List Day → List Day
 left s [] = []
 left s (d ∷ ds) = leaves s d ∷ left s ds
 
--- the sources used: earlier sources win a day
+-- the sources used: the first source that has a wanted day gives it
 unfoldable pub used : List Day → List Source → List Source
 used ds [] = []
 used ds (s ∷ ss) = pick (givesAny s ds) (s ∷ used (left s ds) ss) (used ds ss)
 
--- an updated time counts from 0 up to now
+-- an updated time is known if it is from 0 to now
 abbrev pub known : ℤ → Source → Bool
 known now s = leZ (pos 0) (s .updated) && leZ (s .updated) now
 
@@ -70,12 +70,12 @@ unfoldable pub oldest : ℤ → List Source → ℤ
 oldest t [] = t
 oldest t (s ∷ ss) = oldest (older t (s .updated)) ss
 
--- oldest of the used, unknown if there is none or any used one lacks it
+-- the oldest updated time of the used sources; unknown if there are none, or if one of them has no known time
 unfoldable pub updatedAt : ℤ → List Source → ℤ
 updatedAt now [] = unknown
 updatedAt now (s ∷ ss) = pick (each (known now) (s ∷ ss)) (oldest (s .updated) ss) unknown
 
--- checked only if at most now
+-- the checked time, unknown if it is after now
 abbrev pub checkedAt : ℤ → Bank → ℤ
 checkedAt now b = pick (leZ (b .checked) now) (b .checked) unknown
 

@@ -33,7 +33,7 @@ thenSource region i (Bad r) = refuse r
 unfoldable pub askedSource : List ℕ → ℕ → ℕ → Asked
 askedSource region n i = thenSource region i (named region n)
 
--- all sources: the records below the count, and zeros for those that the bank has not
+-- all sources: the records below the count, and zeros after them
 unfoldable pub sourcesIn : List ℕ → Bank → List Source
 sourcesIn region b = recordsOf (b .version) (bankOf region (b .number)) (b .count) ++ fill noSource (maxSources - b .count)
 

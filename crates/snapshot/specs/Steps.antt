@@ -1,4 +1,4 @@
--- What the private functions that go through the sources promise each other.
+-- What the private functions that read the sources one by one promise each other.
 use mathlib.Core.Bool.{true, false, _&&_}
 use mathlib.Core.List.{List, [], _∷_}
 use lib.IntN.{ℤ, pos}
@@ -13,7 +13,7 @@ use Rattle.snapshot.specs.Freshness.{unknown, daysOf, leaves, givesAny, 
 abbrev pub leftOf : Source → Days → Days
 leftOf s d = record { first = leaves s (d .first); second = leaves s (d .second); third = leaves s (d .third) }
 
--- one more used source
+-- the times after one more used source
 abbrev pub observed : ℤ → SourceTimes → Source → SourceTimes
 observed now t s =
     record {
@@ -28,11 +28,11 @@ updatedOf t = pick (t .some && t .complete) (t .oldest) unknown
 abbrev pub see : ℤ → Seen → Source → Seen
 see now x s = pick (givesAny s (daysOf (x .days))) (record { times = observed now (x .times) s; days = leftOf s (x .days) }) x
 
--- what the rest of the sources comes to
+-- the updated time once the rest of the sources is read
 unfoldable pub seen : ℤ → Seen → List Source → ℤ
 seen now x [] = updatedOf (x .times)
 seen now x (s ∷ ss) = seen now (see now x s) ss
 
--- before the first
+-- the state before the first source
 abbrev pub nothing : Days → Seen
 nothing days = record { times = record { some = false; complete = true; oldest = pos 0 }; days = days }

@@ -34,7 +34,7 @@ pub struct Days {
     pub third: Day,
 }
 
-// When the bank was checked, and when its oldest used source was updated; the lowest value is unknown.
+// When the bank was checked, and when its oldest used source was updated; the lowest value means unknown.
 pub struct Freshness {
     pub checked: i64,
     pub updated: i64,
@@ -45,7 +45,7 @@ pub enum FreshAnswer {
     Refused(Refusal),
 }
 
-// What the used sources so far say: whether there is one, whether each has a time, the oldest.
+// Of the sources used so far: whether there is one, whether each has a known time, and the oldest time.
 struct SourceTimes {
     some: bool,
     complete: bool,
@@ -123,7 +123,7 @@ fn updated_of(t: SourceTimes) -> i64
     }
 }
 
-// How far a walk through the sources is.
+// The state between two sources.
 struct Seen {
     times: SourceTimes,
     days: Days,
@@ -189,7 +189,7 @@ fn are_days(d: Days) -> bool
     valid_date(a.date) & (valid_date(b.date) & (valid_date(c.date) & true))
 }
 
-// How fresh a bank is for three days at a time.
+// How fresh a bank is at time `at`, for three days.
 pub fn fresh(region: &[u8], number: u32, days: Days, at: i64) -> FreshAnswer
     ensures { λ r. ⌜ r ≡ Fresh.askedFresh (now (region .entry)) number days at ⌝ }
 {

@@ -16,7 +16,7 @@ pub enum Outcome {
     Refused(Refusal),
 }
 
-// A call's further arguments are tested with the bank's number.
+// Tests a bank as `bank::header` does; `fits` says whether the call's other arguments pass 2.
 fn header_if(fits: bool, region: &[u8], number: u32) -> Validated
     ensures { λ r. ⌜ r ≡ Fresh.namedIf fits (now (region .entry)) number ⌝ }
 {

@@ -38,7 +38,7 @@ fn bytes_of(region: &[u8], number: u32, b: Block) -> &[u8]
     part(l, at, b.length as usize)
 }
 
-// The row at a place of a table of a source of a bank: its values, joined, into out, and where each ends into ends.
+// Reads the row at a place of a table of a bank's source: its values, joined, to out, and where each ends to ends.
 pub fn bank_row(
     region: &[u8],
     number: u32,

@@ -19,13 +19,13 @@ use record::source_size;
 use refusal::Refusal;
 use region::bank_of;
 
-// A source, or zeros beside a refusal.
+// A source; zeros on a refusal.
 pub struct Asked {
     pub outcome: Outcome,
     pub source: Source,
 }
 
-// The sources below the count and zeros after them, or zeros beside a refusal.
+// The sources below the count, and zeros after them; only zeros on a refusal.
 pub struct Records {
     pub outcome: Outcome,
     pub sources: [Source; SOURCES],
@@ -80,7 +80,7 @@ fn refuse_all(r: Refusal) -> Records
     }
 }
 
-// A bank's first n records, and zeros.
+// A bank's first n records, and zeros after them.
 fn records_at(l: &[u8], version: u32, n: usize) -> [Source; SOURCES]
     requires { ⌜ n ≤ 3 ⌝ }
     ensures { λ r. ⌜ r ≡ recordsOf version (now (l .entry)) n ++ fill noSource (3 - n) ⌝ }
