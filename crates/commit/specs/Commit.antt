@@ -30,7 +30,7 @@ abbrev pub checkedTime : Stamp → ℤ → ℤ
 checkedTime (Given s) now = pick (leZ now s) s now
 checkedTime Missing now = now
 
--- where the first source's Routes stand
+-- the offset of the first source's Routes
 abbrev pub routesOffset : List Source → ℕ
 routesOffset ss = getD (getD ss 0 pastEnd .tables) 0 noBlock .offset
 
@@ -63,7 +63,7 @@ isHeaderWritten Idle = false
 isHeaderWritten (Due o) = false
 isHeaderWritten Committed = false
 
--- the first call: 1, 11 before closing, while one is due or once it was answered, 12, 13
+-- the first call: 1; 11 before closing, while an operation is due, or once it was answered; 12; 13
 abbrev pub mayCommit : Writer → Bool
 mayCommit w = inRange w && (w .taken .closed && isIdle (w .stage))
 
@@ -89,7 +89,7 @@ commitOps region w stamp current =
 unfoldable pub commitRegion : List ℕ → Writer → Stamp → Bool → List ℕ
 commitRegion region w stamp current = performed (target (w .beginning .active)) (commitOps region w stamp current) region
 
--- the second call: 1, 11 unless the first one was answered
+-- the second call: 1; 11 unless the first one was answered
 unfoldable pub wordStep : List ℕ → Writer → Step
 wordStep region w =
     pick (eqb (length region) regionSize)

@@ -19,17 +19,17 @@ use Rattle.writer.specs.declared.Step.{Step}
 use Rattle.writer.specs.State.{keyLength, inRange, stays}
 use Rattle.commit.specs.Commit.{isIdle, routesOffset, recordsFor}
 
--- all three numbers of a block
+-- all three numbers of a block are equal
 abbrev pub sameBlock : Block → Block → Bool
 sameBlock a b = eqb (a .offset) (b .offset) && (eqb (a .length) (b .length) && eqb (a .crc) (b .crc))
 
--- one by one, as far as the first list goes
+-- f holds element by element, for as many as the first list has
 unfoldable pub sameEach : {A : Type 0} → (A → A → Bool) → List A → List A → Bool
 sameEach f [] ys = true
 sameEach f (a ∷ xs) [] = false
 sameEach f (a ∷ xs) (b ∷ ys) = f a b && sameEach f xs ys
 
--- dates and blocks
+-- dates and blocks are equal
 unfoldable pub sameSource : Source → Source → Bool
 sameSource a b = eqb (a .start) (b .start) && (eqb (a .end) (b .end) && sameEach sameBlock (a .tables) (b .tables))
 

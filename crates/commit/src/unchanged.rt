@@ -1,4 +1,4 @@
-// The lower layer's call `unchanged`: whether the update is what the active bank has.
+// The lower layer's call `unchanged`: whether the update is the same as the active bank.
 ghost use mathlib.Core.Path.{_≡_};
 ghost use Prim.Native.Nat.{_≤_};
 ghost use lib.ListN.{take};
@@ -47,7 +47,7 @@ fn same_blocks(xs: [Block; TABLES], ys: [Block; TABLES]) -> bool
     same
 }
 
-// Dates and blocks.
+// Whether dates and blocks are equal.
 fn same_source(a: Source, b: Source) -> bool
     ensures { λ r. ⌜ r ≡ Unchanged.sameSource a b ⌝ }
 {
@@ -56,7 +56,7 @@ fn same_source(a: Source, b: Source) -> bool
     (a.start == b.start) & ((a.end == b.end) & same_blocks(xs, ys))
 }
 
-// The first n sources against the first n records of a bank.
+// Whether the first n sources have the dates and blocks of a bank's first n records.
 fn same_sources(ss: [Source; SOURCES], n: usize, l: &[u8], version: u32) -> bool
     requires { ⌜ n ≤ 3 ⌝ }
     ensures { λ r. ⌜ r ≡ Unchanged.sameEach Unchanged.sameSource (take n ss) (recordsOf version (now (l .entry)) n) ⌝ }
@@ -115,7 +115,7 @@ fn same_answer(same: bool) -> Answer
     Answer::Different
 }
 
-// Whether the update is what the active bank has.
+// Whether the update is the same as the active bank.
 pub fn unchanged(w: Writer, region: &[u8]) -> Step
     ensures { λ r. ⌜ r ≡ Unchanged.unchangedStep (now (region .entry)) w ⌝ }
 {

@@ -11,7 +11,7 @@ use Rattle.base.specs.Same.{same}
 use Rattle.csv.specs.Write.{fieldOf}
 
 -- newerThan a b: is generation a newer than b? aDate n: is n a date? keyIs identity texts lengths key: is that the key of the identity
--- and of the picks handed over as texts and their lengths, five to a pick? fieldIs value field: is a value written as that field?
+-- and of the picks passed as texts and their lengths, five to a pick? fieldIs value field: is a value written as that field?
 pub data Question : Type 0 where
   newerThan : ℕ → ℕ → Question
   aDate : ℕ → Question

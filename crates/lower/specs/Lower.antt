@@ -29,7 +29,7 @@ use Rattle.writer.specs.declared.Step.{Step}
 use Rattle.writer.specs.State.{did, stays, tailSize, position, isDue, stageOf, noTable, isOpen, begunIn, inRange}
 use Rattle.base.specs.Table.{maxTables, lastTable}
 
--- Begin: the region is loaded; only 1 is refused, and then every call on the state meets 11.
+-- Begin loads the region. The only refusal is 1, and then every call on the state meets 11.
 abbrev pub answerOf : Loaded → Answer
 answerOf (Found b) = Done
 answerOf Nothing = Done
@@ -49,7 +49,7 @@ started active comparing now =
 unfoldable pub begun : List ℕ → Bool → ℤ → Step
 begun region comparing now = record { answer = answerOf (loaded region); writer = started (loaded region) comparing now }
 
--- Source: notes its record; the blocks start as zero. Out of order after closing and while a table is open; a fourth is 10.
+-- Source: notes its record; the blocks start as zero. Out of order after closing and while a table is open; a fourth meets 10.
 abbrev pub mayAppend : Writer → Bool
 mayAppend w = inRange w && not (w .taken .closed)
 
@@ -142,7 +142,7 @@ bytesStep w xs =
 abbrev pub blockOf : Writer → Block
 blockOf w = record { offset = w .tables .start; length = position (w .taken) - w .tables .start; crc = w .tables .crc }
 
--- what an array of sources has past its end
+-- what a read past the end of an array of sources gives
 abbrev pub pastEnd : Source
 pastEnd =
     record {
@@ -187,7 +187,7 @@ withEnd w =
 unfoldable pub endStep : Writer → Step
 endStep w = pick (mayAppend w && isOpen (w .tables)) (did (withEnd w)) (stays w Turn)
 
--- Closing: what the tail holds is then due. Out of order twice and while a table is open.
+-- Close: the bytes in the tail are then due. Out of order if closed already, and while a table is open.
 abbrev pub closedTaken : Taken → Taken
 closedTaken t = record { written = t .written; fill = t .fill; crc = t .crc; different = t .different; closed = true }
 

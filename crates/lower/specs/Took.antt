@@ -1,4 +1,4 @@
--- What taking bytes leaves of the parts, from the few numbers that it changes: the first bytes stand in the tail then.
+-- The parts after an append, by the few values that it changes: the bytes appended are in the tail.
 use mathlib.Core.List.{List}
 use Prim.Native.Nat.{ℕ}
 use lib.ListN.{take}

@@ -1,4 +1,4 @@
-// The lower layer's append: bytes go into the tail until it is full.
+// The lower layer's append: bytes are put into the tail until it is full.
 ghost use mathlib.Core.Path.{_≡_};
 ghost use mathlib.Core.List.{List};
 ghost use Prim.Native.Nat.{_+_, _≤_};
@@ -29,7 +29,7 @@ use writer::parts_of;
 use writer::stage_of;
 use writer::step_with;
 
-// The tail with bytes behind those that it holds.
+// The tail with bytes at an offset.
 fn tail_with(tail: [u8; TAIL_SIZE], at: usize, bytes: &[u8]) -> [u8; TAIL_SIZE]
     requires { ⌜ at + length (now bytes) ≤ tailSize ⌝ }
     ensures { λ r. ⌜ r ≡ sets tail at (now (bytes .entry)) ⌝ }
@@ -43,7 +43,7 @@ fn tail_with(tail: [u8; TAIL_SIZE], at: usize, bytes: &[u8]) -> [u8; TAIL_SIZE]
     t
 }
 
-// The answer, how many bytes are taken and to which place of the tail, and what else they change.
+// The answer, how many bytes are appended and at which offset of the tail, and what else they change.
 struct Took {
     answer: Answer,
     n: usize,
@@ -53,7 +53,7 @@ struct Took {
     tables: Tables,
 }
 
-// No byte is taken.
+// No byte is appended.
 fn none_taken(p: Parts, answer: Answer) -> Took
     ensures { λ r. ⌜ r ≡ record { answer = answer; n = 0; at = 0; stage = p .stage; taken = p .taken; tables = p .tables } ⌝ }
 {
@@ -70,7 +70,7 @@ fn none_taken(p: Parts, answer: Answer) -> Took
     }
 }
 
-// The first n bytes are taken.
+// The first n bytes are appended.
 fn first_taken(p: Parts, bytes: &[u8], n: usize) -> Took
     requires { ⌜ (n ≤ length (now bytes)) × (p .taken .fill + n ≤ tailSize) ⌝ }
     ensures { λ r. ⌜ (r .answer ≡ Answers.Took n) × (r .n ≡ n) × (r .at + r .n ≤ tailSize) × ((ss : List Source) → withSources (partsTook p r (now (bytes .entry))) ss ≡ Lower.withBytes (withSources p ss) (take n (now (bytes .entry)))) ⌝ }
@@ -121,8 +121,8 @@ fn append_any(p: Parts, offered: &[u8]) -> Took
     none_taken(p, Answer::Refused(Refusal::Turn))
 }
 
-// Takes bytes until the tail is full, and says how many; the sources, whichever they are, stay. The tail is made in one place, whatever
-// the answer, which saves copies of it.
+// Appends bytes until the tail is full, and says how many; the sources stay unchanged. The tail is built once, whatever the answer,
+// which saves copies of it.
 pub fn append_parts(p: Parts, offered: &[u8]) -> PartsStep
     ensures { λ r. ⌜ ((ss : List Source) → stepWith r ss ≡ Lower.bytesStep (withSources p ss) (now (offered .entry))) ⌝ }
 {
@@ -145,7 +145,7 @@ pub fn append_parts(p: Parts, offered: &[u8]) -> PartsStep
     PartsStep { answer, parts }
 }
 
-// Takes bytes until the tail is full, and says how many.
+// Appends bytes until the tail is full, and says how many.
 pub fn bytes(w: Writer, offered: &[u8]) -> Step
     ensures { λ r. ⌜ r ≡ Lower.bytesStep w (now (offered .entry)) ⌝ }
 {

@@ -88,7 +88,7 @@ fn with_closed(w: Writer) -> Writer
     Writer { stage, taken, ..w }
 }
 
-// Closes the update: what the tail holds is then due.
+// Closes the update: the bytes in the tail are then due.
 pub fn close(w: Writer) -> Step
     ensures { λ r. ⌜ r ≡ Lower.closeStep w ⌝ }
 {

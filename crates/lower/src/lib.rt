@@ -1,4 +1,4 @@
-// The lower layer's calls that do no flash operation, a module each, and what they test: whether a state takes bytes, whether a table is
+// The lower layer's calls that do no flash operation, a module each, and what they test: whether bytes may be appended, whether a table is
 // open or may begin, and how much of the tail is free.
 pub mod append;
 pub mod begin;
@@ -21,7 +21,7 @@ use writer::Writer;
 use writer::parts_in_range;
 use writer::parts_of;
 
-// Whether a state takes bytes, sources and tables, by its parts: the sources don't count.
+// Whether bytes, sources and tables may be appended, by the parts of a state.
 pub fn may_append_parts(p: Parts) -> bool
     ensures { λ r. ⌜ ((ss : List Source) → r ≡ Lower.mayAppend (withSources p ss)) ⌝ }
 {
@@ -32,7 +32,7 @@ pub fn may_append_parts(p: Parts) -> bool
     parts_in_range(b, t, x, s) & !t.closed
 }
 
-// Whether a state takes bytes, sources and tables.
+// Whether bytes, sources and tables may be appended.
 pub fn may_append(w: Writer) -> bool
     ensures { λ r. ⌜ r ≡ Lower.mayAppend w ⌝ }
 {
@@ -64,7 +64,7 @@ pub fn may_begin(s: Tables, table: u32) -> bool
             & (!begun_in(s.begun, table) & ((table == 0) | !((s.count == 1) & (s.begun == 0)))))
 }
 
-// How many of n bytes the tail has room for.
+// How many of n bytes the tail has free space for.
 pub fn room(t: Taken, n: usize) -> usize
     ensures { λ r. ⌜ (r ≡ Lower.room t n) × (r ≤ n) ⌝ }
 {

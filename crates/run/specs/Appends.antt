@@ -1,4 +1,4 @@
--- Doing what is due, and feeding bytes: runs of lower calls.
+-- Runs of lower calls: what is due is done, bytes are appended.
 use mathlib.Core.List.{List, [], _∷_, _++_}
 use Prim.Native.Nat.{ℕ}
 use Rattle.run.specs.Run.{Lower, bytes, due}
@@ -7,7 +7,7 @@ use Rattle.run.specs.Run.{Lower, bytes, due}
 abbrev pub dues : List Lower
 dues = due ∷ due ∷ due ∷ []
 
--- a byte, then what is due, then the next
+-- each byte, and after it what is due
 unfoldable pub appends : List ℕ → List Lower
 appends [] = []
 appends (x ∷ xs) = bytes (x ∷ []) ∷ (dues ++ appends xs)

@@ -1,4 +1,4 @@
--- Runs that leave the sources, on the parts of a state: with any sources, the state and the region are those of the run.
+-- Runs that leave the sources unchanged, on the parts of a state: with any sources, the state and the region are those of the run.
 use mathlib.Core.Path.{_≡_}
 use mathlib.Core.List.{List}
 use Prim.Native.Nat.{ℕ, _≤_}
@@ -15,7 +15,7 @@ use Rattle.run.specs.Appends.{appends}
 abbrev pub Ran : List ℕ → Parts → List Lower → Parts → List ℕ → Type 0
 Ran region p cs q after = (ss : List Source) → (withSources q ss ≡ ranWriter region (withSources p ss) cs) × (after ≡ ranRegion region (withSources p ss) cs)
 
--- parts q and a region from which feeding the bytes past the first n ends as feeding all from parts p does
+-- parts q and a region: appending the bytes after the first n to these ends as appending all of them to parts p does
 abbrev pub Appended : List ℕ → Parts → List ℕ → ℕ → Parts → List ℕ → Type 0
 Appended region p bs n q after =
     (1 ≤ n) × (n ≤ length bs)

@@ -1,4 +1,4 @@
-// Runs of lower calls: what is due is done, and bytes are fed. They leave the sources, so they go by the parts of a state.
+// Runs of lower calls: what is due is done, bytes are appended. They leave the sources unchanged, so they work on the parts of a state.
 ghost use mathlib.Core.Path.{_≡_};
 ghost use mathlib.Core.Bool.{true, false};
 ghost use Prim.Native.Nat.{_+_, _≤_, _<_};
@@ -20,7 +20,7 @@ use writer::Writer;
 use writer::parts_of;
 use writer::with_sources;
 
-// The second and the third operation that are due.
+// Does the second and the third operation that are due.
 fn do_two(p: Parts, region: &mut [u8]) -> Parts
     ensures { λ r. ⌜ Partly.Ran (now (region .entry)) p (Run.due ∷ Run.due ∷ []) r (now (region .exit)) ⌝ }
 {
@@ -29,7 +29,7 @@ fn do_two(p: Parts, region: &mut [u8]) -> Parts
     c.parts
 }
 
-// Does what is still due, two operations at the most.
+// Does what is still due, at most two operations.
 fn flush_two(p: Parts, region: &mut [u8]) -> Parts
     ensures { λ r. ⌜ Partly.Ran (now (region .entry)) p (Run.due ∷ Run.due ∷ []) r (now (region .exit)) ⌝ }
 {
@@ -42,7 +42,7 @@ fn flush_two(p: Parts, region: &mut [u8]) -> Parts
     }
 }
 
-// What is due, of which there are at most three in a row.
+// Does what is due, at most three operations.
 fn do_due(p: Parts, region: &mut [u8]) -> Parts
     ensures { λ r. ⌜ Partly.Ran (now (region .entry)) p Appends.dues r (now (region .exit)) ⌝ }
 {
@@ -72,13 +72,13 @@ pub fn flush(w: Writer, region: &mut [u8]) -> Writer
     with_sources(q, sources)
 }
 
-// How many bytes were fed, and the parts after them.
+// How many bytes were appended, and the parts after that.
 struct Appended {
     n: usize,
     parts: Parts,
 }
 
-// Feeds the first byte.
+// Appends the first byte.
 fn append_one(p: Parts, region: &mut [u8], bytes: &[u8]) -> Appended
     requires { ⌜ 1 ≤ length (now bytes) ⌝ }
     ensures { λ r. ⌜ Partly.Appended (now (region .entry)) p (now (bytes .entry)) (r .n) (r .parts) (now (region .exit)) ⌝ }
@@ -132,7 +132,7 @@ fn append_all_parts(p: Parts, region: &mut [u8], bytes: &[u8]) -> Parts
     q
 }
 
-// Feeds bytes, and does what is due after each.
+// Appends bytes, and does what is due after each.
 pub fn append_all(w: Writer, region: &mut [u8], bytes: &[u8]) -> Writer
     ensures { λ r. ⌜ (r ≡ ranWriter (now (region .entry)) w (Appends.appends (now (bytes .entry)))) × (now (region .exit) ≡ ranRegion (now (region .entry)) w (Appends.appends (now (bytes .entry)))) ⌝ }
 {
@@ -149,7 +149,7 @@ fn flush_append_parts(p: Parts, region: &mut [u8], bytes: &[u8]) -> Parts
     append_all_parts(q, region, bytes)
 }
 
-// Does what is due, then feeds bytes.
+// Does what is due, then appends bytes.
 pub fn flush_append(w: Writer, region: &mut [u8], bytes: &[u8]) -> Writer
     ensures { λ r. ⌜ (r ≡ ranWriter (now (region .entry)) w (Appends.dues ++ Appends.appends (now (bytes .entry)))) × (now (region .exit) ≡ ranRegion (now (region .entry)) w (Appends.dues ++ Appends.appends (now (bytes .entry)))) ⌝ }
 {
@@ -169,7 +169,7 @@ fn leaves_tail_open(t: Taken, n: usize) -> bool
     n < (TAIL_SIZE_32 - t.fill) as usize
 }
 
-// Does what is due, and again, then appends bytes: by one call if nothing is due before and after them.
+// Does what is due, twice, then appends bytes: by one call if nothing is due before and after them.
 pub fn append_line_parts(p: Parts, region: &mut [u8], bytes: &[u8]) -> Parts
     ensures { λ r. ⌜ Partly.Ran (now (region .entry)) p (Appends.dues ++ (Appends.dues ++ Appends.appends (now (bytes .entry)))) r (now (region .exit)) ⌝ }
 {

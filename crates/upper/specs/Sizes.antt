@@ -1,7 +1,7 @@
--- The buffers of the upper layer's code. Nothing here says what a call does.
+-- The buffers of the upper layer's code; no definition of a call uses them.
 use Prim.Native.Nat.{ℕ}
 
--- a names line fits in it
+-- the capacity of the buffer for a names line
 abbrev pub namesSize : ℕ
 namesSize = 128
 

@@ -39,7 +39,7 @@ pub data Upper : Type 0 where
   tableEnd : Upper
   closing : Upper
 
--- "a source's dates", a table's names line, a row: the bytes that a call takes
+-- the bytes that a call appends: "a source's dates", a table's names line, a row
 unfoldable pub taken : Upper → List ℕ
 taken (sourceWithDates s) = le32 (s .start) ++ le32 (s .end)
 taken (tableWithNames t) = namesLine t
@@ -59,7 +59,7 @@ lowerOf closing = close ∷ []
 unfoldable pub runOf : Upper → List Lower
 runOf u = dues ++ (lowerOf u ++ (dues ++ appends (taken u)))
 
--- 2, 11, 14, 10
+-- refusals 2, 11, 14 and 10
 abbrev pub argumentOk : Upper → Bool
 argumentOk (tableWithNames t) = leb t lastTable
 argumentOk (sourceWithDates s) = true

@@ -28,7 +28,7 @@ use writer::Writer;
 use writer::did;
 use writer::stays;
 
-// Feeds the identity's part of the key.
+// Appends the key's prefix, the identity.
 fn append_prefix(w: Writer, region: &mut [u8], identity: &[u8]) -> Writer
     ensures { λ r. ⌜ (r ≡ ranWriter (now (region .entry)) w (Appends.appends (Key.prefix (now (identity .entry))))) × (now (region .exit) ≡ ranRegion (now (region .entry)) w (Appends.appends (Key.prefix (now (identity .entry))))) ⌝ }
 {
@@ -43,7 +43,7 @@ fn append_prefix(w: Writer, region: &mut [u8], identity: &[u8]) -> Writer
     append_all(v, region, identity)
 }
 
-// The run of a beginning, the key behind the identity's part in the first n bytes.
+// The run of a beginning; the first n bytes are the key without its prefix.
 fn run_begin(w: Writer, region: &mut [u8], identity: &[u8], bytes: &[u8], n: usize) -> Writer
     requires { ⌜ n ≤ length (now bytes) ⌝ }
     ensures { λ r. ⌜ (r ≡ ranWriter (now (region .entry)) w (Appends.appends (Key.prefix (now (identity .entry)) ++ take n (now (bytes .entry))))) × (now (region .exit) ≡ ranRegion (now (region .entry)) w (Appends.appends (Key.prefix (now (identity .entry)) ++ take n (now (bytes .entry))))) ⌝ }
@@ -53,7 +53,7 @@ fn run_begin(w: Writer, region: &mut [u8], identity: &[u8], bytes: &[u8], n: usi
     append_all(v, region, body)
 }
 
-// A state that every call refuses with 11.
+// A refused beginning: every call refuses its state with 11.
 fn refuse(comparing: bool, at: i64, x: Refusal) -> Step
     ensures { λ r. ⌜ r ≡ record { answer = Answers.Refused x; writer = Lower.started (Loadeds.Refused x) comparing at } ⌝ }
 {
@@ -88,7 +88,7 @@ fn begin_in(
     did(v)
 }
 
-// Begins an update on a region, and feeds the key of an identity and picks.
+// Begins an update on a region, and appends the key of an identity and picks.
 pub fn begin(
     region: &mut [u8],
     comparing: bool,

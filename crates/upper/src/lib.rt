@@ -1,4 +1,4 @@
-// The upper layer: each call is a run of lower calls, done at once. A module for each, and the test that bytes fit.
+// The upper layer: each call is a run of lower calls, done at once. The calls are in modules; here is the test that bytes fit.
 pub mod begin;
 pub mod rows;
 pub mod source;
@@ -13,14 +13,14 @@ use region::CAPACITY;
 use region::CAPACITY_64;
 use writer::Taken;
 
-// The longest key without an identity, the buffer for a names line, and the first one for a row.
+// The longest key without an identity, the buffer for a names line, and the first buffer that a row is written to.
 const MAX_BODY: usize = 2257;
 
 const NAMES_SIZE: usize = 128;
 
 const SHORT_ROW: usize = 512;
 
-// Whether n bytes more fit.
+// Whether n more bytes fit.
 pub fn fits(t: Taken, n: usize) -> bool
     ensures { λ r. ⌜ r ≡ leb (State.position t + n) capacity ⌝ }
 {

@@ -29,7 +29,7 @@ use writer::parts_of;
 use writer::parts_stay;
 use writer::step_with;
 
-// The run of a row, which stands in the first n bytes.
+// The run of a row, which is the first n bytes.
 fn run_row(p: Parts, region: &mut [u8], bytes: &[u8], n: usize) -> Parts
     requires { ⌜ n ≤ length (now bytes) ⌝ }
     ensures { λ r. ⌜ Partly.Ran (now (region .entry)) p (Appends.dues ++ (Appends.dues ++ Appends.appends (take n (now (bytes .entry))))) r (now (region .exit)) ⌝ }
@@ -38,7 +38,7 @@ fn run_row(p: Parts, region: &mut [u8], bytes: &[u8], n: usize) -> Parts
     append_line_parts(p, region, line)
 }
 
-// Feeds a row of the open table, where it is one and fits, of up to 8,192 bytes.
+// Appends a row of the open table, if it is one and fits; its buffer is for 8,192 bytes.
 fn long_row(p: Parts, region: &mut [u8], texts: &[u8], lengths: &[u32]) -> PartsStep
     requires { ⌜ (length (now region) ≡ regionSize) × ((ss : List Source) → Upper.orderOk (withSources p ss) (Upper.row (now texts) (now lengths)) ≡ true) × (p .tables .table ≤ lastTable) ⌝ }
     ensures { λ r. ⌜ ((ss : List Source) → (stepWith r ss ≡ Upper.upperStep (now (region .entry)) (withSources p ss) (Upper.row (now (texts .entry)) (now (lengths .entry)))) × (now (region .exit) ≡ Upper.upperRegion (now (region .entry)) (withSources p ss) (Upper.row (now (texts .entry)) (now (lengths .entry))))) ⌝ }
@@ -56,7 +56,7 @@ fn long_row(p: Parts, region: &mut [u8], texts: &[u8], lengths: &[u32]) -> Parts
     parts_stay(p, Refusal::Full)
 }
 
-// Feeds a row of the open table, where it is one and fits; first tried in few bytes, which are quickly made.
+// The same, with a buffer of 512 bytes, which is faster; a row that isn't written there is left to `long_row`.
 fn row_in(p: Parts, region: &mut [u8], texts: &[u8], lengths: &[u32]) -> PartsStep
     requires { ⌜ (length (now region) ≡ regionSize) × ((ss : List Source) → Upper.orderOk (withSources p ss) (Upper.row (now texts) (now lengths)) ≡ true) × (p .tables .table ≤ lastTable) ⌝ }
     ensures { λ r. ⌜ ((ss : List Source) → (stepWith r ss ≡ Upper.upperStep (now (region .entry)) (withSources p ss) (Upper.row (now (texts .entry)) (now (lengths .entry)))) × (now (region .exit) ≡ Upper.upperRegion (now (region .entry)) (withSources p ss) (Upper.row (now (texts .entry)) (now (lengths .entry))))) ⌝ }
@@ -74,7 +74,7 @@ fn row_in(p: Parts, region: &mut [u8], texts: &[u8], lengths: &[u32]) -> PartsSt
     parts_stay(p, Refusal::Full)
 }
 
-// Feeds a row of the open table: its values one behind the other, and their lengths; the sources, whichever they are, stay.
+// Appends a row of the open table: its values joined, and their lengths. The sources stay unchanged.
 pub fn row_parts(p: Parts, region: &mut [u8], texts: &[u8], lengths: &[u32]) -> PartsStep
     ensures { λ r. ⌜ ((ss : List Source) → (stepWith r ss ≡ Upper.upperStep (now (region .entry)) (withSources p ss) (Upper.row (now (texts .entry)) (now (lengths .entry)))) × (now (region .exit) ≡ Upper.upperRegion (now (region .entry)) (withSources p ss) (Upper.row (now (texts .entry)) (now (lengths .entry))))) ⌝ }
 {
@@ -87,7 +87,7 @@ pub fn row_parts(p: Parts, region: &mut [u8], texts: &[u8], lengths: &[u32]) -> 
     parts_stay(p, Refusal::Region)
 }
 
-// Feeds a row of the open table.
+// Appends a row of the open table.
 pub fn row(w: Writer, region: &mut [u8], texts: &[u8], lengths: &[u32]) -> Step
     ensures { λ r. ⌜ (r ≡ Upper.upperStep (now (region .entry)) w (Upper.row (now (texts .entry)) (now (lengths .entry)))) × (now (region .exit) ≡ Upper.upperRegion (now (region .entry)) w (Upper.row (now (texts .entry)) (now (lengths .entry)))) ⌝ }
 {

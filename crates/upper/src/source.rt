@@ -19,7 +19,7 @@ use writer::Writer;
 use writer::did;
 use writer::stays;
 
-// A source's dates as they are fed.
+// A source's dates as they are appended.
 fn dates(s: Source) -> [u8; 8]
     ensures { λ r. ⌜ r ≡ le32 (s .start) ++ le32 (s .end) ⌝ }
 {
@@ -39,7 +39,7 @@ fn run_source(w: Writer, region: &mut [u8], s: Source) -> Writer
     flush_append(t.writer, region, &d)
 }
 
-// Begins a source, and feeds its dates.
+// Begins a source, and appends its dates.
 pub fn source(w: Writer, region: &mut [u8], s: Source) -> Step
     ensures { λ r. ⌜ (r ≡ Upper.upperStep (now (region .entry)) w (Upper.sourceWithDates s)) × (now (region .exit) ≡ Upper.upperRegion (now (region .entry)) w (Upper.sourceWithDates s)) ⌝ }
 {

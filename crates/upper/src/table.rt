@@ -50,7 +50,7 @@ pub fn end(w: Writer, region: &mut [u8]) -> Step
     stays(w, Refusal::Region)
 }
 
-// A table's names line stands in the first n bytes.
+// A table's names line is in the first n bytes.
 struct Line {
     n: usize,
     bytes: [u8; NAMES_SIZE],
@@ -68,7 +68,7 @@ fn names(table: u32) -> Line
     }
 }
 
-// The run of a table's beginning, its names line in the first n bytes.
+// The run of a table's beginning; its names line is the first n bytes.
 fn run_table(w: Writer, region: &mut [u8], table: u32, names: [u8; NAMES_SIZE], n: usize) -> Writer
     requires { ⌜ n ≤ namesSize ⌝ }
     ensures { λ r. ⌜ (r ≡ ranWriter (now (region .entry)) w (Appends.dues ++ (Run.table table ∷ (Appends.dues ++ Appends.appends (take n names))))) × (now (region .exit) ≡ ranRegion (now (region .entry)) w (Appends.dues ++ (Run.table table ∷ (Appends.dues ++ Appends.appends (take n names))))) ⌝ }
@@ -79,7 +79,7 @@ fn run_table(w: Writer, region: &mut [u8], table: u32, names: [u8; NAMES_SIZE], 
     flush_append(t.writer, region, line)
 }
 
-// Begins a table, and feeds its names line.
+// Begins a table, and appends its names line.
 pub fn table(w: Writer, region: &mut [u8], table: u32) -> Step
     ensures { λ r. ⌜ (r ≡ Upper.upperStep (now (region .entry)) w (Upper.tableWithNames table)) × (now (region .exit) ≡ Upper.upperRegion (now (region .entry)) w (Upper.tableWithNames table)) ⌝ }
 {

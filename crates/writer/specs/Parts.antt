@@ -1,4 +1,4 @@
--- A state but for its sources, and a step on it.
+-- A state without its sources, and a step on it.
 use mathlib.Core.List.{List}
 use Rattle.refusal.specs.declared.Refusal.{Refusal}
 use Rattle.record.specs.declared.Source.{Source}
@@ -17,7 +17,7 @@ withSources p ss = record { stage = p .stage; beginning = p .beginning; taken = 
 abbrev pub stepWith : PartsStep → List Source → Step
 stepWith s ss = record { answer = s .answer; writer = withSources (s .parts) ss }
 
--- a call that is answered, and one that is refused: the parts are as they were
+-- a call that is done, and one that is refused, which leaves the parts unchanged
 abbrev pub partsDid : Parts → PartsStep
 partsDid p = record { answer = Done; parts = p }
 

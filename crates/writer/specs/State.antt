@@ -20,7 +20,7 @@ use Rattle.writer.specs.declared.Answer.the-variants.{Done, Refused}
 use Rattle.writer.specs.declared.Step.{Step}
 use Rattle.base.specs.Table.{maxTables, lastTable}
 
--- the bytes that the tail holds at the most
+-- the tail's capacity
 abbrev pub tailSize : ℕ
 tailSize = 256
 
@@ -28,7 +28,7 @@ tailSize = 256
 abbrev pub lastWrite : ℕ
 lastWrite = capacity - tailSize
 
--- how many bytes were taken: those written and those in the tail
+-- the position, "tail included": the bytes written and those in the tail
 abbrev pub position : Taken → ℕ
 position t = t .written + t .fill
 
@@ -40,7 +40,7 @@ isDue t = eqb (t .fill) tailSize || (t .closed && ltb 0 (t .fill))
 abbrev pub writeDue : Taken → Operation
 writeDue t = Write (t .written) (t .fill)
 
--- the erase of the sector that the write needs, before its first write; sector 0 is the header's
+-- before the first write to a sector its erase, else the write; sector 0 is the header's
 unfoldable pub dataDue : Taken → Operation
 dataDue t = pick (eqb (t .written % sectorSize) 0) (Erase (t .written / sectorSize + 1)) (writeDue t)
 
@@ -48,7 +48,7 @@ dataDue t = pick (eqb (t .written % sectorSize) 0) (Erase (t .written / sectorSi
 unfoldable pub firstDue : Bool → Taken → Operation
 firstDue comparing t = pick comparing (Compare (t .written) (t .fill)) (pick (eqb (t .written) 0) (Erase 0) (dataDue t))
 
--- the stage once bytes were taken or closing was called, where nothing was due before
+-- the stage after bytes are appended or the update is closed, if nothing was due before
 unfoldable pub stageOf : Bool → Taken → Stage
 stageOf comparing t = pick (isDue t) (Due (firstDue comparing t)) Idle
 
@@ -80,7 +80,7 @@ begunIn begun table = eqb (begun / 2 ^ table % 2) 1
 
 -- 11, by range
 
--- a bank; the state of a refused beginning has none
+-- the active bank's number is 0 or 1; the state of a refused beginning never passes
 unfoldable pub activeOk : Loaded → Bool
 activeOk (Found b) = leb (b .number) 1
 activeOk Nothing = true
@@ -102,7 +102,7 @@ openOk n s = leb (s .table) lastTable && (leb 1 (s .count) && leb (s .start) n)
 unfoldable pub tablesOk : ℕ → Tables → Bool
 tablesOk n s = leb (s .count) maxSources && (eqb (s .table) noTable || openOk n s)
 
--- a due operation is one that mode, written count and tail determine
+-- a due operation is one that fits the mode, the written count and the tail
 unfoldable pub operationOk : Bool → Taken → Operation → Bool
 operationOk comparing t (Erase k) = not comparing && ((eqb (t .written) 0 && eqb k 0) || (eqb (t .written % sectorSize) 0 && eqb k (t .written / sectorSize + 1)))
 operationOk comparing t (Write a n) = not comparing && (eqb a (t .written) && eqb n (t .fill))
@@ -117,7 +117,7 @@ stageOk comparing t Committed = not comparing && (t .closed && eqb (t .fill) 0)
 unfoldable pub inRange : Writer → Bool
 inRange w = activeOk (w .beginning .active) && (takenOk (w .taken) && (tablesOk (position (w .taken)) (w .tables) && stageOk (w .beginning .comparing) (w .taken) (w .stage)))
 
--- a call that is answered, and one that is refused: the state is as it was
+-- a call that is done, and one that is refused, which leaves the state unchanged
 abbrev pub did : Writer → Step
 did w = record { answer = Done; writer = w }
 

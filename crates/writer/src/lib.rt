@@ -12,11 +12,11 @@ use refusal::Refusal;
 use region::CAPACITY_64;
 use region::SECTOR_SIZE_32;
 
-// The bytes that the tail holds at the most.
+// The tail's capacity.
 pub const TAIL_SIZE: usize = 256;
 
 pub const TAIL_SIZE_32: u32 = 256;
-// No table is open.
+// The table number that means that none is open.
 pub const NO_TABLE: u32 = 8;
 
 // What is due: an erase of a sector of the bank (0 is the header's), a write of the tail into the data, or its comparison.
@@ -33,14 +33,14 @@ pub enum Stage {
     Committed,
 }
 
-// What the beginning fixed.
+// What the beginning fixes.
 pub struct Beginning {
     pub active: Loaded,
     pub comparing: bool,
     pub now: i64,
 }
 
-// How many bytes are written and how many are in the tail, and the CRC of all.
+// The bytes written and those in the tail, the CRC of all, whether a comparison found a difference, and whether the update is closed.
 pub struct Taken {
     pub written: u32,
     pub fill: u32,
@@ -68,7 +68,7 @@ pub struct Writer {
     pub tail: [u8; TAIL_SIZE],
 }
 
-// What a call says: it is done, so many bytes were taken, no operation is due, what was compared is the same or not, or why not.
+// A call's answer: done, n bytes appended, no operation due, the update the same as the active bank or not, or a refusal.
 pub enum Answer {
     Done,
     Took(u32),
@@ -84,7 +84,7 @@ pub struct Step {
     pub writer: Writer,
 }
 
-// A state but for its sources, which are most of its bytes and which most calls leave as they are.
+// A state without its sources, which are most of its bytes and which most calls leave unchanged.
 pub struct Parts {
     pub stage: Stage,
     pub beginning: Beginning,
@@ -93,7 +93,7 @@ pub struct Parts {
     pub tail: [u8; TAIL_SIZE],
 }
 
-// The answer, and the state after a call that leaves the sources.
+// The answer, and the state after a call that leaves the sources unchanged.
 pub struct PartsStep {
     pub answer: Answer,
     pub parts: Parts,
@@ -105,7 +105,7 @@ pub fn is_due(t: Taken) -> bool
     (t.fill == TAIL_SIZE_32) | (t.closed & (0 < t.fill))
 }
 
-// The sector's erase before its first write, or the write.
+// The next sector's erase before the first write to it, else the write.
 pub fn data_due(t: Taken) -> Operation
     ensures { λ r. ⌜ r ≡ State.dataDue t ⌝ }
 {
@@ -218,7 +218,7 @@ fn stage_ok(comparing: bool, t: Taken, s: Stage) -> bool
     }
 }
 
-// Whether the parts of a state are within their ranges; they are few bytes of it.
+// Whether a state is within its ranges, by those few of its bytes that matter.
 pub fn parts_in_range(b: Beginning, t: Taken, x: Tables, s: Stage) -> bool
     ensures { λ r. ⌜ r ≡ (State.activeOk (b .active) && (State.takenOk t && (State.tablesOk (State.position t) x && State.stageOk (b .comparing) t s))) ⌝ }
 {
@@ -226,7 +226,7 @@ pub fn parts_in_range(b: Beginning, t: Taken, x: Tables, s: Stage) -> bool
     active_ok(a) & (taken_ok(t) & (tables_ok(position(t), x) & stage_ok(b.comparing, t, s)))
 }
 
-// Whether a state, made by anyone, is within its ranges.
+// Whether a state, whoever made it, is within its ranges.
 pub fn in_range(w: Writer) -> bool
     ensures { λ r. ⌜ r ≡ State.inRange w ⌝ }
 {
@@ -237,7 +237,7 @@ pub fn in_range(w: Writer) -> bool
     parts_in_range(b, t, x, s)
 }
 
-// A call that is answered.
+// A call that is done.
 pub fn did(w: Writer) -> Step
     ensures { λ x. ⌜ x ≡ State.did w ⌝ }
 {
@@ -247,7 +247,7 @@ pub fn did(w: Writer) -> Step
     }
 }
 
-// A call that is refused: the state is as it was.
+// A call that is refused: the state is unchanged.
 pub fn stays(w: Writer, r: Refusal) -> Step
     ensures { λ x. ⌜ x ≡ State.stays w r ⌝ }
 {
@@ -301,7 +301,7 @@ pub fn step_with(s: PartsStep, sources: [Source; SOURCES]) -> Step
     Step { answer, writer }
 }
 
-// A call on parts that is answered.
+// A call on parts that is done.
 pub fn parts_did(p: Parts) -> PartsStep
     ensures { λ x. ⌜ x ≡ partsDid p ⌝ }
 {
@@ -309,7 +309,7 @@ pub fn parts_did(p: Parts) -> PartsStep
     PartsStep { answer, parts: p }
 }
 
-// A call on parts that is refused: they are as they were.
+// A call on parts that is refused: they are unchanged.
 pub fn parts_stay(p: Parts, r: Refusal) -> PartsStep
     ensures { λ x. ⌜ x ≡ partsStay p r ⌝ }
 {
