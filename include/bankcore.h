@@ -114,7 +114,7 @@ typedef struct TtFreshNumbers {
     int64_t updated;
 } TtFreshNumbers;
 
-/* Whether there is a row; where the next one starts, and how many bytes its values have. */
+/* Whether there is a row; the place of the next one, and how many bytes the values have. */
 typedef struct TtBankRowNumbers {
     uint32_t refusal;
     uint32_t found;
@@ -183,10 +183,10 @@ typedef struct TtSource {
     uint8_t validator[66];
 } TtSource;
 
-/* The stage is 0 idle, 1 an erase, 2 a write, 3 a comparison due, 4 headed, 5 committed. First
-   is the due erase's sector (0 is the header's), or the offset in the data of the due write or
-   comparison, and second its length, without padding. Active is 0 with no active bank, 1 with
-   one, 2 after a refused beginning. A flag is set where its number isn't 0. */
+/* The stage is 0 idle, 1 an erase due, 2 a write due, 3 a comparison due, 4 header written, 5
+   committed. First is the due erase's sector (0 is the header's), or the offset in the data of
+   the due write or comparison, and second its length, without padding. Active is 0 with no
+   active bank, 1 with one, 2 after a refused beginning. A flag is set if its number isn't 0. */
 typedef struct TtState {
     uint32_t stage;
     uint32_t first;
@@ -205,14 +205,15 @@ typedef struct TtState {
     uint8_t tail[256];
 } TtState;
 
-/* An answer: 0 done, 1 bytes were taken, 2 none is due, 3 the same, 4 different. */
+/* An answer: 0 done, 1 bytes were appended, 2 none is due, 3 the same, 4 different. Count is the
+   number of bytes appended. */
 typedef struct TtUpdateNumbers {
     uint32_t refusal;
     uint32_t answer;
     uint32_t count;
 } TtUpdateNumbers;
 
-/* What crosses back: the answer, and the state after the call. */
+/* What a call gives back: the answer, and the state after it. */
 typedef struct TtUpdateStep {
     TtUpdateNumbers numbers;
     TtState state;
@@ -222,19 +223,19 @@ typedef struct TtUpdateStep {
 
 /* ---- The leaves: numbers in bytes, CRC-32, generations, dates. */
 
-/* The number of four bytes at i, little-endian; bytes past the end read 0. */
+/* The 32-bit number at offset i, little-endian; bytes past the end read 0. */
 uint32_t tt_get(const uint8_t *b, size_t b_length, size_t i);
 
-/* Writes the number n at i, four bytes little-endian; where they don't fit nothing changes. */
+/* Writes the number n at offset i, four bytes little-endian; if they don't fit nothing changes. */
 void tt_put(uint8_t *b, size_t b_length, size_t i, uint32_t n);
 
-/* The signed 64-bit time at i, little-endian; bytes past the end read 0. */
+/* The signed 64-bit time at offset i, little-endian; bytes past the end read 0. */
 int64_t tt_get_time(const uint8_t *b, size_t b_length, size_t i);
 
-/* Writes the time z at i, eight bytes little-endian; where they don't fit nothing changes. */
+/* Writes the time z at offset i, eight bytes little-endian; if they don't fit nothing changes. */
 void tt_put_time(uint8_t *b, size_t b_length, size_t i, int64_t z);
 
-/* The CRC-32 of bytes, continued from the CRC of those before; 0 to begin. */
+/* The CRC-32 of bytes, continued from the CRC of those before; start is 0 if there are none. */
 uint32_t tt_crc32(uint32_t start, const uint8_t *bytes, size_t bytes_length);
 
 /* Whether generation a is newer than b, wrapping. */
@@ -243,7 +244,7 @@ bool tt_newer(uint32_t a, uint32_t b);
 /* The generation after g; 0 follows 4294967295. */
 uint32_t tt_next(uint32_t g);
 
-/* A date's number, year × 10000 + month × 100 + day; 0 where there is no such date. */
+/* A date's number, year × 10000 + month × 100 + day; 0 if there is no such date. */
 uint32_t tt_date_new(uint16_t year, uint8_t month, uint8_t day);
 
 /* Whether d is a date's number. */
@@ -254,20 +255,20 @@ uint32_t tt_rotate13(uint32_t x);
 
 /* ---- Keys, and banks: load and the calls on a loaded bank. */
 
-/* All tests of a bank but its data's CRC, refusals 1 to 6, and its numbers. */
+/* Tests a bank except for its data's CRC, refusals 1 to 6, and gives its numbers. */
 TtBankNumbers tt_header(const uint8_t *region, size_t region_length, uint32_t bank);
 
-/* All tests of a bank, refusals 1 to 7, and its numbers. */
+/* Tests a bank, refusals 1 to 7, and gives its numbers. */
 TtBankNumbers tt_validate(const uint8_t *region, size_t region_length, uint32_t bank);
 
-/* The bank in use: the first to pass, the newer one tried first; found is 0 where none passes. */
+/* The bank in use: the first to pass, the newer one tried first; found is 0 if none passes. */
 TtBankNumbers tt_load(const uint8_t *region, size_t region_length);
 
 /* Begins checking a bank's data in turns. */
 TtTurnNumbers tt_check_start(const uint8_t *region, size_t region_length, uint32_t bank);
 
-/* One turn of at most n bytes from the state given; with nothing left it gives the verdict, 1 or
-   refusal 7. */
+/* One turn of at most n bytes from the state passed; with nothing left it gives the verdict, 1
+   or refusal 7. */
 TtTurnNumbers tt_check_turn(
     const uint8_t *region,
     size_t region_length,
@@ -276,8 +277,8 @@ TtTurnNumbers tt_check_turn(
     uint32_t crc,
     uint32_t n);
 
-/* The key of an identity and picks into out; five lengths to a pick: line, route, stop code,
-   stop, stop name. */
+/* Writes the key of an identity and picks to out; five lengths to a pick: line, route, stop
+   code, stop, stop name. */
 TtKeyNumbers tt_key(
     const uint8_t *identity,
     size_t identity_length,
@@ -300,8 +301,8 @@ TtMatchNumbers tt_same_key(
     const uint32_t *lengths,
     size_t lengths_length);
 
-/* When a bank was checked and the sources of the wanted days were updated; the lowest number is
-   not known. */
+/* When a bank was checked and the sources of the wanted days were updated; the lowest number
+   means unknown. */
 TtFreshNumbers tt_fresh(
     const uint8_t *region,
     size_t region_length,
@@ -314,7 +315,7 @@ TtFreshNumbers tt_fresh(
     bool wanted2,
     int64_t at);
 
-/* A source's record into the first 384 bytes of out, in version 3's form. */
+/* Writes a source's record to the first 384 bytes of out, in version 3's form. */
 uint32_t tt_source(
     const uint8_t *region,
     size_t region_length,
@@ -323,8 +324,8 @@ uint32_t tt_source(
     uint8_t *out,
     size_t out_length);
 
-/* The row at a place of a table of a source: its values joined into out, where each ends into
-   ends. */
+/* Reads the row at a place of a source's table: its values, joined, to out, and where each ends
+   to ends. */
 TtBankRowNumbers tt_bank_row(
     const uint8_t *region,
     size_t region_length,
@@ -342,10 +343,10 @@ TtBankRowNumbers tt_bank_row(
 /* How many columns a table has; 0 above table 7. */
 size_t tt_column_count(uint32_t table);
 
-/* A table's names line into out. */
+/* Writes a table's names line to out. */
 TtRowNumbers tt_names_line(uint32_t table, uint8_t *out, size_t out_length);
 
-/* The row of a table with these values into out; a length for each value. */
+/* Writes the row of a table's values to out; a length for each value. */
 TtRowNumbers tt_row(
     uint32_t table,
     const uint8_t *texts,
@@ -355,8 +356,8 @@ TtRowNumbers tt_row(
     uint8_t *out,
     size_t out_length);
 
-/* The row of width values at a place of a stored table: its values joined into out, where each
-   ends into ends. */
+/* Reads the row of width values at a place of a stored table: its values, joined, to out, and
+   where each ends to ends. */
 TtReadNumbers tt_read_row(
     const uint8_t *table,
     size_t table_length,
@@ -374,16 +375,17 @@ TtFilterNumbers tt_filter_query(
     const uint8_t *id,
     size_t id_length);
 
-/* Puts a trip id into the filter, and says whether it may have been there. */
+/* Inserts a trip id into the filter, and says whether it may have been there before. */
 TtFilterNumbers tt_filter_insert(
     uint8_t *bits,
     size_t bits_length,
     const uint8_t *id,
     size_t id_length);
 
-/* ---- An update's lower calls. The state crosses by value, as numbers of which any are allowed. */
+/* ---- An update's lower calls. The state is passed by value, as numbers; any numbers are
+   allowed. */
 
-/* Begins an update: loads the region; in comparing mode nothing is written. It takes no key. */
+/* Begins an update: loads the region; in comparing mode nothing is written. It appends no key. */
 TtUpdateStep tt_update_begin(
     const uint8_t *region,
     size_t region_length,
@@ -397,22 +399,22 @@ TtUpdateStep tt_update_source(TtState state, const uint8_t *bytes, size_t bytes_
 /* Begins a table of the last source. */
 TtUpdateStep tt_update_table(TtState state, uint32_t table);
 
-/* Takes bytes until the tail is full, and says how many; none while an operation is due. */
+/* Appends bytes until the tail is full, and says how many; none while an operation is due. */
 TtUpdateStep tt_update_bytes(TtState state, const uint8_t *bytes, size_t bytes_length);
 
 /* Ends the open table. */
 TtUpdateStep tt_update_end(TtState state);
 
-/* No more bytes: what the tail holds is then due. */
+/* Closes the update: the bytes in the tail are then due. */
 TtUpdateStep tt_update_close(TtState state);
 
 /* Does the erase, write or comparison that is due, or says that none is. */
 TtUpdateStep tt_update_due(uint8_t *region, size_t region_length, TtState state);
 
-/* Whether the active bank is what was compared with it. */
+/* Whether the update that was compared is the same as the active bank. */
 TtUpdateStep tt_update_unchanged(const uint8_t *region, size_t region_length, TtState state);
 
-/* The first write of a commit: the header without its commit word. */
+/* The first write of a commit: the header with 255 in the commit word. */
 TtUpdateStep tt_update_commit(
     uint8_t *region,
     size_t region_length,
@@ -424,9 +426,9 @@ TtUpdateStep tt_update_commit(
 /* The second write of a commit: the commit word. */
 TtUpdateStep tt_update_commit_word(uint8_t *region, size_t region_length, TtState state);
 
-/* ---- An update's upper calls. Texts that belong together pass joined, with their lengths. */
+/* ---- An update's upper calls. Several texts are passed joined, with their lengths. */
 
-/* Begins an update and feeds the key of an identity and picks; five lengths to a pick. */
+/* Begins an update and appends the key of an identity and picks; five lengths to a pick. */
 TtUpdateStep tt_upper_begin(
     uint8_t *region,
     size_t region_length,
@@ -440,7 +442,7 @@ TtUpdateStep tt_upper_begin(
     size_t lengths_length,
     TtState state);
 
-/* Begins a source and feeds its dates; its record is version 3's, 384 bytes. */
+/* Begins a source and appends its dates; its record is version 3's, 384 bytes. */
 TtUpdateStep tt_upper_source(
     uint8_t *region,
     size_t region_length,
@@ -448,10 +450,10 @@ TtUpdateStep tt_upper_source(
     const uint8_t *bytes,
     size_t bytes_length);
 
-/* Begins a table of the last source and feeds its names line. */
+/* Begins a table of the last source and appends its names line. */
 TtUpdateStep tt_upper_table(uint8_t *region, size_t region_length, TtState state, uint32_t table);
 
-/* Feeds a row of the open table; a length for each value. */
+/* Appends a row of the open table; a length for each value. */
 TtUpdateStep tt_upper_row(
     uint8_t *region,
     size_t region_length,
@@ -464,7 +466,7 @@ TtUpdateStep tt_upper_row(
 /* Ends the open table. */
 TtUpdateStep tt_upper_end(uint8_t *region, size_t region_length, TtState state);
 
-/* Closes the update: what the tail holds is written. */
+/* Closes the update: the bytes in the tail are written, or compared in comparing mode. */
 TtUpdateStep tt_upper_close(uint8_t *region, size_t region_length, TtState state);
 
 #ifdef __cplusplus

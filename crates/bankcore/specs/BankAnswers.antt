@@ -1,4 +1,5 @@
--- What crosses to C: each answer as numbers. 0 is no refusal; beside a refusal every other number is 0, a time unknown.
+-- Each answer as numbers for C. Refusal 0 means none; on a refusal the other numbers are 0, but freshness has unknown times, and a turn
+-- the state after it.
 use mathlib.Core.List.{List}
 use Prim.Native.Nat.{ℕ}
 use lib.Dec.{leb}
@@ -103,7 +104,7 @@ ofTurn t =
       crc = t .next .crc;
     }
 
--- a source crosses as its record of version 3 in a lent output; 9 where that is shorter
+-- a source is given as its record of version 3 in a lent output; 9 if that is shorter
 abbrev pub refusalOf : ℕ → Outcome → ℕ
 refusalOf room Done = pick (leb 384 room) 0 (numberOf Small)
 refusalOf room (NoSource r) = numberOf r
@@ -112,7 +113,7 @@ abbrev pub outputOf : List ℕ → Asked → Outcome → List ℕ
 outputOf out a Done = written out 0 (sourceBytes (a .source))
 outputOf out a (NoSource r) = out
 
--- a row of a bank: found is 1 where one was read; at the table's end all are 0
+-- a row of a bank: found is 1 if one was read; at the table's end all are 0
 abbrev pub ofBankRow : ReadAnswer → BankRowNumbers
 ofBankRow (Stored next size) = record { refusal = 0; found = 1; next = next; size = size }
 ofBankRow End = record { refusal = 0; found = 0; next = 0; size = 0 }

@@ -1,4 +1,4 @@
--- What crosses to C: each answer as numbers. 0 is no refusal; beside a refusal every other number is 0.
+-- Each answer as numbers for C. Refusal 0 means none; on a refusal every other number is 0.
 use Prim.Native.Nat.{ℕ}
 use Rattle.refusal.specs.Refusal.{numberOf}
 use Rattle.row.specs.declared.RowAnswer.{RowAnswer}
@@ -15,7 +15,7 @@ abbrev pub ofRow : RowAnswer → RowNumbers
 ofRow (Written n) = record { refusal = 0; length = n }
 ofRow (NotWritten r) = record { refusal = numberOf r; length = 0 }
 
--- no row: at the table's end without a refusal
+-- no row: a refusal, or 0 at the table's end
 abbrev pub noRow : ℕ → ReadNumbers
 noRow r = record { refusal = r; found = 0; next = 0; size = 0 }
 

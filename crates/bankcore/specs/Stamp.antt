@@ -1,4 +1,4 @@
--- The host's stamp as it crosses, which counts only where there is one.
+-- The host's stamp as C passes it: a flag, and a time that counts only if the flag is set.
 use mathlib.Core.Bool.{Bool, true, false}
 use lib.IntN.{ℤ}
 use Rattle.commit.specs.declared.Stamp.{Stamp}

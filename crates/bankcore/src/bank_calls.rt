@@ -73,7 +73,7 @@ pub struct TurnNumbers {
     pub crc: u32,
 }
 
-// Whether there is a row; where the next one starts, and how many bytes its values have.
+// Whether there is a row; the place of the next one, and how many bytes the values have.
 #[repr(C)]
 pub struct BankRowNumbers {
     pub refusal: u32,
@@ -235,7 +235,7 @@ fn of_bank_row(x: ReadAnswer) -> BankRowNumbers
     }
 }
 
-// All tests of a bank but its data's CRC, refusals 1 to 6, and its numbers.
+// Tests a bank except for its data's CRC, refusals 1 to 6, and gives its numbers.
 #[no_mangle]
 pub extern "C" fn tt_header(region: &[u8], bank: u32) -> BankNumbers
     ensures { λ r. ⌜ r ≡ Answers.ofValidated (Banks.named (now (region .entry)) bank) ⌝ }
@@ -243,7 +243,7 @@ pub extern "C" fn tt_header(region: &[u8], bank: u32) -> BankNumbers
     of_validated(bank::header(region, bank))
 }
 
-// All tests of a bank, refusals 1 to 7, and its numbers.
+// Tests a bank, refusals 1 to 7, and gives its numbers.
 #[no_mangle]
 pub extern "C" fn tt_validate(region: &[u8], bank: u32) -> BankNumbers
     ensures { λ r. ⌜ r ≡ Answers.ofValidated (Banks.validated (now (region .entry)) bank) ⌝ }
@@ -251,7 +251,7 @@ pub extern "C" fn tt_validate(region: &[u8], bank: u32) -> BankNumbers
     of_validated(bank::validate(region, bank))
 }
 
-// The bank in use: the first to pass, the newer one tried first; found is 0 where none passes.
+// The bank in use: the first to pass, the newer one tried first; found is 0 if none passes.
 #[no_mangle]
 pub extern "C" fn tt_load(region: &[u8]) -> BankNumbers
     ensures { λ r. ⌜ r ≡ Answers.ofLoaded (Banks.loaded (now (region .entry))) ⌝ }
@@ -267,7 +267,7 @@ pub extern "C" fn tt_check_start(region: &[u8], bank: u32) -> TurnNumbers
     of_turn(bank::turns::check_start(region, bank))
 }
 
-// One turn of at most n bytes from the state given; with nothing left it gives the verdict, 1 or refusal 7.
+// One turn of at most n bytes from the state passed; with nothing left it gives the verdict, 1 or refusal 7.
 #[no_mangle]
 pub extern "C" fn tt_check_turn(
     region: &[u8],
@@ -289,7 +289,7 @@ pub extern "C" fn tt_check_turn(
     ))
 }
 
-// The key of an identity and picks into out; five lengths to a pick: line, route, stop code, stop, stop name.
+// Writes the key of an identity and picks to out; five lengths to a pick: line, route, stop code, stop, stop name.
 #[no_mangle]
 pub extern "C" fn tt_key(
     identity: &[u8],
@@ -323,7 +323,7 @@ fn day(date: u32, wanted: bool) -> Day
     Day { date, wanted }
 }
 
-// When a bank was checked and the sources of the wanted days were updated; the lowest number is not known.
+// When a bank was checked and the sources of the wanted days were updated; the lowest number means unknown.
 #[no_mangle]
 pub extern "C" fn tt_fresh(
     region: &[u8],
@@ -352,7 +352,7 @@ fn fits(room: usize) -> u32
     if room < 384 { 9 } else { 0 }
 }
 
-// A source's record into the first 384 bytes of out, in version 3's form.
+// Writes a source's record to the first 384 bytes of out, in version 3's form.
 #[no_mangle]
 pub extern "C" fn tt_source(region: &[u8], bank: u32, index: u32, out: &mut [u8]) -> u32
     ensures { λ r. ⌜ r ≡ Answers.refusalOf (length (now (out .entry))) (Sources.askedSource (now (region .entry)) bank index .outcome) ⌝ }
@@ -370,7 +370,7 @@ pub extern "C" fn tt_source(region: &[u8], bank: u32, index: u32, out: &mut [u8]
     }
 }
 
-// The row at a place of a table of a source: its values joined into out, where each ends into ends.
+// Reads the row at a place of a source's table: its values, joined, to out, and where each ends to ends.
 #[no_mangle]
 pub extern "C" fn tt_bank_row(
     region: &[u8],

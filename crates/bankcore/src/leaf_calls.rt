@@ -9,7 +9,7 @@ ghost use Rattle.bankcore.specs.LeafAnswers.{dateOrZero};
 use leaf::date::Date;
 use leaf::date::NewDate;
 
-// The number of four bytes at i, little-endian; bytes past the end read 0.
+// The 32-bit number at offset i, little-endian; bytes past the end read 0.
 #[no_mangle]
 pub extern "C" fn tt_get(b: &[u8], i: usize) -> u32
     ensures { λ r. ⌜ r ≡ Bytes.word (now (b .entry)) i ⌝ }
@@ -17,7 +17,7 @@ pub extern "C" fn tt_get(b: &[u8], i: usize) -> u32
     leaf::bytes::get(b, i)
 }
 
-// Writes the number n at i, four bytes little-endian; where they don't fit nothing changes.
+// Writes the number n at offset i, four bytes little-endian; if they don't fit nothing changes.
 #[no_mangle]
 pub extern "C" fn tt_put(b: &mut [u8], i: usize, n: u32)
     ensures { λ _. ⌜ now (b .exit) ≡ Bytes.written (now (b .entry)) i (Bytes.le32 n) ⌝ }
@@ -25,7 +25,7 @@ pub extern "C" fn tt_put(b: &mut [u8], i: usize, n: u32)
     leaf::bytes::put(b, i, n)
 }
 
-// The signed 64-bit time at i, little-endian; bytes past the end read 0.
+// The signed 64-bit time at offset i, little-endian; bytes past the end read 0.
 #[no_mangle]
 pub extern "C" fn tt_get_time(b: &[u8], i: usize) -> i64
     ensures { λ r. ⌜ r ≡ Bytes.time (now (b .entry)) i ⌝ }
@@ -33,7 +33,7 @@ pub extern "C" fn tt_get_time(b: &[u8], i: usize) -> i64
     leaf::bytes::get_time(b, i)
 }
 
-// Writes the time z at i, eight bytes little-endian; where they don't fit nothing changes.
+// Writes the time z at offset i, eight bytes little-endian; if they don't fit nothing changes.
 #[no_mangle]
 pub extern "C" fn tt_put_time(b: &mut [u8], i: usize, z: i64)
     ensures { λ _. ⌜ now (b .exit) ≡ Bytes.written (now (b .entry)) i (Bytes.le64 z) ⌝ }
@@ -41,7 +41,7 @@ pub extern "C" fn tt_put_time(b: &mut [u8], i: usize, z: i64)
     leaf::bytes::put_time(b, i, z)
 }
 
-// The CRC-32 of bytes, continued from the CRC of those before; 0 to begin.
+// The CRC-32 of bytes, continued from the CRC of those before; start is 0 if there are none.
 #[no_mangle]
 pub extern "C" fn tt_crc32(start: u32, bytes: &[u8]) -> u32
     ensures { λ r. ⌜ r ≡ Crc.crc32 start (now (bytes .entry)) ⌝ }
@@ -65,7 +65,7 @@ pub extern "C" fn tt_next(g: u32) -> u32
     leaf::generation::next(g)
 }
 
-// A date's number, year × 10000 + month × 100 + day; 0 where there is no such date.
+// A date's number, year × 10000 + month × 100 + day; 0 if there is no such date.
 #[no_mangle]
 pub extern "C" fn tt_date_new(year: u16, month: u8, day: u8) -> u32
     ensures { λ r. ⌜ r ≡ dateOrZero year month day ⌝ }

@@ -1,5 +1,5 @@
-// The core's calls under C names, a module for each family. A slice passes as a pointer and a length, an answer as a struct of numbers;
-// include/bankcore.h and rust/binding declare them. No call asks anything of its caller.
+// The core's calls under C names, a module for each family. A slice is passed as a pointer and a length, an answer as a struct of numbers;
+// include/bankcore.h and rust/binding declare them. No call requires anything of its caller.
 pub mod bank_calls;
 pub mod leaf_calls;
 pub mod lower_calls;

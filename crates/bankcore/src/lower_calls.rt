@@ -1,4 +1,4 @@
-// An update's lower calls. The state crosses by value, as numbers of which any are allowed.
+// An update's lower calls. The state is passed by value, as numbers; any numbers are allowed.
 ghost use mathlib.Core.Path.{_≡_};
 ghost use Rattle.record.specs.Record.{decoded};
 ghost use Rattle.lower.specs.Lower as Lower;
@@ -20,7 +20,7 @@ use lower::append::append_parts;
 use record::VERSION;
 use record::decode;
 
-// Begins an update: loads the region; in comparing mode nothing is written. It takes no key.
+// Begins an update: loads the region; in comparing mode nothing is written. It appends no key.
 #[no_mangle]
 pub extern "C" fn tt_update_begin(
     region: &[u8],
@@ -53,14 +53,14 @@ pub extern "C" fn tt_update_table(state: State, table: u32) -> UpdateStep
     after(s, state)
 }
 
-// Takes bytes until the tail is full, and says how many; none while an operation is due.
+// Appends bytes until the tail is full, and says how many; none while an operation is due.
 #[no_mangle]
 pub extern "C" fn tt_update_bytes(state: State, bytes: &[u8]) -> UpdateStep
     ensures { λ x. ⌜ x ≡ Answers.after (Lower.bytesStep (writerOf state) (now (bytes .entry))) state ⌝ }
 {
     let p = parts_of(state);
     let s = append_parts(p, bytes);
-    // the tail is that of the parts, also where the bytes are refused
+    // the tail is that of the parts, also on a refusal
     let q = s.parts;
     let tail = q.tail;
     let x = after_parts(s, state);
@@ -79,7 +79,7 @@ pub extern "C" fn tt_update_end(state: State) -> UpdateStep
     after(s, state)
 }
 
-// No more bytes: what the tail holds is then due.
+// Closes the update: the bytes in the tail are then due.
 #[no_mangle]
 pub extern "C" fn tt_update_close(state: State) -> UpdateStep
     ensures { λ x. ⌜ x ≡ Answers.after (Lower.closeStep (writerOf state)) state ⌝ }
@@ -96,7 +96,7 @@ pub extern "C" fn tt_update_due(region: &mut [u8], state: State) -> UpdateStep
 {
     let p = parts_of(state);
     let s = due_parts(p, region);
-    // the tail stays
+    // the tail is unchanged
     let tail = state.tail;
     let x = after_parts(s, state);
     let numbers = x.numbers;
@@ -105,7 +105,7 @@ pub extern "C" fn tt_update_due(region: &mut [u8], state: State) -> UpdateStep
     UpdateStep { numbers, state: v }
 }
 
-// Whether the active bank is what was compared with it.
+// Whether the update that was compared is the same as the active bank.
 #[no_mangle]
 pub extern "C" fn tt_update_unchanged(region: &[u8], state: State) -> UpdateStep
     ensures { λ x. ⌜ x ≡ Answers.after (Unchanged.unchangedStep (now (region .entry)) (writerOf state)) state ⌝ }
@@ -123,7 +123,7 @@ fn stamp_of(stamped: bool, stamp: i64) -> Stamp
     Stamp::Missing
 }
 
-// The first write of a commit: the header without its commit word.
+// The first write of a commit: the header with 255 in the commit word.
 #[no_mangle]
 pub extern "C" fn tt_update_commit(
     region: &mut [u8],

@@ -101,7 +101,7 @@ pub extern "C" fn tt_column_count(table: u32) -> usize
     row::column_count(table)
 }
 
-// A table's names line into out.
+// Writes a table's names line to out.
 #[no_mangle]
 pub extern "C" fn tt_names_line(table: u32, out: &mut [u8]) -> RowNumbers
     ensures { λ r. ⌜ r ≡ Answers.ofRow (Rows.namesAnswer table (length (now (out .entry)))) ⌝ }
@@ -110,7 +110,7 @@ pub extern "C" fn tt_names_line(table: u32, out: &mut [u8]) -> RowNumbers
     of_row(row::names_line(table, out))
 }
 
-// The row of a table with these values into out; a length for each value.
+// Writes the row of a table's values to out; a length for each value.
 #[no_mangle]
 pub extern "C" fn tt_row(table: u32, texts: &[u8], lengths: &[u32], out: &mut [u8]) -> RowNumbers
     ensures { λ r. ⌜ r ≡ Answers.ofRow (Rows.rowAnswer table (now (texts .entry)) (now (lengths .entry)) (length (now (out .entry)))) ⌝ }
@@ -119,7 +119,7 @@ pub extern "C" fn tt_row(table: u32, texts: &[u8], lengths: &[u32], out: &mut [u
     of_row(row::row(table, texts, lengths, out))
 }
 
-// The row of width values at a place of a stored table: its values joined into out, where each ends into ends.
+// Reads the row of width values at a place of a stored table: its values, joined, to out, and where each ends to ends.
 #[no_mangle]
 pub extern "C" fn tt_read_row(
     table: &[u8],
@@ -143,7 +143,7 @@ pub extern "C" fn tt_filter_query(bits: &[u8], id: &[u8]) -> FilterNumbers
     of_filter(bloom::query(bits, id))
 }
 
-// Puts a trip id into the filter, and says whether it may have been there.
+// Inserts a trip id into the filter, and says whether it may have been there before.
 #[no_mangle]
 pub extern "C" fn tt_filter_insert(bits: &mut [u8], id: &[u8]) -> FilterNumbers
     ensures { λ r. ⌜ r ≡ Answers.ofFilter (Bloom.insertAnswer (now (bits .entry)) (now (id .entry))) ⌝ }

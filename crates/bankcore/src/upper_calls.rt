@@ -1,4 +1,4 @@
-// An update's upper calls. Texts that belong together pass joined, with their lengths.
+// An update's upper calls. Several texts are passed joined, with their lengths.
 ghost use mathlib.Core.Path.{_≡_};
 ghost use Rattle.record.specs.Record.{decoded};
 ghost use Rattle.upper.specs.Upper as Upper;
@@ -14,7 +14,7 @@ use record::VERSION;
 use record::decode;
 use upper::rows::row_parts;
 
-// Begins an update and feeds the key of an identity and picks; five lengths to a pick.
+// Begins an update and appends the key of an identity and picks; five lengths to a pick.
 #[no_mangle]
 pub extern "C" fn tt_upper_begin(
     region: &mut [u8],
@@ -32,7 +32,7 @@ pub extern "C" fn tt_upper_begin(
     after(s, state)
 }
 
-// Begins a source and feeds its dates; its record is version 3's, 384 bytes.
+// Begins a source and appends its dates; its record is version 3's, 384 bytes.
 #[no_mangle]
 pub extern "C" fn tt_upper_source(region: &mut [u8], state: State, bytes: &[u8]) -> UpdateStep
     ensures { λ x. ⌜ x ≡ Answers.after (Upper.upperStep (now (region .entry)) (writerOf state) (Upper.sourceWithDates (decoded 3 (now (bytes .entry))))) state ⌝ }
@@ -43,7 +43,7 @@ pub extern "C" fn tt_upper_source(region: &mut [u8], state: State, bytes: &[u8])
     after(s, state)
 }
 
-// Begins a table of the last source and feeds its names line.
+// Begins a table of the last source and appends its names line.
 #[no_mangle]
 pub extern "C" fn tt_upper_table(region: &mut [u8], state: State, table: u32) -> UpdateStep
     ensures { λ x. ⌜ x ≡ Answers.after (Upper.upperStep (now (region .entry)) (writerOf state) (Upper.tableWithNames table)) state ⌝ }
@@ -53,7 +53,7 @@ pub extern "C" fn tt_upper_table(region: &mut [u8], state: State, table: u32) ->
     after(s, state)
 }
 
-// Feeds a row of the open table; a length for each value.
+// Appends a row of the open table; a length for each value.
 #[no_mangle]
 pub extern "C" fn tt_upper_row(
     region: &mut [u8],
@@ -79,7 +79,7 @@ pub extern "C" fn tt_upper_end(region: &mut [u8], state: State) -> UpdateStep
     after(s, state)
 }
 
-// Closes the update: what the tail holds is written.
+// Closes the update: the bytes in the tail are written, or compared in comparing mode.
 #[no_mangle]
 pub extern "C" fn tt_upper_close(region: &mut [u8], state: State) -> UpdateStep
     ensures { λ x. ⌜ x ≡ Answers.after (Upper.upperStep (now (region .entry)) (writerOf state) Upper.closing) state ⌝ }

@@ -1,4 +1,4 @@
--- What crosses back: a call's answer as numbers, and the state after it. 0 is no refusal; beside a refusal the other numbers are 0.
+-- What C gets back: a call's answer as numbers, and the state after it. Refusal 0 means none; on a refusal the other numbers are 0.
 use mathlib.Core.Bool.{Bool, true, false}
 use Prim.Native.Nat.{ℕ}
 use Rattle.base.specs.Number.{pick}
@@ -17,7 +17,7 @@ done answer count = record { refusal = 0; answer = answer; count = count }
 abbrev pub refused : ℕ → UpdateNumbers
 refused r = record { refusal = r; answer = 0; count = 0 }
 
--- the count is of bytes taken
+-- `count` is the number of bytes appended
 abbrev pub ofAnswer : Answer → UpdateNumbers
 ofAnswer Done = done 0 0
 ofAnswer (Took n) = done 1 n
@@ -34,7 +34,7 @@ isAnswer Same = true
 isAnswer Different = true
 isAnswer (Refused r) = false
 
--- the state: the step's where the call was answered, as it was on a refusal
+-- the state after the call: the step's if the call was answered, unchanged on a refusal
 abbrev pub stateAfter : Step → State → State
 stateAfter s was = pick (isAnswer (s .answer)) (savedOf (s .writer)) was
 

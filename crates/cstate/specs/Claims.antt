@@ -11,6 +11,6 @@ use Rattle.cstate.specs.State.{activeKind, savedOf, isState, writerOf}
 abbrev pub ReadsBack : Type 0
 ReadsBack = (w : Writer) → leb (activeKind (w .beginning .active)) 1 ≡ true → writerOf (savedOf w) ≡ w
 
--- numbers that are no state mean one that no call takes
+-- numbers that are no state read as one out of range
 abbrev pub NoState : Type 0
 NoState = (s : State) → isState s ≡ false → inRange (writerOf s) ≡ false

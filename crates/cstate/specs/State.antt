@@ -1,4 +1,4 @@
--- A writer's state as plain numbers. Any numbers mean some writer; those that are no state, by a kind's number, mean one that every call
+-- A writer's state as plain numbers. Any numbers read as some writer; if the stage is above 5 or `active` above 1, as one that every call
 -- refuses with 11.
 use mathlib.Core.Bool.{Bool, true, false, not, _&&_}
 use Prim.Native.Nat.{ℕ}
@@ -82,7 +82,7 @@ savedOf w =
       tail = w .tail;
     }
 
--- and back
+-- ---- the numbers read back
 
 unfoldable pub stageOf : ℕ → ℕ → ℕ → Stage
 stageOf k a n =

@@ -1,4 +1,4 @@
-// A writer's state and a call's answer as plain numbers, for callers outside: whatever bytes they hold are some State.
+// A writer's state and a call's answer as plain numbers, for C. Any bytes are some State.
 ghost use mathlib.Core.Path.{_≡_};
 ghost use Rattle.base.specs.Number.{pick};
 ghost use Rattle.writer.specs.declared.Stage.the-variants as Stages;
@@ -24,8 +24,9 @@ use writer::Taken;
 use writer::Writer;
 use writer::with_sources;
 
-// The stage is 0 idle, 1 an erase, 2 a write, 3 a comparison due, 4 headed, 5 committed. First is the due erase's sector (0 is the header's), or the
-// offset in the data of the due write or comparison, and second its length, without padding. Active is 0 with no active bank, 1 with one, 2 after a refused beginning. A flag is set where its number isn't 0.
+// The stage is 0 idle, 1 an erase due, 2 a write due, 3 a comparison due, 4 header written, 5 committed. First is the due erase's sector
+// (0 is the header's), or the offset in the data of the due write or comparison, and second its length, without padding. Active is 0
+// with no active bank, 1 with one, 2 after a refused beginning. A flag is set if its number isn't 0.
 #[repr(C)]
 pub struct State {
     pub stage: u32,
@@ -90,7 +91,7 @@ fn is_set(flag: u32) -> bool
     !(flag == 0)
 }
 
-// The writer that a state means, but for its sources.
+// The writer that a state means, without its sources.
 pub fn parts_of(s: State) -> Parts
     ensures { λ r. ⌜ r ≡ partsOf (Saved.writerOf s) ⌝ }
 {
@@ -129,7 +130,7 @@ pub fn writer_of(s: State) -> Writer
     with_sources(p, sources)
 }
 
-// A stage's number and its operation's two.
+// A stage's number and the two numbers of its operation.
 struct StageNumbers {
     kind: u32,
     first: u32,
@@ -222,7 +223,7 @@ fn flag(b: bool) -> u32
     if b { 1 } else { 0 }
 }
 
-// A writer's parts, and its sources, as a state.
+// The state of a writer's parts and sources.
 fn state_with(p: Parts, sources: [Source; SOURCES]) -> State
     ensures { λ r. ⌜ r ≡ Saved.savedOf (withSources p sources) ⌝ }
 {
@@ -254,7 +255,7 @@ fn state_with(p: Parts, sources: [Source; SOURCES]) -> State
     }
 }
 
-// A writer as a state.
+// The state of a writer.
 pub fn state_of(w: Writer) -> State
     ensures { λ r. ⌜ r ≡ Saved.savedOf w ⌝ }
 {
@@ -263,7 +264,7 @@ pub fn state_of(w: Writer) -> State
     state_with(p, sources)
 }
 
-// An answer: 0 done, 1 bytes were taken, 2 none is due, 3 the same, 4 different.
+// An answer: 0 done, 1 bytes were appended, 2 none is due, 3 the same, 4 different. Count is the number of bytes appended.
 #[repr(C)]
 pub struct UpdateNumbers {
     pub refusal: u32,
@@ -271,7 +272,7 @@ pub struct UpdateNumbers {
     pub count: u32,
 }
 
-// What crosses back: the answer, and the state after the call.
+// What a call gives back: the answer, and the state after it.
 #[repr(C)]
 pub struct UpdateStep {
     pub numbers: UpdateNumbers,
@@ -325,7 +326,7 @@ fn is_answer(a: Answer) -> bool
     }
 }
 
-// A state after a call on its parts.
+// The state after a call on its parts.
 fn state_after(answer: Answer, p: Parts, state: State) -> State
     ensures { λ r. ⌜ r ≡ pick (Answers.isAnswer answer) (Saved.savedOf (withSources p (state .sources))) state ⌝ }
 {
@@ -336,21 +337,21 @@ fn state_after(answer: Answer, p: Parts, state: State) -> State
     state
 }
 
-// What crosses back of a call on a state's parts: the state is as it was where the call was refused.
+// What a call on a state's parts gives back; on a refusal the state is unchanged.
 pub fn after_parts(s: PartsStep, state: State) -> UpdateStep
     ensures { λ x. ⌜ x ≡ Answers.after (stepWith s (state .sources)) state ⌝ }
 {
     let a = s.answer;
     let p = s.parts;
     let numbers = of_answer(a);
-    // the sources stay: taken from the state itself on both ways, which saves copies
+    // the sources are unchanged: copying them from the state itself in both cases saves copies
     let sources = state.sources;
     let mut v = state_after(a, p, state);
     v.sources = sources;
     UpdateStep { numbers, state: v }
 }
 
-// What crosses back of a call on a state: the state is as it was where the call was refused.
+// What a call on a state gives back; on a refusal the state is unchanged.
 pub fn after(s: Step, state: State) -> UpdateStep
     ensures { λ x. ⌜ x ≡ Answers.after s state ⌝ }
 {

@@ -3,7 +3,7 @@
 --   load answers G, the bank of the last update whose commit word was written whole, else the one found at the start, else none;
 --   G's records are those that the history noted;
 --   G's 491,520 bytes are as found or as the commit word left them;
---   and its data are the bytes that the update took, in order.
+--   and its data are the bytes that the update appended, in order.
 use mathlib.Core.Path.{_≡_}
 use mathlib.Core.Bool.{Bool, true, false}
 use mathlib.Core.List.{List, [], _∷_, _++_}
@@ -28,8 +28,8 @@ use Rattle.run.specs.Run.{Lower, source, table, bytes, end, close, due, unchang
 use Rattle.upper.specs.Upper.{Upper, sourceWithDates, tableWithNames, row, tableEnd, closing, upperStep, upperOps, beginOps}
 use Rattle.powerloss.specs.Machine.{cutAt, doneAt, Event, begin, beginCut, call, cut, beginKey, beginKeyCut, upper, upperCut, Run, bankIn, recordsIn, found, next, nextAll}
 
--- What the types of the region and the arguments say: bytes are below 256, a record's fields have their widths, times have 64 bits. Nothing else is
--- asked.
+-- What the types of the region and the arguments say: bytes are below 256, a record's fields have their widths, times have 64 bits.
+-- Nothing else is required.
 abbrev pub StampTyped : Stamp → Type 0
 StampTyped (Given t) = SFits w64 t
 StampTyped Missing = Unit {0}
@@ -66,7 +66,7 @@ abbrev pub AllTyped : List Event → Type 0
 AllTyped [] = Unit {0}
 AllTyped (e ∷ es) = Typed e × AllTyped es
 
--- a bank's data are the bytes given
+-- the bank's data are these bytes, where any are given
 abbrev pub Holds : List ℕ → Option (List ℕ) → Type 0
 Holds bank none = Unit {0}
 Holds bank (some xs) = dataOf bank (length xs) ≡ xs
@@ -95,9 +95,9 @@ Settled =
     (region : List ℕ) (events : List Event) → length region ≡ regionSize → Bytes region → AllTyped events → (w : Writer) → nextAll (found region) events .state ≡ some w
     → (c : Upper) → UpperTyped c → upperStep (nextAll (found region) events .region) w c .answer ≡ Done → isDue (upperStep (nextAll (found region) events .region) w c .writer .taken) ≡ false
 
--- The list has E5's cuts: of a call whose operations are `before`, then `op`, then `rest`, the ones before may be done whole, of op the first j bytes,
--- whatever j is, and the rest not at all. So it is for every call of both layers, and for the beginning with a key. Past its size op is whole and
--- nothing more, and it counts as done once all its bytes are. (proofs/Cuts.antt: torn-calls)
+-- The list has E5's cuts: of a call whose operations are `before`, then `op`, then `rest`, those before may be done whole, of op the first
+-- j bytes, whatever j is, and the rest not at all. This holds of every call of both layers and of the beginning with a key. If j is
+-- op's size or more, op is whole and nothing else is done; it counts as done once all its bytes are. (proofs/Cuts.antt: torn-calls)
 pub record Torn : Type 0 where
   pub lower : (r : Run) (w : Writer) (c : Lower) (before rest : List Op) (op : Op) (j : ℕ) → r .state ≡ some w → lowerOps (r .region) w c ≡ before ++ (op ∷ rest)
       → next r (cut c (length before) j) .region ≡ torn (target (w .beginning .active)) j op (performed (target (w .beginning .active)) before (r .region))
@@ -109,7 +109,7 @@ pub record Torn : Type 0 where
   pub whole : (n j : ℕ) (op : Op) (region : List ℕ) → n ≤ 1 → length region ≡ regionSize → size op ≤ j → torn n j op region ≡ applied n op region
   pub number : (before rest : List Op) (op : Op) (j : ℕ) → doneAt (length before) j (before ++ (op ∷ rest)) ≡ length before + pick (leb (size op) j) 1 0
 
--- A cut asks no more of a call's arguments than the call does, and nothing of k and j (proofs/Cuts.antt: cut-typed).
+-- A cut requires no more of a call's arguments than the call does, and nothing of k and j (proofs/Cuts.antt: cut-typed).
 pub record CutTyped : Type 0 where
   pub lower : (c : Lower) (k j : ℕ) → Typed (call c) → Typed (cut c k j)
   pub upper : (c : Upper) (k j : ℕ) → Typed (upper c) → Typed (upperCut c k j)
@@ -125,7 +125,7 @@ pub record Dropped : Type 0 where
   pub lowerBeginning : (r : Run) (comparing : Bool) (now : ℤ) → NoneOpen (next r (beginCut comparing now))
   pub beginning : (r : Run) (comparing : Bool) (now : ℤ) (identity texts lengths : List ℕ) (k j : ℕ) → NoneOpen (next r (beginKeyCut comparing now identity texts lengths k j))
 
--- a list of operations none of which is without bytes (an erase has 4,096, the header's write 1,200, the commit word's 4, a write of data at least 4)
+-- every operation has a byte or more (an erase has 4,096, the header's write 1,200, the commit word's 4, a write of data at least 4)
 abbrev pub Sized : List Op → Type 0
 Sized [] = Unit {0}
 Sized (op ∷ ops) = (0 < size op) × Sized ops

@@ -1,5 +1,5 @@
--- "The book of demand 3": a history of the calls, fed their arguments, their answers and how many operations each cut call did. It reads no
--- writer's state and no flash.
+-- "The book of demand 3": a history of the calls, made of their arguments, their answers and how many operations each cut call did. It
+-- reads no writer's state and no flash.
 use mathlib.Core.Bool.{Bool, true, false}
 use mathlib.Core.List.{List, [], _∷_, _++_}
 use mathlib.Core.Option.{Option, none, some}
@@ -27,7 +27,7 @@ pub data Note : Type 0 where
   tableNote : ℕ → ℕ → Note
   endNote : ℕ → Note
 
--- an open update: its bank and generation, the beginning's now, the bytes taken, the notes, the checked time
+-- an open update: its bank and generation, the beginning's now, the bytes appended, the notes, the checked time
 pub record Update : Type 0 where
   pub number : ℕ
   pub generation : ℕ
@@ -46,11 +46,11 @@ pub record History : Type 0 where
 unfoldable pub blockBetween : List ℕ → ℕ → ℕ → Block
 blockBetween xs from to = record { offset = from; length = to - from; crc = crc32 0 (take (to - from) (drop from xs)) }
 
--- the last record with a block
+-- the records with a block set in the last of them
 abbrev pub lastWith : List Source → ℕ → Block → List Source
 lastWith rs t b = set rs (length rs - 1) (withBlock (getD rs (length rs - 1) pastEnd) t b)
 
--- the records that the notes come to, over the bytes taken; t and from: the open table and where it starts
+-- the records after these notes; xs are the bytes appended, t and from the open table and the offset where it starts
 unfoldable pub recordsAfter : List ℕ → List Source → ℕ → ℕ → List Note → List Source
 recordsAfter xs rs t from [] = rs
 recordsAfter xs rs t from (sourceNote s ∷ ns) = recordsAfter xs (rs ++ (emptied s ∷ [])) t from ns
@@ -141,7 +141,7 @@ isDone Same = false
 isDone Different = false
 isDone (Refused r) = false
 
--- whether a cut call did any operation, to its last byte; k is how many
+-- whether a cut call did an operation whole; k is how many it did
 abbrev pub anyDone : ℕ → Bool
 anyDone zero = false
 anyDone (suc k) = true
@@ -183,7 +183,7 @@ unfoldable pub afterUpper : Upper → Answer → History → Option Update → H
 afterUpper c a h none = h
 afterUpper c a h (some u) = withOpen (some (upperAfter c a u)) h
 
--- a beginning, answered: a refused one leaves what is open
+-- an answered beginning opens an update; a refused one leaves what is open
 unfoldable pub afterBegin : ℤ → List ℕ → Answer → History → History
 afterBegin now key Done h = withOpen (some (takes key (opened (h .held) now))) h
 afterBegin now key (Took n) h = h

@@ -1,6 +1,6 @@
--- Worked instances of DEMAND 3, on every region of 983,040 bytes, whatever load finds there: a small update, all its calls answered; the same list
--- with its last call, the commit word's, cut before its write, inside it and after it; one that is cut inside its first operation; and two updates,
--- the second cut.
+-- Worked instances of DEMAND 3, on every region of 983,040 bytes, whatever load finds there: a small update, all its calls answered; the
+-- same list with its last call, the commit word's, cut before its write, inside it and after it; one that is cut inside its first
+-- operation; and two updates, the second cut.
 use mathlib.Core.Path.{_≡_}
 use mathlib.Core.Bool.{true, false}
 use mathlib.Core.List.{List, [], _∷_, _++_, map}
@@ -31,7 +31,7 @@ use Rattle.base.specs.Table.{maxTables}
 abbrev pub key : List ℕ
 key = 7 ∷ []
 
--- the dates of the source, 20240101 and 20241231, four bytes each, the lowest first
+-- the dates of the source, 20240101 and 20241231, four bytes each, little-endian
 abbrev pub dates : List ℕ
 dates = 229 ∷ 214 ∷ 52 ∷ 1 ∷ 79 ∷ 219 ∷ 52 ∷ 1 ∷ []
 
@@ -59,7 +59,7 @@ theSource =
       validator = fill 0 validatorSize;
     }
 
--- the calls up to the closing, with it; the header sector's erase is due then
+-- the calls up to closing, with it; the header sector's erase is due after them
 abbrev pub callsToClosing : List Lower
 callsToClosing =
     bytes key
@@ -79,7 +79,7 @@ callsBefore = callsToClosing ++ (due ∷ due ∷ due ∷ commit Missing true ∷
 unfoldable pub updateWith : Event → List Event
 updateWith last = begin false (pos 0) ∷ (map call callsBefore ++ (last ∷ []))
 
--- the bank of that update, over what load found: the bank that isn't the found one's, the generation after it (0 and 0 where none was found),
+-- the bank of that update, over what load found: the bank that isn't the found one's, the generation after it (0 and 0 if none was found),
 -- twelve data bytes and their CRC, one source, a key of one byte, checked at 0
 abbrev pub updated : Loaded → Bank
 updated l =
@@ -101,7 +101,7 @@ theNew l = Found (updated l)
 abbrev pub theOld : Loaded → Loaded
 theOld l = l
 
--- after the list with that last event, G is this
+-- after the list with this last event, G is `held` of what load found at first
 abbrev pub Gives : Event → (Loaded → Loaded) → Type 0
 Gives last held = (region : List ℕ) → length region ≡ regionSize → nextAll (found region) (updateWith last) .history .held ≡ held (loaded region)
 
@@ -117,8 +117,8 @@ CutBeforeTheWord = Gives (cut word 0 0) theOld
 abbrev pub CutAfterTheWord : Type 0
 CutAfterTheWord = Gives (cut word 1 0) theNew
 
--- the power fails inside the commit word's write, after three of its four bytes: G is as at first, and the region has just these three bytes more;
--- after the fourth the write is done
+-- the power fails inside the commit word's write, after three of its four bytes: G is as at first, and the region has only these three
+-- bytes more; after the fourth the write is done
 abbrev pub CutInTheWord : Type 0
 CutInTheWord = Gives (cut word 0 3) theOld
 
@@ -133,8 +133,8 @@ ThreeBytesWritten =
 abbrev pub CutAtTheWordsEnd : Type 0
 CutAtTheWordsEnd = Gives (cut word 0 4) theNew
 
--- the power fails inside the header sector's erase, after 100 of its 4,096 bytes: the bank's first 100 bytes are 255, its others are as they were
--- found, and so are the other bank and G
+-- the power fails inside the header sector's erase, after 100 of its 4,096 bytes: the bank's first 100 bytes are 255, its others are as
+-- they were found, and so are the other bank and G
 unfoldable pub eraseCut : List Event
 eraseCut = begin false (pos 0) ∷ (map call callsToClosing ++ (cut due 0 100 ∷ []))
 
@@ -144,7 +144,7 @@ CutInTheErase =
     → (nextAll (found region) eraseCut .region ≡ withBank region (target (loaded region)) (fill 255 100 ++ drop 100 (bankOf region (target (loaded region)))))
     × (nextAll (found region) eraseCut .history .held ≡ loaded region)
 
--- and so load answers, by DEMAND 3
+-- load answers G, by DEMAND 3
 abbrev pub Loads : Event → (Loaded → Loaded) → Type 0
 Loads last held = (region : List ℕ) → length region ≡ regionSize → Bytes region → loaded (nextAll (found region) (updateWith last) .region) ≡ held (loaded region)
 
@@ -166,7 +166,7 @@ CutAtTheWordsEndLoads = Loads (cut word 0 4) theNew
 abbrev pub CutInTheEraseLoads : Type 0
 CutInTheEraseLoads = (region : List ℕ) → length region ≡ regionSize → Bytes region → loaded (nextAll (found region) eraseCut .region) ≡ loaded region
 
--- where the commit word is there, the bank's data are the twelve bytes
+-- once the commit word is written, the bank's data are the twelve bytes
 abbrev pub Data : Event → Type 0
 Data last =
     (region : List ℕ) → length region ≡ regionSize → Bytes region → dataOf (bankOf (nextAll (found region) (updateWith last) .region) (target (loaded region))) 12 ≡ data·
@@ -177,8 +177,8 @@ WholeUpdateData = Data (call word)
 abbrev pub CutAtTheWordsEndData : Type 0
 CutAtTheWordsEndData = Data (cut word 0 4)
 
--- E5: "A user at the stop must still get the last committed timetable, also when the cut falls in the header erase or after one, two or three bytes
--- of the commit word." The whole update, and then other events: load gives the first update's bank, or the second's over it.
+-- E5: "A user at the stop must still get the last committed timetable, also when the cut falls in the header erase or after one, two or
+-- three bytes of the commit word." After the whole update and then other events, load gives the first update's bank, or the second's.
 abbrev pub AfterOne : List Event → (Loaded → Loaded) → Type 0
 AfterOne events held =
     (region : List ℕ) → length region ≡ regionSize → Bytes region → loaded (nextAll (found region) (updateWith (call word) ++ events) .region) ≡ held (theNew (loaded region))
@@ -195,7 +195,7 @@ abbrev pub written : Source
 written = withBlock (emptied theSource) 0 (record { offset = 9; length = 3; crc = crc32 0 routes })
 
 -- The update's five flash operations: the erases of the header sector and of the first data sector, the data's write, the header's with
--- 255 in the commit word, the commit word's, 0x434f4d54 with its lowest byte first.
+-- 255 in the commit word, and the commit word's, 0x434f4d54 little-endian.
 abbrev pub FiveOperations : Type 0
 FiveOperations =
     (region : List ℕ) → length region ≡ regionSize
@@ -211,8 +211,8 @@ FiveOperations =
 abbrev pub ErasedHasNone : Type 0
 ErasedHasNone = loaded (fill 255 regionSize) ≡ Nothing
 
--- So there load gives bank 0 of generation 0 after the whole update; none after a cut before the commit word or after three of its bytes; the bank
--- with all four bytes written, whether the cut counts as inside that write (k = 0, j = 4) or as after it (k = 1, j = 0).
+-- On it load gives bank 0 of generation 0 after the whole update; none after a cut before the commit word or after three of its bytes; the
+-- bank with all four bytes written, whether the cut counts as inside that write (k = 0, j = 4) or as after it (k = 1, j = 0).
 abbrev pub onErased : Event → Loaded
 onErased last = loaded (nextAll (found (fill 255 regionSize)) (updateWith last) .region)
 

@@ -1,4 +1,4 @@
--- The board: a region and a state, and what each event of a list does to them. The calls are the very definitions that they promise.
+-- The board: a region and a state, and what each event of a list does to them. The calls are the definitions that their contracts cite.
 use mathlib.Core.Bool.{Bool, true, false}
 use mathlib.Core.List.{List, [], _∷_}
 use mathlib.Core.Option.{Option, none, some}
@@ -22,8 +22,8 @@ use Rattle.run.specs.Run.{Lower, lowerStep, lowerOps, lowerRegion}
 use Rattle.upper.specs.Upper.{Upper, upperStep, upperRegion, upperOps, beginStep, beginRegion, beginOps, keyBytes}
 use Rattle.powerloss.specs.History.{Update, History, afterLower, afterLowerCut, afterUpper, afterBegin, withOpen, isWord, isDone, anyDone}
 
--- A call with all its arguments, answered, or cut: its first k operations are done whole, and of the next the first j bytes. Any k and j: past
--- the end all operations are done, and past an operation's size it is whole. The lower beginning has no operation to cut.
+-- A call with all its arguments, answered, or cut: its first k operations are done whole, and of the next the first j bytes. Any k and j:
+-- past the last operation all are done, and past an operation's size it is whole. The lower beginning has no operation to cut.
 pub data Event : Type 0 where
   begin : Bool → ℤ → Event
   beginCut : Bool → ℤ → Event
@@ -34,7 +34,7 @@ pub data Event : Type 0 where
   upper : Upper → Event
   upperCut : Upper → ℕ → ℕ → Event
 
--- the held bank's 491,520 bytes, as found or as the commit word left them, and the data that the update took, if it was committed in the list
+-- the held bank's 491,520 bytes, as found or as the commit word left them, and the bytes appended, if its update was committed in the list
 pub record Image : Type 0 where
   pub bank : List ℕ
   pub given : Option (List ℕ)
@@ -51,8 +51,8 @@ cutAt n k j [] region = region
 cutAt n zero j (op ∷ ops) region = torn n j op region
 cutAt n (suc k) j (op ∷ ops) region = cutAt n k j ops (applied n op region)
 
--- how many of them are done then. E5: "an operation is done once all its bytes are". This counts bytes and doesn't look at the flash: an erase that
--- is cut over bytes that were 255 already isn't done.
+-- how many of them are done then. E5: "an operation is done once all its bytes are". This counts bytes and doesn't read the flash: an erase
+-- that is cut isn't done, even if the bytes left over were 255 already.
 unfoldable pub doneAt : ℕ → ℕ → List Op → ℕ
 doneAt k j [] = 0
 doneAt zero j (op ∷ ops) = pick (leb (size op) j) 1 0
@@ -67,14 +67,14 @@ bankIn region (Found b) = Region.bankOf region (b .number)
 bankIn region Nothing = []
 bankIn region (NotRead r) = []
 
--- where the commit word is written the image is the bank as it is then
+-- when the commit word is written, the image becomes the bank as it is then
 unfoldable pub imageAfter : Bool → Bool → Option Update → List ℕ → Image → Image
 imageAfter true true (some u) region i = record { bank = Region.bankOf region (u .number); given = some (u .data·) }
 imageAfter true true none region i = i
 imageAfter true false v region i = i
 imageAfter false b v region i = i
 
--- "With no state, at the start or after a cut, only a beginning can follow": another call is passed over.
+-- "With no state, at the start or after a cut, only a beginning can follow": any other call is skipped.
 unfoldable pub onCall : Lower → Run → Option Writer → Run
 onCall c r none = r
 onCall c r (some w) =
@@ -120,7 +120,7 @@ onUpperCut c k j r (some w) =
       image = r .image;
     }
 
--- a refused beginning leaves the state
+-- a refused beginning leaves the state unchanged
 abbrev pub stateAfter : Answer → Writer → Option Writer → Option Writer
 stateAfter Done w old = some w
 stateAfter (Took n) w old = old

@@ -1,5 +1,5 @@
 -- When an operation is due, and how many an update makes, on every state that a list of events of both layers reaches, refused calls and
--- cuts included (powerloss: `nextAll`).
+-- cuts included (specs/Machine.antt: `nextAll`).
 use mathlib.Core.Path.{_≡_}
 use mathlib.Core.Bool.{Bool, true, false}
 use mathlib.Core.Logic.{_⊎_}
@@ -49,8 +49,8 @@ DueExactly =
     (region : List ℕ) (events : List Event) → length region ≡ regionSize → Bytes region → AllTyped events → (w : Writer) → nextAll (found region) events .state ≡ some w
     → Exactly (nextAll (found region) events .region) w
 
--- "each of its calls is a run of lower calls that ends with nothing due": the upper beginning too, where it is answered (proofs/Settled.antt;
--- the other five: powerloss, `Settled`)
+-- "each of its calls is a run of lower calls that ends with nothing due": the upper beginning too, if it is answered (proofs/Settled.antt;
+-- the other five: specs/Claim.antt, `Settled`)
 abbrev pub BeginSettled : Type 0
 BeginSettled =
     (region : List ℕ) (events : List Event) → length region ≡ regionSize → Bytes region → AllTyped events
@@ -103,12 +103,12 @@ unfoldable pub opsAfter : Run → List Op → List Event → List Op
 opsAfter r ops [] = ops
 opsAfter r ops (e ∷ es) = opsAfter (next r e) (since r e ops) es
 
--- A committed update took a byte or more, and made that many operations.
+-- A committed update of n bytes has at least one, and made `operationsOf n` operations.
 pub record Counted (n ops : ℕ) : Type 0 where
   pub some· : 1 ≤ n
   pub count : ops ≡ operationsOf n
 
--- whatever was called, in whatever order: where the update is committed (proofs/Events.antt)
+-- after any events, in any order, if the update is committed (proofs/Events.antt)
 abbrev pub CommittedOperations : Type 0
 CommittedOperations =
     (region : List ℕ) (events : List Event) → length region ≡ regionSize → Bytes region → AllTyped events → (w : Writer) (u : Update)
