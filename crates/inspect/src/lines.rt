@@ -67,7 +67,7 @@ fn keys(region: &[u8], b: Bank) {
     key_lines(part(data, 0, b.key as usize));
 }
 
-// The tables whose present bits are set, each after a blank.
+// The tables whose present bits are set, each after a space.
 fn present(bits: u32) {
     if bits % 256 == 0 {
         say(b" none");

@@ -19,26 +19,26 @@ use row::column_count;
 use rowread::ReadAnswer;
 use std::num::wrapping_add_usize;
 
-// Zeros for a row's values: a row has at most 8,192 bytes with its LF.
+// A buffer of zeros for a row's values: a row has at most 8,192 bytes with its LF.
 fn value_room() -> [u8; MAX_ROW]
     ensures { λ r. ⌜ maxRow ≡ length r ⌝ }
 {
     [0; MAX_ROW]
 }
 
-// Zeros for a row's line: four bytes for each of its values' bytes, their quotes and what stands behind them.
+// A buffer of zeros for a row's line: four bytes for each byte of its values, their quotes, and the byte after each value.
 fn line_room() -> [u8; 32800]
     ensures { λ r. ⌜ 32800 ≡ length r ⌝ }
 {
     [0; 32800]
 }
 
-// Printed as it is.
+// Whether a byte is printed as it is.
 fn plain(b: u8) -> bool {
     (32 <= b) & (b <= 126) & (b != b'"') & (b != b'\\')
 }
 
-// A byte of a value at a place; where the next one goes.
+// Writes a byte of a value at an offset; gives the offset after it.
 fn spell_byte(b: u8, line: &mut [u8], at: usize) -> usize {
     if plain(b) {
         put8(line, at, b);
@@ -51,7 +51,7 @@ fn spell_byte(b: u8, line: &mut [u8], at: usize) -> usize {
     wrapping_add_usize(at, 4)
 }
 
-// A value in quotes at a place; where what follows it goes.
+// Writes a value in quotes at an offset; gives the offset after it.
 fn spell_value(v: &[u8], line: &mut [u8], from: usize) -> usize {
     put8(line, from, b'"');
     let mut at = wrapping_add_usize(from, 1);
@@ -69,12 +69,12 @@ fn end_of(ends: &[usize], k: usize) -> usize {
     if k < ends.len() { ends[k] } else { 0 }
 }
 
-// What stands behind value k of so many.
+// The byte after value k of `width`, counted from 1.
 fn behind(k: usize, width: usize) -> u8 {
     if k == width { b'\n' } else { b',' }
 }
 
-// The values of a row, each in quotes, and the line's end; how many bytes that is.
+// Writes the values of a row, each in quotes, and the line's end; gives how many bytes that is.
 fn spell_row(values: &[u8], ends: &[usize], width: usize, line: &mut [u8]) -> usize {
     let mut at = 0;
     let mut from = 0;
@@ -97,7 +97,7 @@ fn row_start(source: u32, t: u32, place: usize) {
     say(b": ");
 }
 
-// The line on what is read at a place of a table, none at its end; where the next row starts, or the same place.
+// The line on the row at a place of a table, none at its end; gives the place of the next row, or the same place if there is none.
 fn row_line(
     region: &[u8],
     number: u32,
@@ -126,7 +126,7 @@ fn row_line(
     }
 }
 
-// The rows of a table, up to its end or the first that is refused. Each turn but the last goes on by a byte or more.
+// The rows of a table, up to its end or the first that is refused. Each turn but the last moves on by a byte or more.
 fn row_lines(region: &[u8], number: u32, source: u32, t: u32) {
     let mut value_space = value_room();
     let values: &mut [u8] = &mut value_space;

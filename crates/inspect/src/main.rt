@@ -14,21 +14,21 @@ use crate::options::Options;
 use base::slice::part;
 use region::REGION_SIZE;
 
-// Zeros for an argument: Linux hands over none of more bytes.
+// A buffer of zeros for an argument: Linux passes no longer one.
 fn argument_room() -> [u8; 131072]
     ensures { λ r. ⌜ 131072 ≡ length r ⌝ }
 {
     [0; 131072]
 }
 
-// Zeros for 17 picks of five texts of at most 255 bytes.
+// A buffer of zeros for 17 picks of five texts of at most 255 bytes.
 fn text_room() -> [u8; 21675]
     ensures { λ r. ⌜ 21675 ≡ length r ⌝ }
 {
     [0; 21675]
 }
 
-// The image's name at the start of space; how long it is.
+// Writes the image's name to the start of space; gives its length.
 fn name(image: usize, space: &mut [u8]) -> usize {
     if image != 0 {
         return os::arg(image, space);
@@ -37,7 +37,7 @@ fn name(image: usize, space: &mut [u8]) -> usize {
     20
 }
 
-// The identity at the start of space; how long it is.
+// Writes the identity to the start of space; gives its length.
 fn identity(at: usize, space: &mut [u8]) -> usize {
     if at != 0 {
         return os::arg(at, space);
@@ -53,7 +53,7 @@ fn first_line(size: usize) {
     out::say(b"\n");
 }
 
-// All lines on an image of a size, or that the size is wrong. Its name is the first n bytes of space.
+// Writes all lines on an image, or that its size is wrong. Its name is the first n bytes of space.
 fn tell(
     region: &[u8],
     size: usize,

@@ -9,7 +9,7 @@ fn complain(text: &[u8]) {
     io::write_all(STDERR_FILENO, text);
 }
 
-// What is wrong with the arguments.
+// Says what is wrong with the arguments.
 fn wrong(text: &[u8]) {
     complain(b"inspect: ");
     complain(text);
@@ -73,7 +73,7 @@ fn help() {
     help_end();
 }
 
-// Says what the arguments come to, where that is not an image to read; whether that was so.
+// Writes the help or what is wrong with the arguments; whether there was either.
 pub fn said(o: Options, space: &mut [u8]) -> bool {
     let end = o.end;
     match end {
@@ -92,14 +92,14 @@ pub fn said(o: Options, space: &mut [u8]) -> bool {
     true
 }
 
-// An image that can't be read, with the reason.
+// Says that an image can't be read, and why.
 pub fn unread(name: &[u8]) {
     complain(b"inspect: ");
     complain(name);
     os::fail(b" can't be read");
 }
 
-// An image of another size.
+// Says that an image has a wrong size.
 pub fn wrong_size(name: &[u8], n: usize) {
     complain(b"inspect: ");
     complain(name);

@@ -14,7 +14,7 @@ use snapshot::freshness::Day;
 use snapshot::freshness::Days;
 use std::num::wrapping_add_usize;
 
-// What the arguments so far come to: go on, help, or what is wrong.
+// The outcome of the arguments so far: continue, help, or what is wrong.
 pub enum End {
     More,
     Help,
@@ -29,8 +29,8 @@ pub enum End {
     Rows,
 }
 
-// What the arguments ask for. The image and the identity are places of arguments, 0 for none. Of the picks their lengths and their
-// bytes are counted; at most 17 picks are kept, one more than a key can have. Source 3 and table 8 are all.
+// What the arguments ask for. The image and the identity are indices of arguments, 0 for none. Of the picks the lengths and the bytes are
+// counted; at most 17 picks are kept, one more than a key can have. Source 3 and table 8 are all.
 pub struct Options {
     pub end: End,
     pub at: usize,
@@ -80,7 +80,7 @@ fn ended(o: Options, end: End) -> Options {
     Options { end, ..o }
 }
 
-// Whether n arguments follow the one at a place.
+// Whether n arguments follow the one at an index.
 fn follow(at: usize, n: usize) -> bool {
     wrapping_add_usize(at, n) < os::arg_count()
 }
@@ -96,7 +96,7 @@ fn take_image(o: Options) -> Options {
     }
 }
 
-// A signed number, in two parts: its sign, and what follows.
+// Whether a number starts with a minus sign.
 fn negative(s: &[u8]) -> bool {
     get8(s, 0) == b'-'
 }
@@ -159,7 +159,7 @@ fn dated(d: Day, v: u64) -> Day {
     }
 }
 
-// Three numbers with commas between.
+// Reads three numbers with commas between them.
 fn dates(o: Options, s: &[u8]) -> Options {
     let a = find(s, 0, b',');
     let b = find(s, wrapping_add_usize(a, 1), b',');
@@ -209,7 +209,7 @@ fn wished(d: Day, c: u8) -> Day {
     }
 }
 
-// The three days with their flags.
+// The three days with their wanted flags.
 fn wishes(d: Days, s: &[u8]) -> Days {
     Days {
         first: wished(d.first, get8(s, 0)),
@@ -244,12 +244,12 @@ fn take_identity(o: Options) -> Options {
     }
 }
 
-// A field's length; one of 255 bytes is over every size, and so are those that are cut to it.
+// A field's length, at most 255: a field of 255 bytes is over every size already.
 fn cut(n: usize) -> u32 {
     if n < 255 { n as u32 } else { 255 }
 }
 
-// The five texts after a place, behind those that are there; where the next ones go.
+// Appends the five texts after an argument to those that are there; gives the offset after them.
 fn keep(
     at: usize,
     first: usize,
@@ -392,7 +392,7 @@ fn kind(s: &[u8]) -> u8 {
     if same(s, b"--rows") { 8 } else { 9 }
 }
 
-// One option with what follows it.
+// Reads one option with what follows it.
 fn step(o: Options, space: &mut [u8], texts: &mut [u8], lengths: &mut [u32]) -> Options {
     let n = os::arg(o.at, space);
     let k = kind(part(space, 0, n));
@@ -431,7 +431,7 @@ fn whole(o: Options) -> Options {
     }
 }
 
-// All arguments. Each turn takes one or more of them.
+// Reads all arguments. Each turn reads one or more of them.
 pub fn read(space: &mut [u8], texts: &mut [u8], lengths: &mut [u32]) -> Options {
     let mut o = none();
     let mut left = os::arg_count();

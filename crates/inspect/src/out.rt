@@ -18,7 +18,7 @@ pub fn field(name: &[u8], n: u32) {
     io::print_decimal(STDOUT_FILENO, wider(n));
 }
 
-// A text and a place.
+// A text and an offset.
 pub fn place_field(name: &[u8], n: usize) {
     say(name);
     io::print_decimal(STDOUT_FILENO, n as u64);
@@ -88,7 +88,7 @@ pub fn refused(r: Refusal) {
     say(b"\n");
 }
 
-// A blank and a table's name.
+// A space and a table's name.
 pub fn table(t: usize) {
     match t {
         0 => say(b" routes"),
@@ -102,13 +102,13 @@ pub fn table(t: usize) {
     }
 }
 
-// A digit of a byte in hexadecimal.
+// A hexadecimal digit.
 pub fn hex_digit(d: u8) -> u8 {
     let v = d % 16;
     if v < 10 { 48 + v } else { 87 + v }
 }
 
-// Blank and byte for each of at most 32 bytes, and the line's end; how many bytes that is.
+// Writes each of at most 32 bytes after a space, and the line's end; gives how many bytes that is.
 fn spell(bytes: &[u8], line: &mut [u8]) -> usize {
     let mut at = 0;
     let mut i = 0;

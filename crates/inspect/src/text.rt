@@ -4,13 +4,13 @@ use base::slice::part;
 use leaf::bytes::get8;
 use std::num::wrapping_add_usize;
 
-// A number, or what is none.
+// A number, or that it is none.
 pub enum Number {
     Is(u64),
     None,
 }
 
-// The place of the first byte b from a place on, or the end.
+// The index of the first byte b from an index on, or the end.
 pub fn find(s: &[u8], from: usize, b: u8) -> usize {
     let mut i = from;
     while i < s.len() {
@@ -22,7 +22,7 @@ pub fn find(s: &[u8], from: usize, b: u8) -> usize {
     s.len()
 }
 
-// What stands from a place up to another.
+// The bytes from one index to another.
 pub fn between(s: &[u8], from: usize, to: usize) -> &[u8] {
     if from <= to {
         return part(s, from, to - from);
@@ -45,7 +45,7 @@ pub fn same(a: &[u8], b: &[u8]) -> bool {
     true
 }
 
-// A digit's value, more than 9 if it is none.
+// A digit's value, above 9 if it is none.
 fn digit(c: u8) -> u64 {
     if c < b'0' {
         return 255;
@@ -53,7 +53,7 @@ fn digit(c: u8) -> u64 {
     wide64(c - b'0')
 }
 
-// The number that all bytes together are, each a digit; none above 9223372036854775809.
+// The number whose digits all bytes are; none above 9223372036854775809.
 pub fn digits(s: &[u8]) -> Number {
     if s.len() == 0 {
         return Number::None;
@@ -74,19 +74,19 @@ pub fn digits(s: &[u8]) -> Number {
     Number::Is(v)
 }
 
-// What follows the byte at a place.
+// The bytes after an index.
 pub fn after(s: &[u8], at: usize) -> &[u8] {
     between(s, wrapping_add_usize(at, 1), s.len())
 }
 
-// A byte at a place, where it fits.
+// Writes a byte at an offset, if it fits.
 pub fn put8(out: &mut [u8], at: usize, b: u8) {
     if at < out.len() {
         out[at] = b;
     }
 }
 
-// The first n bytes of a text, at a place; what doesn't fit is left out.
+// Copies the first n bytes of a text to an offset; those that don't fit are left out.
 pub fn copy(s: &[u8], n: usize, out: &mut [u8], at: usize) {
     let mut i = 0;
     while i < n {
@@ -95,7 +95,7 @@ pub fn copy(s: &[u8], n: usize, out: &mut [u8], at: usize) {
     }
 }
 
-// A length at a place, where it fits.
+// Writes a length at an index, if it fits.
 pub fn set(lengths: &mut [u32], at: usize, n: u32) {
     if at < lengths.len() {
         lengths[at] = n;

@@ -10,7 +10,7 @@ Text = List ℕ
 abbrev pub Pick : Type 0
 Pick = List Text
 
--- the first order, or the second where the first says equal
+-- the first order, or the second if the first is equal
 abbrev pub orElse : Ordering → Ordering → Ordering
 orElse Ordering·lt o = Ordering·lt
 orElse Ordering·eq o = o

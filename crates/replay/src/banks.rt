@@ -1,4 +1,4 @@
-// The lines on the region's banks: whether the core answers about the region as it is by then as the line says.
+// The lines on the region's banks: whether the core's answers about the region, as the lines before built it, are the line's.
 use crate::keys::first_lengths;
 use crate::keys::lengths;
 use crate::text::first;
@@ -35,12 +35,12 @@ fn is_refusal(a: &[u8], r: Refusal) -> bool {
     is(a, 0, wide(refusal::number(r))) & (words(a) == 1)
 }
 
-// Whether an answer is these three numbers first.
+// Whether an answer starts with these three numbers.
 fn three(a: &[u8], x: u32, y: u32, z: u32) -> bool {
     is(a, 0, x) & (is(a, 1, y) & is(a, 2, z))
 }
 
-// Whether an answer is a bank's numbers, with one before them.
+// Whether an answer is a number and a bank's numbers after it.
 fn is_bank(a: &[u8], before: u32, b: Bank) -> bool {
     (words(a) == 9)
         & (three(a, before, b.number, b.version) & three(rest(a, 3), b.generation, b.length, b.crc))
@@ -81,7 +81,7 @@ fn is_record(a: &[u8], s: Source) -> bool {
     is(a, 0, 0) & is_word(a, 1, out, 384)
 }
 
-// The record at an index among all sources of a bank.
+// The record at an index, of all sources of a bank.
 fn among(region: &[u8], number: u32, i: u32) -> Source {
     let x = snapshot::source::sources(region, number);
     let all = x.sources;
@@ -92,7 +92,7 @@ fn among(region: &[u8], number: u32, i: u32) -> Source {
     }
 }
 
-// A source's record, asked for by itself and with all the others.
+// A source's record, asked for alone and with all the others.
 pub fn source(l: &[u8], region: &[u8]) -> bool {
     let a = rest(l, 3);
     let n = number32(l, word(l, 1));
@@ -145,7 +145,7 @@ pub fn fresh(l: &[u8], region: &[u8]) -> bool {
     }
 }
 
-// Refusal, verdict and count.
+// Whether an answer is a turn's refusal, verdict and count.
 fn is_progress(a: &[u8], p: Progress) -> bool {
     match p {
         Progress::Hashed(n) => three(a, 0, 0, n),
@@ -179,7 +179,7 @@ pub fn check_turn(l: &[u8], region: &[u8]) -> bool {
     )
 }
 
-// Whether an answer is that a key was tested, and found the same or not.
+// Whether an answer is the verdict of a key match, without a refusal.
 fn is_same(a: &[u8], same: u32) -> bool {
     (words(a) == 2) & is(a, 0, 0) & is(a, 1, same)
 }

@@ -1,4 +1,4 @@
-// The lines on the filter, which stands at the region's start, and on the bytes there.
+// The lines on the filter, which is at the region's start, and on the bytes there.
 use crate::text::first;
 use crate::text::is_word;
 use crate::text::number32;
@@ -9,7 +9,7 @@ use base::slice::part;
 use bloom::Filter;
 use leaf::bytes::get8;
 
-// Whether the answer is what the line has last, 1 for present and 0 for absent.
+// Whether the answer is the line's last word, 1 for present and 0 for absent.
 fn is_answer(l: &[u8], a: Filter) -> bool {
     let want = get8(l, word(l, 3));
     match a {
@@ -19,7 +19,7 @@ fn is_answer(l: &[u8], a: Filter) -> bool {
     }
 }
 
-// Inserts into the first n bytes.
+// Inserts into a filter in the first n bytes.
 fn insert_in(region: &mut [u8], n: usize, id: &[u8]) -> Filter {
     if n < region.len() {
         return bloom::insert(&mut region[..n], id);
@@ -44,7 +44,7 @@ pub fn query(l: &[u8], region: &[u8]) -> bool {
     )
 }
 
-// The region's bytes at a place.
+// Whether the region's bytes at an offset are the line's.
 pub fn holds(l: &[u8], region: &[u8]) -> bool {
     let mut space = io::buffer();
     let want: &mut [u8] = &mut space;
@@ -53,7 +53,7 @@ pub fn holds(l: &[u8], region: &[u8]) -> bool {
     (0 < n) & is_word(l, 2, bytes, bytes.len())
 }
 
-// The CRC-32 of the region's bytes at a place.
+// Whether the CRC-32 of the region's bytes at an offset is the line's.
 pub fn sum(l: &[u8], region: &[u8]) -> bool {
     let bytes = part(region, place(l, word(l, 1)), place(l, word(l, 2)));
     leaf::crc::crc32(0, bytes) == number32(l, word(l, 3))

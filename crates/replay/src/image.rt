@@ -7,19 +7,19 @@ use crate::text::word;
 use region::REGION_SIZE;
 use std::num::wrapping_add_usize;
 
-// Zeros for a region.
+// A region of zeros.
 pub fn room() -> [u8; REGION_SIZE] {
     [0; REGION_SIZE]
 }
 
-// A byte at a place, where it fits.
+// Writes a byte at an offset, if it fits.
 fn put8(out: &mut [u8], at: usize, b: u8) {
     if at < out.len() {
         out[at] = b;
     }
 }
 
-// n bytes from a place on become b.
+// Sets n bytes from an offset on to b.
 fn set(region: &mut [u8], from: usize, n: usize, b: u8) {
     let mut i = 0;
     while i < n {
@@ -28,18 +28,18 @@ fn set(region: &mut [u8], from: usize, n: usize, b: u8) {
     }
 }
 
-// The byte that word k has as a number.
+// Word k as a byte.
 fn byte(l: &[u8], k: u8) -> u8 {
     (number(l, word(l, k)) % 256) as u8
 }
 
-// All bytes the same.
+// Sets all bytes to the same.
 fn region(l: &[u8], region: &mut [u8]) -> bool {
     set(region, 0, region.len(), byte(l, 1));
     true
 }
 
-// Bytes in hexadecimal at a place; whether all of them fit.
+// Writes hexadecimal bytes at an offset; whether all of them fit.
 fn at(l: &[u8], region: &mut [u8]) -> bool {
     let from = place(l, word(l, 1));
     let digits = word(l, 2);
@@ -50,7 +50,7 @@ fn at(l: &[u8], region: &mut [u8]) -> bool {
     false
 }
 
-// Equal bytes from a place on; whether all of them fit.
+// Sets bytes from an offset on to the same; whether all of them fit.
 fn fill(l: &[u8], region: &mut [u8]) -> bool {
     let from = place(l, word(l, 1));
     let n = place(l, word(l, 2));
@@ -63,7 +63,7 @@ fn fill(l: &[u8], region: &mut [u8]) -> bool {
     false
 }
 
-// Builds what a line says; false where it is no such line or doesn't fit.
+// Builds what a line says; false if it is no such line or doesn't fit.
 pub fn built(l: &[u8], memory: &mut [u8]) -> bool {
     if starts(l, b"at") {
         return at(l, memory);

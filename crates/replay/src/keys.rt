@@ -1,4 +1,4 @@
-// The lines on keys: an identity, texts and lengths, each in hexadecimal, a length one byte.
+// The lines on keys: an identity, texts and lengths, each in hexadecimal, one byte to a length.
 use crate::text::first;
 use crate::text::is_word;
 use crate::text::unhex;
@@ -25,7 +25,7 @@ pub fn first_lengths(l: &[u32], n: usize) -> &[u32] {
     l
 }
 
-// The lengths of word k, each of them a number; how many.
+// The lengths of word k, each as a number; gives how many they are.
 pub fn lengths(l: &[u8], k: u8, out: &mut [u32]) -> usize {
     let mut space = io::buffer();
     let bytes: &mut [u8] = &mut space;
@@ -56,7 +56,7 @@ pub fn key(l: &[u8]) -> bool {
     key_of(l, first(identity, n), first(texts, m))
 }
 
-// Whether the answer is what the line has last, 1 for the same key and 0 for another.
+// Whether the answer is the line's last word, 1 for the same key and 0 for another.
 fn answers(l: &[u8], stored: &[u8], identity: &[u8], texts: &[u8]) -> bool {
     let mut list = [0u32; 256];
     let n = lengths(l, 4, &mut list);
@@ -69,7 +69,7 @@ fn answers(l: &[u8], stored: &[u8], identity: &[u8], texts: &[u8]) -> bool {
     }
 }
 
-// The match of a stored key with the line's selection.
+// Matches a stored key with the line's selection.
 fn stored_key(l: &[u8], stored: &[u8]) -> bool {
     let mut a = io::buffer();
     let identity: &mut [u8] = &mut a;

@@ -1,4 +1,4 @@
-// One line of the list: its kind, and whether the core answers as it says.
+// One line of the list: its kind, and whether the core's answer is the line's.
 ghost use Prim.Native.Nat.{_<_};
 use crate::banks;
 use crate::filter;
@@ -16,7 +16,7 @@ use crate::text::word;
 use leaf::date::Date;
 use leaf::date::NewDate;
 
-// A yes or no that the list has as 1 or 0.
+// Whether a yes or no is the list's 1 or 0.
 fn agrees(is: bool, want: u64) -> bool {
     if is { want == 1 } else { want == 0 }
 }
@@ -89,7 +89,7 @@ fn puttime(l: &[u8]) -> bool {
     is_word(l, 4, bytes, n)
 }
 
-// The kinds of leaves and keys, by number; 12 is none of them.
+// The kinds of lines on leaves and keys, by number; 12 is none of them.
 fn leaf_kind(l: &[u8]) -> usize
     ensures { λ r. ⌜ r < 13 ⌝ }
 {
@@ -129,7 +129,7 @@ fn leaf_kind(l: &[u8]) -> usize
     if starts(l, b"samekey") { 11 } else { 12 }
 }
 
-// The kinds of banks, from 12 on; 20 is none of them.
+// The kinds of lines on banks, from 12 on; 20 is none of them.
 fn bank_kind(l: &[u8]) -> usize
     ensures { λ r. ⌜ r < 21 ⌝ }
 {
@@ -157,7 +157,7 @@ fn bank_kind(l: &[u8]) -> usize
     if starts(l, b"bankkey") { 19 } else { 20 }
 }
 
-// The kinds of rows and filter, from 20 on; 27 is none of them.
+// The kinds of lines on rows and filter, from 20 on; 27 is none of them.
 fn row_kind(l: &[u8]) -> usize
     ensures { λ r. ⌜ r < 28 ⌝ }
 {
@@ -197,7 +197,7 @@ pub fn kind(l: &[u8]) -> usize
     row_kind(l)
 }
 
-// Whether the core answers as a line of a kind says that leaves and keys have.
+// Whether the core's answer is that of a line on leaves or keys.
 fn leaf_alike(kind: usize, l: &[u8]) -> bool {
     match kind {
         0 => date(l),
@@ -216,7 +216,7 @@ fn leaf_alike(kind: usize, l: &[u8]) -> bool {
     }
 }
 
-// The same of a kind that banks have, about the region.
+// The same for a line on banks, with the region.
 fn bank_alike(kind: usize, l: &[u8], region: &[u8]) -> bool {
     match kind {
         12 => banks::validate(l, region),
@@ -231,7 +231,7 @@ fn bank_alike(kind: usize, l: &[u8], region: &[u8]) -> bool {
     }
 }
 
-// The same of a kind that rows and filter have. An insertion changes the region.
+// The same for a line on rows or the filter. An insertion changes the region.
 fn row_alike(kind: usize, l: &[u8], region: &mut [u8]) -> bool {
     match kind {
         20 => rows::names_line(l),
@@ -245,7 +245,7 @@ fn row_alike(kind: usize, l: &[u8], region: &mut [u8]) -> bool {
     }
 }
 
-// Whether the core answers as a line of a kind says.
+// Whether the core's answer is that of a line of this kind.
 pub fn alike(kind: usize, l: &[u8], region: &mut [u8]) -> bool {
     if kind < 12 {
         return leaf_alike(kind, l);

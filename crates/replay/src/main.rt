@@ -1,5 +1,5 @@
-// Replays the Rust's answers of answers.txt, and says of each kind how many the core answers alike. The list's first lines say how
-// it was made.
+// Replays the Rust's answers of answers.txt, and says for each kind how many of the core's answers are the same. The list's first lines say
+// how it was made.
 mod banks;
 mod filter;
 mod image;
@@ -14,7 +14,7 @@ ghost use lib.ListN.{length};
 use libc::STDOUT_FILENO;
 use region::REGION_SIZE;
 
-// How many lines of each kind there were, and how many came out alike.
+// How many lines of each kind there were, and for how many the answers were the same.
 struct Counts {
     seen: [u64; 28],
     same: [u64; 28],
@@ -40,7 +40,7 @@ fn tell(same: bool, n: u64) {
     io::write_all(STDOUT_FILENO, b" differs\n");
 }
 
-// Line n; comments, empty lines and those that build the region count for nothing.
+// Replays line n; comments, empty lines and those that build the region aren't counted.
 fn step(c: Counts, n: u64, l: &[u8], memory: &mut [u8]) -> Counts {
     let a = leaf::bytes::get8(l, 0);
     if a == b'#' || l.len() == 0 {
@@ -55,7 +55,7 @@ fn step(c: Counts, n: u64, l: &[u8], memory: &mut [u8]) -> Counts {
     counted(c, k, same)
 }
 
-// The part from a place up to another.
+// The bytes from one offset to another.
 fn between(s: &[u8], from: usize, to: usize) -> &[u8] {
     if from <= to {
         if to <= s.len() {
@@ -65,7 +65,7 @@ fn between(s: &[u8], from: usize, to: usize) -> &[u8] {
     &s[..0]
 }
 
-// All lines.
+// Replays all lines.
 fn replayed(s: &[u8], memory: &mut [u8]) -> Counts {
     let mut c = Counts {
         seen: [0; 28],
@@ -140,7 +140,7 @@ fn report(c: Counts) {
     say(b"all        ", seen, same);
 }
 
-// Zeros for the list, which has fewer bytes.
+// A buffer of zeros for the list, which is shorter.
 fn room() -> [u8; 524288]
     ensures { λ r. ⌜ 524288 ≡ length r ⌝ }
 {

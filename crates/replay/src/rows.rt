@@ -1,4 +1,4 @@
-// The lines on rows. Lengths and ends are numbers of 16 bits, in hexadecimal.
+// The lines on rows. Lengths and ends are 16-bit numbers in hexadecimal.
 use crate::keys::first_lengths;
 use crate::text::first;
 use crate::text::is_word;
@@ -24,12 +24,12 @@ pub fn names_line(l: &[u8]) -> bool {
     }
 }
 
-// The number of 16 bits at a place.
+// The 16-bit number at an offset.
 fn pair(bytes: &[u8], at: usize) -> u32 {
     wide(get8(bytes, at)) + wide(get8(bytes, wrapping_add_usize(at, 1))) * 256
 }
 
-// The numbers that two bytes each are, 0 past the end.
+// The 16-bit numbers of bytes, 0 past the end.
 fn pairs(bytes: &[u8], out: &mut [u32]) {
     let mut i = 0;
     while i < out.len() {
@@ -38,7 +38,7 @@ fn pairs(bytes: &[u8], out: &mut [u32]) {
     }
 }
 
-// The numbers of word k; how many.
+// The 16-bit numbers of word k; gives how many they are.
 fn numbers(l: &[u8], k: u8, out: &mut [u32]) -> usize {
     let mut space = io::buffer();
     let bytes: &mut [u8] = &mut space;
@@ -66,7 +66,7 @@ pub fn row(l: &[u8]) -> bool {
     row_of(l, first(texts, n))
 }
 
-// Whether the first n places are the numbers that two bytes each are.
+// Whether the first n ends are the 16-bit numbers of bytes.
 fn same_ends(ends: &[usize], bytes: &[u8], n: usize) -> bool {
     if ends.len() < n {
         return false;
@@ -81,7 +81,7 @@ fn same_ends(ends: &[usize], bytes: &[u8], n: usize) -> bool {
     true
 }
 
-// Whether the places that word 6 has are these, as many as the row has values.
+// Whether these are the ends of word 6, as many as the row has values.
 fn is_ends(l: &[u8], ends: &[usize]) -> bool {
     let mut space = io::buffer();
     let bytes: &mut [u8] = &mut space;
@@ -89,7 +89,7 @@ fn is_ends(l: &[u8], ends: &[usize]) -> bool {
     (n / 2 == place(l, word(l, 3))) & same_ends(ends, bytes, n / 2)
 }
 
-// A row of the table.
+// Reads a row of a table.
 fn read_in(l: &[u8], table: &[u8]) -> bool {
     let mut space = io::large_buffer();
     let out: &mut [u8] = &mut space;
@@ -108,7 +108,7 @@ fn read_in(l: &[u8], table: &[u8]) -> bool {
     }
 }
 
-// A row of the table that stands in the region.
+// Reads a row of a table that is in the region.
 pub fn read_row(l: &[u8], region: &[u8]) -> bool {
     read_in(l, part(region, place(l, word(l, 1)), place(l, word(l, 2))))
 }

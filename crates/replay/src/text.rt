@@ -1,9 +1,9 @@
-// Words of a line, numbers and bytes in them.
+// The words of a line, and the numbers and bytes in them.
 ghost use Prim.Native.Nat.{_<_};
 use base::slice::part;
 use leaf::bytes::get8;
 
-// The place of the first byte b from a place on, or the end.
+// The index of the first byte b from an index on, or the end.
 pub fn find(s: &[u8], from: usize, b: u8) -> usize {
     let mut i = from;
     while i < s.len() {
@@ -32,7 +32,7 @@ pub fn word(s: &[u8], k: u8) -> usize {
     at
 }
 
-// What stands from word k on.
+// The bytes from word k on.
 pub fn rest(s: &[u8], k: u8) -> &[u8] {
     part(s, word(s, k), s.len())
 }
@@ -48,7 +48,7 @@ pub fn words(s: &[u8]) -> usize {
     n
 }
 
-// Whether a line starts with a word and goes on after it.
+// Whether a line starts with a word and continues after it.
 pub fn starts(s: &[u8], word: &[u8]) -> bool {
     let mut i = 0;
     while i < word.len() {
@@ -77,7 +77,7 @@ fn digit(c: u8) -> u64 {
     }
 }
 
-// The decimal number at a place.
+// The decimal number at an index.
 pub fn number(s: &[u8], from: usize) -> u64 {
     let mut v: u64 = 0;
     let mut i = from;
@@ -92,12 +92,12 @@ pub fn number(s: &[u8], from: usize) -> u64 {
     v
 }
 
-// The number at a place, of 32 bits.
+// The decimal number at an index, in 32 bits.
 pub fn number32(s: &[u8], from: usize) -> u32 {
     (number(s, from) % 4294967296) as u32
 }
 
-// The number at a place, as a place of bytes.
+// The decimal number at an index, as an offset or a length.
 pub fn place(s: &[u8], from: usize) -> usize {
     number(s, from) as usize
 }
@@ -119,7 +119,7 @@ fn from_bits(x: u64) -> i64 {
     }
 }
 
-// The signed number at a place.
+// The signed number at an index.
 pub fn signed(s: &[u8], from: usize) -> i64 {
     if get8(s, from) == b'-' {
         return from_bits(std::num::wrapping_sub_u64(
@@ -130,7 +130,7 @@ pub fn signed(s: &[u8], from: usize) -> i64 {
     from_bits(number(s, from))
 }
 
-// The bytes in hexadecimal at a place, into out; how many.
+// The hexadecimal bytes at an index, into out; gives how many they are.
 pub fn unhex(s: &[u8], from: usize, out: &mut [u8]) -> usize {
     let mut n = 0;
     let mut at = from;
@@ -147,7 +147,7 @@ pub fn unhex(s: &[u8], from: usize, out: &mut [u8]) -> usize {
     n
 }
 
-// Whether the first n bytes of a are the first m of b.
+// Whether the first n bytes of a are the first m of b, and n is m.
 pub fn same(a: &[u8], n: usize, b: &[u8], m: usize) -> bool {
     if n != m {
         return false;
@@ -162,7 +162,7 @@ pub fn same(a: &[u8], n: usize, b: &[u8], m: usize) -> bool {
     true
 }
 
-// Whether word k is the first n bytes of some.
+// Whether word k is the first n of these bytes in hexadecimal.
 pub fn is_word(l: &[u8], k: u8, bytes: &[u8], n: usize) -> bool {
     let mut space = io::large_buffer();
     let want: &mut [u8] = &mut space;
@@ -170,7 +170,7 @@ pub fn is_word(l: &[u8], k: u8, bytes: &[u8], n: usize) -> bool {
     same(bytes, n, want, m)
 }
 
-// The place past an end, and past i in any case.
+// The index after an end, and in any case after i.
 pub fn past(end: usize, i: usize) -> usize
     ensures { λ r. ⌜ (i < 18446744073709551615 → i < r) ⌝ }
 {

@@ -59,7 +59,7 @@ fn least(a: u8, b: u8) -> u8
     if a < b { a } else { b }
 }
 
-// The index of the first quote of at most 64 bytes, or their end. It is taken as the least index, so that many are tested at once.
+// The index of the first quote of at most 64 bytes, or their end. It is computed as a minimum, so that many are tested at once.
 fn first_quote(v: &[u8]) -> u8
     requires { ⌜ length (now v) ≤ 64 ⌝ }
     ensures { λ r. ⌜ FirstQuote (now (v .entry)) r ⌝ }

@@ -22,7 +22,7 @@ use csv::LF;
 use csv::MAX_COLUMNS;
 use csv::QUOTE;
 
-// Unquotes the value after an opening quote into room, byte by byte.
+// Unquotes the value after an opening quote into the buffer `room`, byte by byte.
 fn buffer_bytes(t: &[u8], from: usize, room: &mut [u8], to: usize) -> Piece
     requires { ⌜ (from ≤ length (now t)) × (to + (length (now t) - from) ≤ length (now room)) ⌝ }
     ensures { λ r. ⌜ Took Inner (now (t .entry)) from (now (room .entry)) to (now (room .exit)) r ⌝ }
@@ -77,7 +77,7 @@ fn buffer_runs(t: &[u8], from: usize, room: &mut [u8], to: usize) -> Piece
     Piece::Bad
 }
 
-// Unquotes the value after an opening quote into room.
+// Unquotes the value after an opening quote into `room`.
 fn buffer_inner(t: &[u8], from: usize, room: &mut [u8], to: usize) -> Piece
     requires { ⌜ (from ≤ length (now t)) × (to + (length (now t) - from) ≤ length (now room)) ⌝ }
     ensures { λ r. ⌜ Took Inner (now (t .entry)) from (now (room .entry)) to (now (room .exit)) r ⌝ }
@@ -88,7 +88,7 @@ fn buffer_inner(t: &[u8], from: usize, room: &mut [u8], to: usize) -> Piece
     buffer_bytes(t, from, room, to)
 }
 
-// Copies the value at an offset into room, unquoted.
+// Copies the value at an offset into `room`, unquoted.
 fn buffer_field(t: &[u8], from: usize, room: &mut [u8], to: usize) -> Piece
     requires { ⌜ (from ≤ length (now t)) × (to + (length (now t) - from) ≤ length (now room)) ⌝ }
     ensures { λ r. ⌜ Took Field (now (t .entry)) from (now (room .entry)) to (now (room .exit)) r ⌝ }
@@ -103,7 +103,7 @@ fn buffer_field(t: &[u8], from: usize, room: &mut [u8], to: usize) -> Piece
     }
 }
 
-// Copies the values of a row from an offset on into room after `size` bytes, and their ends into marks after `count` ends.
+// Copies the values of a row from an offset on into `room` after `size` bytes, and their ends into `marks` after `count` ends.
 fn buffer_rest(
     t: &[u8],
     width: usize,
@@ -144,7 +144,7 @@ fn buffer_rest(
     Scan::Broken
 }
 
-// Copies a row of `width` values into room and marks; n values without quotes are before e.
+// Copies a row of `width` values into `room` and `marks`; n values without quotes are before e.
 fn buffer_row(
     t: &[u8],
     width: usize,
@@ -172,7 +172,7 @@ fn copy_ends(marks: &[usize], n: usize, ends: &mut [usize])
     }
 }
 
-// Copies a row from room and marks to the outputs, if it fits.
+// Copies a row from `room` and `marks` to the outputs, if it fits.
 fn copy_out(
     found: Scan,
     width: usize,
@@ -198,7 +198,7 @@ fn copy_out(
     Fast::Read { next, size }
 }
 
-// Reads a row of `width` values with room and marks as buffers; n values without quotes are before e.
+// Reads a row of `width` values with the buffers `room` and `marks`; n values without quotes are before e.
 fn row_through(
     t: &[u8],
     width: usize,

@@ -78,7 +78,7 @@ fn least(a: u8, b: u8) -> u8
     if a < b { a } else { b }
 }
 
-// The index of the first delimiter of at most 32 bytes, or 32. It is taken as the least index, so that many are tested at once.
+// The index of the first delimiter of at most 32 bytes, or 32. It is computed as a minimum, so that many are tested at once.
 fn first_delimiter(v: &[u8]) -> u8
     requires { ⌜ length (now v) ≤ 32 ⌝ }
     ensures { λ r. ⌜ FirstStop (now (v .entry)) r ⌝ }

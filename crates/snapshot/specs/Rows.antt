@@ -37,7 +37,7 @@ thenRow region i t place room slots (Bad r) = Refused r
 unfoldable pub askedRow : List ℕ → ℕ → ℕ → ℕ → ℕ → ℕ → ℕ → ReadAnswer
 askedRow region n i t place room slots = thenRow region i t place room slots (namedIf (leb t lastTable) region n)
 
--- the values of the row at a place, none on a refusal
+-- the values of the row at a place; the outputs get them only if the answer is `Stored`
 abbrev pub thenValues : List ℕ → ℕ → ℕ → ℕ → Validated → List (List ℕ)
 thenValues region i t place (Good b) = valuesAt (tableIn region b i t) (columnCount t) place
 thenValues region i t place (Bad r) = []
