@@ -6,12 +6,12 @@ use region::CAPACITY;
 use std::num::wrapping_add_usize;
 use std::num::wrapping_sub_usize;
 
-// Zeros for the longest update.
+// A buffer of zeros for the longest update.
 pub fn room() -> [u8; CAPACITY] {
     [0; CAPACITY]
 }
 
-// How long the key of an update of n bytes is: so long that the last row is whole.
+// The length of the key of an update of n bytes, chosen so that the last row is whole.
 pub fn key_length(n: usize) -> usize {
     32 + wrapping_sub_usize(n, 45) % 16
 }
@@ -28,7 +28,7 @@ fn digit(x: usize, d: usize) -> u8 {
     48 + (x / d % 10) as u8
 }
 
-// A byte of row x, whose line is y.
+// A byte of row x, whose line number is y.
 fn row_byte(x: usize, y: usize, place: usize) -> u8 {
     match place {
         1 => digit(x, 100000),
@@ -71,7 +71,7 @@ fn fill(data: &mut [u8], n: usize, lines: usize) {
     }
 }
 
-// Makes an update of n bytes whose lines are numbered from a number on.
+// Makes an update of n bytes; the line numbers of its rows start at `lines`.
 pub fn make(data: &mut [u8], n: usize, lines: usize) {
     fill(data, n, lines);
     put(data, key_length(n), 20260101);

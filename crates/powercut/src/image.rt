@@ -2,18 +2,18 @@
 use region::REGION_SIZE;
 use std::num::wrapping_add_usize;
 
-// How long an image is; of a longer one than a dump, one byte more than it.
+// The length of an image; one byte more than a dump if it is longer than one.
 pub enum Size {
     Bytes(usize),
     Unread,
 }
 
-// Zeros for a region.
+// A region of zeros.
 pub fn room() -> [u8; REGION_SIZE] {
     [0; REGION_SIZE]
 }
 
-// One read into the region from a place on.
+// One read into the region from an offset on.
 fn read_to(fd: i32, region: &mut [u8], at: usize) -> isize {
     if at < region.len() {
         return libc::read(fd, &mut region[at..]);
@@ -21,7 +21,7 @@ fn read_to(fd: i32, region: &mut [u8], at: usize) -> isize {
     0
 }
 
-// One read of n bytes at most that are not kept.
+// One read of at most n bytes, which are dropped.
 fn skip(fd: i32, n: usize) -> isize {
     let mut space = io::large_buffer();
     let bytes: &mut [u8] = &mut space;
@@ -31,8 +31,8 @@ fn skip(fd: i32, n: usize) -> isize {
     libc::read(fd, bytes)
 }
 
-// One read at a place of the image. The first bytes go into the region as they do where the image is one, and in a dump those of
-// its region take their place.
+// One read at an offset of the image. The first bytes are read into the region, in case the image is a region; in a dump those of its
+// region overwrite them.
 fn read_some(fd: i32, region: &mut [u8], at: usize) -> isize {
     if at < REGION_SIZE {
         return read_to(fd, region, at);
@@ -49,7 +49,7 @@ fn read_some(fd: i32, region: &mut [u8], at: usize) -> isize {
     0
 }
 
-// The region of an image, and how long the image is. Each turn but the last reads a byte or more.
+// Reads the region of an image, and gives the image's length. Each turn but the last reads a byte or more.
 pub fn read(fd: i32, region: &mut [u8]) -> Size {
     let mut at = 0;
     let mut turns: u32 = 4194306;

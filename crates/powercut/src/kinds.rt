@@ -77,12 +77,12 @@ pub fn torn_named(s: &[u8]) -> u32 {
     }
 }
 
-// Whether a choice of updates takes in a kind.
+// Whether a choice of updates includes a kind.
 pub fn has_update(choice: u32, kind: u32) -> bool {
     (choice == 5) | ((choice == kind) | ((choice == 4) & (kind < 2)))
 }
 
-// Whether a choice of leftovers takes in a kind.
+// Whether a choice of leftovers includes a kind.
 pub fn has_leftover(choice: u32, kind: u32) -> bool {
     (choice == 6) | (choice == kind)
 }
@@ -96,7 +96,7 @@ pub fn size(kind: u32) -> usize {
     }
 }
 
-// How many flash operations a kind of update takes: erases of the header's sector and of the data's, writes, header and commit word.
+// How many flash operations a kind of update makes: erases of the header's sector and of the data's, writes, header and commit word.
 pub fn operations(kind: u32) -> u32 {
     match kind {
         0 => 5,

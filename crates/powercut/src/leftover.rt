@@ -1,4 +1,4 @@
-// What stands in the bank that is written before an update begins.
+// What is in the bank that is written, before an update begins.
 use crate::data::make;
 use crate::text::blank_bank;
 use crate::text::copy_bank;
@@ -19,7 +19,7 @@ use region::CAPACITY;
 use std::num::wrapping_add_usize;
 use std::num::wrapping_sub_u32;
 
-// The number of the bank that is written where load gives l.
+// The number of the bank that is written if load gives l.
 pub fn number_after(l: Loaded) -> u32 {
     match l {
         Loaded::Found(b) => { if b.number == 0 { 1 } else { 0 } }
@@ -32,7 +32,7 @@ pub fn start(l: Loaded) -> usize {
     (number_after(l) % 2) as usize * BANK_SIZE
 }
 
-// The CRC of the header at a place.
+// The CRC of the header at an offset.
 fn header_crc(region: &[u8], at: usize) -> u32 {
     let size = source_size(get(region, wrapping_add_usize(at, 4)));
     let zeros = [0u8; 8];
@@ -48,7 +48,7 @@ fn header_crc(region: &[u8], at: usize) -> u32 {
     )
 }
 
-// The active bank again, a generation older.
+// Makes the bank a copy of the active one, a generation older.
 fn older_bank(region: &mut [u8], b: Bank, to: usize) {
     copy_bank(region, (b.number % 2) as usize * BANK_SIZE, to);
     put(
@@ -60,7 +60,7 @@ fn older_bank(region: &mut [u8], b: Bank, to: usize) {
     put(region, wrapping_add_usize(to, 40), crc);
 }
 
-// Without an active bank none is older: the bank stays as it is.
+// Without an active bank nothing is copied.
 fn older(region: &mut [u8], l: Loaded) {
     match l {
         Loaded::Found(b) => older_bank(region, b, start(l)),
@@ -68,7 +68,7 @@ fn older(region: &mut [u8], l: Loaded) {
     }
 }
 
-// Another full update, cut after so many operations.
+// Another full update, cut after the first n operations.
 fn cut_update(region: &mut [u8], data: &mut [u8], operations: u32) {
     make(data, CAPACITY, 5000);
     let u = begin(region, CAPACITY, false, false);

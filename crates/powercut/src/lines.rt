@@ -36,7 +36,7 @@ fn say_verdict(fd: i32, c: Count) {
     count(fd, b" of operation ", c.first);
 }
 
-// What an update's cuts came to.
+// The result of an update's cuts.
 pub fn say_counts(fd: i32, p: Plan, c: Count) {
     let l = p.found;
     let b = p.fresh;
@@ -61,7 +61,7 @@ pub fn update_line(p: Plan, c: Count) {
     say(STDOUT_FILENO, b"\n");
 }
 
-// What all updates came to.
+// The result of all updates.
 pub fn say_total(fd: i32, updates: u32, all: Count) {
     count(fd, b"", updates);
     if updates == 1 {

@@ -26,7 +26,7 @@ use region::REGION_SIZE;
 use region::SECTOR_SIZE;
 use std::num::wrapping_add_u32;
 
-// Zeros for an argument: Linux hands over none of more bytes.
+// A buffer of zeros for an argument: Linux passes no longer one.
 fn argument_room() -> [u8; 131072]
     ensures { λ r. ⌜ 131072 ≡ length r ⌝ }
 {
@@ -61,21 +61,21 @@ fn added(t: Tally, c: Count, y: u32) -> Tally {
     }
 }
 
-// Takes a progress line away.
+// Clears the progress line.
 fn clear(progress: bool) {
     if progress {
         out::say(STDERR_FILENO, &[13, 27, 91, 75]);
     }
 }
 
-// The image with a leftover, and the update's bytes.
+// Prepares the image with a leftover, and the update's bytes.
 fn prepare(image: &[u8], region: &mut [u8], data: &mut [u8], leftover: u32, update: u32) {
     text::copy(image, region);
     leftover::leave(region, data, leftover);
     data::make(data, kinds::size(update), 0);
 }
 
-// One update over a region that is prepared.
+// Tries an update on a prepared region.
 fn tried(
     image: &[u8],
     region: &mut [u8],
@@ -99,7 +99,7 @@ fn tried(
     added(t, c, y)
 }
 
-// One update over the image with a leftover.
+// Tries an update on the image with a leftover.
 fn one(
     image: &[u8],
     region: &mut [u8],
@@ -114,7 +114,7 @@ fn one(
     tried(image, region, again, data, o, leftover, update, t)
 }
 
-// The update, where it is chosen.
+// Tries the update, if it is chosen.
 fn if_chosen(
     image: &[u8],
     region: &mut [u8],
@@ -131,7 +131,7 @@ fn if_chosen(
     t
 }
 
-// All updates: each of four kinds for each of six leftovers.
+// Tries all updates: each of four kinds with each of six leftovers.
 fn updates(
     image: &[u8],
     region: &mut [u8],
@@ -149,7 +149,7 @@ fn updates(
     t
 }
 
-// The picture's file, below 0 where none is asked for or it can't be written. Its name is the first n bytes of space.
+// Opens the picture's file; below 0 if none is asked for or it can't be written. `space` is for its name.
 fn picture_file(o: Options, space: &mut [u8]) -> i32 {
     if o.picture == 0 {
         return -1;
@@ -215,7 +215,7 @@ fn with_rooms(image: &[u8], o: Options, fd: i32, name: &[u8]) {
     trials(image, &mut region, &mut again, &mut data, o, fd, name);
 }
 
-// The image's name at the start of space; how long it is.
+// Writes the image's name to the start of space; gives its length.
 fn name(image: usize, space: &mut [u8]) -> usize {
     if image != 0 {
         return os::arg(image, space);
@@ -224,7 +224,7 @@ fn name(image: usize, space: &mut [u8]) -> usize {
     20
 }
 
-// All trials on an image of a size, or that the size is wrong. Its name is the first n bytes of space.
+// Tries all updates on an image, or says that its size is wrong. Its name is the first n bytes of space.
 fn tell(image: &[u8], size: usize, o: Options, space: &mut [u8], n: usize) {
     if (size != REGION_SIZE) & (size != 4194304) {
         message::wrong_size(part(space, 0, n), size);
@@ -258,7 +258,7 @@ fn try_image(o: Options, space: &mut [u8]) {
     opened(fd, &mut image, o, space, n);
 }
 
-// Whether progress is told: where standard error is a terminal, or where it is asked for.
+// Whether progress is shown: if standard error is a terminal, or if it is asked for.
 fn with_progress(o: Options) -> Options {
     Options {
         progress: o.progress | (libc::isatty(STDERR_FILENO) != 0),

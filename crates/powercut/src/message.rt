@@ -10,7 +10,7 @@ fn complain(text: &[u8]) {
     say(STDERR_FILENO, text);
 }
 
-// What is wrong with the arguments.
+// Says what is wrong with the arguments.
 fn wrong(text: &[u8]) {
     complain(b"powercut: ");
     complain(text);
@@ -68,7 +68,7 @@ fn help() {
     help_end();
 }
 
-// Says what the arguments come to, where that is not a trial; whether that was so.
+// Writes the help or what is wrong with the arguments; whether there was either.
 pub fn said(o: Options, space: &mut [u8]) -> bool {
     let end = o.end;
     match end {
@@ -86,21 +86,21 @@ pub fn said(o: Options, space: &mut [u8]) -> bool {
     true
 }
 
-// A file that can't be read, with the reason.
+// Says that a file can't be read, and why.
 pub fn unread(name: &[u8]) {
     complain(b"powercut: ");
     complain(name);
     os::fail(b" can't be read");
 }
 
-// A file that can't be written, with the reason.
+// Says that a file can't be written, and why.
 pub fn unwritten(name: &[u8]) {
     complain(b"powercut: ");
     complain(name);
     os::fail(b" can't be written");
 }
 
-// An image of another size.
+// Says that an image has a wrong size.
 pub fn wrong_size(name: &[u8], n: usize) {
     complain(b"powercut: ");
     complain(name);

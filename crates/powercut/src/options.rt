@@ -9,7 +9,7 @@ use base::slice::part;
 use leaf::bytes::get8;
 use std::num::wrapping_add_usize;
 
-// What the arguments so far come to: go on, help, or what is wrong.
+// The outcome of the arguments so far: continue, help, or what is wrong.
 pub enum End {
     More,
     Help,
@@ -21,7 +21,7 @@ pub enum End {
     Picture,
 }
 
-// What the arguments ask for. The image and the picture are places of arguments, 0 for none.
+// What the arguments ask for. The image and the picture are indices of arguments, 0 for none.
 pub struct Options {
     pub end: End,
     pub at: usize,
@@ -143,7 +143,7 @@ fn kind(s: &[u8]) -> u8 {
     if same(s, b"--torn") { 6 } else { 7 }
 }
 
-// One option with what follows it.
+// Reads one option with what follows it.
 fn step(o: Options, space: &mut [u8]) -> Options {
     let n = os::arg(o.at, space);
     let k = kind(part(space, 0, n));
@@ -167,7 +167,7 @@ fn going(o: Options) -> bool {
     }
 }
 
-// All arguments. Each turn takes one or more of them.
+// Reads all arguments. Each turn reads one or more of them.
 pub fn read(space: &mut [u8]) -> Options {
     let mut o = none();
     let mut left = os::arg_count();

@@ -23,12 +23,12 @@ fn row_count(update: u32) -> u32 {
     kinds::operations(update) / 136 + 1
 }
 
-// How high an update's rows of cells are.
+// The height of an update's rows of cells.
 fn rows_height(update: u32) -> u32 {
     (row_count(update) % 100) * 10
 }
 
-// How high an update's part is: its line, its rows, and the three strips, where cuts inside operations are tried.
+// The height of an update's part: its line, its rows, and the three strips, if cuts inside operations are tried.
 fn part_height(update: u32, torn: u32) -> u32 {
     let rows = 40 + rows_height(update) % 1000;
     if torn == TRY_NONE { rows } else { rows + 40 }
@@ -41,7 +41,7 @@ fn height_of(choice: u32, update: u32, torn: u32) -> u32 {
     0
 }
 
-// How high the parts of the updates are for one leftover.
+// The height of the updates' parts for one leftover.
 fn heights(choice: u32, torn: u32) -> u32 {
     let short = wrapping_add_u32(height_of(choice, 0, torn), height_of(choice, 1, torn));
     let long = wrapping_add_u32(height_of(choice, 2, torn), height_of(choice, 3, torn));
@@ -172,7 +172,7 @@ fn legend(fd: i32) {
     );
 }
 
-// The picture's beginning; where the first update's part starts.
+// Writes the picture's beginning; gives where the first update's part starts.
 pub fn start(fd: i32, leftovers: u32, updates: u32, torn: u32) -> u32 {
     let h = height(leftovers, updates, torn);
     say(
@@ -194,7 +194,7 @@ pub fn start(fd: i32, leftovers: u32, updates: u32, torn: u32) -> u32 {
     TOP
 }
 
-// A byte of a name at a place: what XML keeps for itself is written otherwise, what isn't printable ASCII as a question mark.
+// Writes a byte of a name: XML's own signs are escaped, and what isn't printable ASCII becomes a question mark.
 fn say_byte(fd: i32, name: &[u8], i: usize) {
     let b = get8(name, i);
     if (b < 32) | (126 < b) {
@@ -217,7 +217,7 @@ fn say_name(fd: i32, name: &[u8]) {
     }
 }
 
-// The picture's end; the line for all updates stands below the title.
+// Writes the picture's end; the line for all updates is below the title.
 pub fn end(fd: i32, name: &[u8], updates: u32, all: Count) {
     text(fd, 56, 52);
     say_name(fd, name);
@@ -226,13 +226,13 @@ pub fn end(fd: i32, name: &[u8], updates: u32, all: Count) {
     say(fd, b"</text>\n</svg>\n");
 }
 
-// The cells of one colour from a place of a row up to another.
+// Draws the cells of one colour, from one index of a row to another.
 fn run_of(fd: i32, mark: u8, from: u32, to: u32, y: u32) {
     let x = 56 + (from % 136) * 8;
     rect(fd, mark, x, y, (wrapping_sub_u32(to, from) % 137) * 8);
 }
 
-// A row of cells, those of a colour together: the cuts from a number on, up to the end or 136 of them.
+// Draws a row of cells, neighbours of one colour together: the cuts from a number on, at most 136.
 fn cells(fd: i32, marks: &[u8], from: u32, n: u32, y: u32) {
     let mut k: u32 = 0;
     let mut start: u32 = 0;
@@ -269,7 +269,7 @@ fn cells(fd: i32, marks: &[u8], from: u32, n: u32, y: u32) {
     );
 }
 
-// A row of cells, with the number of its first cut before it.
+// Draws a row of cells, after the number of its first cut.
 fn row(fd: i32, marks: &[u8], from: u32, n: u32, y: u32) {
     field(
         fd,
@@ -303,14 +303,14 @@ fn overlay(fd: i32, y: u32, width: u32, height: u32) {
     say(fd, b"H56z\"/>\n");
 }
 
-// The lines over n cells: over the whole rows, and over the last one.
+// Draws the lines over n cells: over the whole rows, and over the last one.
 fn grid(fd: i32, y: u32, n: u32) {
     let whole = n / 136 % 100;
     overlay(fd, y, 1088, whole * 10);
     overlay(fd, wrapping_add_u32(y, whole * 10), n % 136 * 8, 10);
 }
 
-// A strip of cells, with its name and its first and last byte beside it.
+// Draws a strip of cells, with its name and its first and last byte beside it.
 fn strip(fd: i32, marks: &[u8], kind: u32, y: u32, name: &[u8]) {
     let from = strips::start(kind);
     let n = strips::cells(kind);
@@ -326,7 +326,7 @@ fn strip(fd: i32, marks: &[u8], kind: u32, y: u32, name: &[u8]) {
     say(fd, b"</text>\n");
 }
 
-// The three strips, where cuts inside operations are tried.
+// Draws the three strips, if cuts inside operations are tried.
 fn three_strips(fd: i32, marks: &[u8], p: Plan, top: u32) {
     if p.torn == TRY_NONE {
         return;
@@ -348,7 +348,7 @@ fn three_strips(fd: i32, marks: &[u8], p: Plan, top: u32) {
     );
 }
 
-// An update's part; where the next one starts.
+// Draws an update's part; gives where the next one starts.
 pub fn draw(fd: i32, marks: &[u8], p: Plan, c: Count, y: u32) -> u32 {
     text(fd, 56, wrapping_add_u32(y, 14));
     kinds::say_kinds(fd, p.leftover, p.update);

@@ -13,10 +13,10 @@ use std::num::wrapping_add_u32;
 
 // A cell that no cut was tried for.
 pub const UNTRIED: u8 = 3;
-// What a mark has more where the update was begun again.
+// Added to a mark if the update was begun again.
 pub const AGAIN: u8 = 4;
 
-// The marks of the cuts between operations come first, then those of each strip: where the first strip starts, and the room of each.
+// The marks of the cuts between operations come first, then those of each strip: where the first strip starts, and how many each has.
 const FIRST: u32 = 2048;
 
 const ROOM: u32 = 256;
@@ -28,7 +28,7 @@ pub fn start(kind: u32) -> u32 {
     FIRST + kind % 4 * ROOM
 }
 
-// How many bytes a strip is about.
+// How many bytes the operation of a strip has.
 pub fn bytes(kind: u32) -> u32 {
     if kind == COMMIT_WORD {
         return WORD as u32;
@@ -57,7 +57,7 @@ pub fn cells(kind: u32) -> u32 {
     wrapping_add_u32(cell(kind, bytes(kind) as usize), 1)
 }
 
-// One mark of two: what is wrong shows, and that the update was begun again.
+// Joins two marks of a cell: the worse result, and whether the update was begun again.
 fn joined(old: u8, new: u8) -> u8 {
     if old == UNTRIED {
         return new;
@@ -69,7 +69,7 @@ fn joined(old: u8, new: u8) -> u8 {
     if again { AGAIN + gave % AGAIN } else { gave }
 }
 
-// Notes what the cut after the first j bytes of an operation gave, where the operation has a strip.
+// Notes the result of the cut after the first j bytes of an operation, if the operation has a strip.
 pub fn put(marks: &mut [u8], s: Span, j: usize, mark: u8) {
     if (s.kind == NONE) | (s.kind == DATA) {
         return;

@@ -4,7 +4,7 @@ use leaf::bytes::get8;
 use region::BANK_SIZE;
 use std::num::wrapping_add_usize;
 
-// What stands from a place up to another.
+// The bytes from one offset to another.
 pub fn between(s: &[u8], from: usize, to: usize) -> &[u8] {
     if from <= to {
         return part(s, from, to - from);
@@ -27,7 +27,7 @@ pub fn same(a: &[u8], b: &[u8]) -> bool {
     true
 }
 
-// Whether two runs of bytes are the same; all of them are looked at.
+// Whether two runs of bytes are the same. The loop has no early exit.
 pub fn same_bytes(a: &[u8], b: &[u8]) -> bool {
     if a.len() != b.len() {
         return false;
@@ -41,14 +41,14 @@ pub fn same_bytes(a: &[u8], b: &[u8]) -> bool {
     !differ
 }
 
-// A byte at a place, where it fits.
+// Writes a byte at an offset, if it fits.
 pub fn put8(out: &mut [u8], at: usize, b: u8) {
     if at < out.len() {
         out[at] = b;
     }
 }
 
-// A text at the start of another, as far as it fits.
+// Copies a text to the start of another, as far as it fits.
 pub fn copy(s: &[u8], out: &mut [u8]) {
     let mut i = 0;
     while i < s.len() {
@@ -57,7 +57,7 @@ pub fn copy(s: &[u8], out: &mut [u8]) {
     }
 }
 
-// The first n bytes of a text at a place of another, as far as they fit.
+// Copies the first n bytes of a text to an offset of another, as far as they fit.
 pub fn paste(s: &[u8], n: usize, out: &mut [u8], at: usize) {
     let mut i = 0;
     while i < n {
@@ -66,7 +66,7 @@ pub fn paste(s: &[u8], n: usize, out: &mut [u8], at: usize) {
     }
 }
 
-// The 491,520 bytes from a place on, at another place too.
+// Copies the 491,520 bytes at an offset to another offset.
 pub fn copy_bank(region: &mut [u8], from: usize, to: usize) {
     let mut i = 0;
     while i < BANK_SIZE {
@@ -76,7 +76,7 @@ pub fn copy_bank(region: &mut [u8], from: usize, to: usize) {
     }
 }
 
-// The 491,520 bytes from a place on become 255.
+// Sets the 491,520 bytes at an offset to 255.
 pub fn blank_bank(region: &mut [u8], from: usize) {
     let mut i = 0;
     while i < BANK_SIZE {
@@ -85,14 +85,14 @@ pub fn blank_bank(region: &mut [u8], from: usize) {
     }
 }
 
-// The next number of a fixed row of numbers that look like random ones (Marsaglia's xorshift).
+// The next number of a fixed pseudorandom sequence (Marsaglia's xorshift).
 fn shuffled(x: u32) -> u32 {
     let a = x ^ ((x % 524288) << 13);
     let b = a ^ (a >> 17);
     b ^ ((b % 134217728) << 5)
 }
 
-// The 491,520 bytes from a place on become random ones, the same at each run.
+// Sets the 491,520 bytes at an offset to pseudorandom ones, the same at each run.
 pub fn shuffle_bank(region: &mut [u8], from: usize) {
     let mut x: u32 = 2463534242;
     let mut i = 0;

@@ -1,4 +1,4 @@
-// A flash operation cut inside: which bytes of the region it is about, and after which of them the cut is tried.
+// A flash operation cut inside: which bytes of the region it changes, and after which of them a cut is tried.
 use header::COMMIT_OFFSET;
 use header::HEADER_SIZE;
 use region::SECTOR_SIZE;
@@ -30,14 +30,14 @@ pub const TRY_ALL: u32 = 2;
 // No such choice.
 pub const TRY_UNKNOWN: u32 = 3;
 
-// How many cuts between the first byte and the last but one are tried in an operation on data, where not all are.
+// How many cuts between the first byte and the last but one are tried in an operation on data, if not all are.
 const BETWEEN: usize = 6;
 // An operation of fewer bytes is tried after each of them.
 const FEW: usize = 16;
 // The update is begun again after each 509th cut inside an operation.
 const AGAIN: u32 = 509;
 
-// The bytes of the region that an operation is about, and what it is.
+// The bytes of the region that an operation changes, and what it is.
 pub struct Span {
     pub kind: u32,
     pub at: usize,
@@ -52,7 +52,7 @@ pub fn no_operation() -> Span {
     }
 }
 
-// The erase of a sector of the bank that starts at a place.
+// The erase of a sector of the bank at an offset.
 pub fn erase(bank: usize, sector: u32) -> Span {
     let kind = if sector == 0 { HEADER_ERASE } else { DATA };
     Span {
@@ -62,7 +62,7 @@ pub fn erase(bank: usize, sector: u32) -> Span {
     }
 }
 
-// A write of n bytes, made a multiple of 4, at an offset of the data.
+// A write of n bytes, rounded up to a multiple of 4, at an offset of the data.
 pub fn write(bank: usize, offset: u32, n: u32) -> Span {
     let data = wrapping_add_usize(bank, SECTOR_SIZE);
     Span {
@@ -88,7 +88,7 @@ pub fn word(bank: usize) -> Span {
     }
 }
 
-// Whether a cut after j bytes is one of those between the first byte and the last but one. They differ from operation to operation: k is its number.
+// Whether a cut after j bytes is one of those between the first byte and the last but one. They differ by the operation's number k.
 fn is_between(n: usize, j: usize, k: u32) -> bool {
     if n < FEW {
         return true;

@@ -46,8 +46,8 @@ pub struct Plan {
     pub fresh: Bank,
 }
 
-// How many cuts there were between operations and inside them, on how many load gave what was found and the new bank, from how many the
-// update was begun again, and how many were wrong: the first of them at a cut, or, where byte isn't 0, in an operation after that number of bytes.
+// How many cuts there were between operations and inside them, after how many load gave what was found and the new bank, after how many the
+// update was begun again, and how many were wrong: the first of them at a cut, or, if byte isn't 0, in an operation after that many bytes.
 pub struct Count {
     pub cuts: u32,
     pub inside: u32,
@@ -66,7 +66,7 @@ fn generation_after(l: Loaded) -> u32 {
     }
 }
 
-// The bank that an update of n bytes commits where load gives l.
+// The bank that an update of n bytes commits if load gives l.
 fn bank_after(l: Loaded, data: &[u8], n: usize) -> Bank {
     Bank {
         number: number_after(l),
@@ -143,7 +143,7 @@ fn is_whole(region: &[u8], data: &[u8], b: Bank, n: usize) -> bool {
     is_good(v, b) & same_bytes(held, part(data, 0, n))
 }
 
-// Whether the bank that isn't written has the bytes that it had.
+// Whether the bank that isn't written has the bytes it had.
 fn is_kept(region: &[u8], before: &[u8], p: Plan) -> bool {
     let b = p.fresh;
     let other = if b.number == 0 { 1 } else { 0 };
@@ -162,7 +162,7 @@ fn is_right(region: &[u8], before: &[u8], data: &[u8], p: Plan, over: bool) -> b
     same_loaded(l, e) & is_kept(region, before, p)
 }
 
-// Begins again on a region and sees the whole update commit.
+// Begins again on a region, and says whether the whole update commits.
 fn commits(region: &mut [u8], data: &[u8], update: u32) -> bool {
     let n = kinds::size(update);
     let l = load(region);
@@ -184,7 +184,7 @@ fn begun_again(region: &[u8], again: &mut [u8], data: &[u8], update: u32) -> boo
     commits(again, data, update)
 }
 
-// Whether the update commits again, where that is tried.
+// Whether the update commits again, if that is tried.
 fn goes_on(region: &[u8], again: &mut [u8], data: &[u8], update: u32, sampled: bool) -> bool {
     if sampled {
         return begun_again(region, again, data, update);
@@ -192,7 +192,7 @@ fn goes_on(region: &[u8], again: &mut [u8], data: &[u8], update: u32, sampled: b
     true
 }
 
-// One more that is wrong: a cut, or the byte of an operation.
+// Counts one more wrong: a cut, or the byte of an operation.
 fn with_wrong(c: Count, byte: u32) -> Count {
     let wrong = wrapping_add_u32(c.wrong, 1);
     if c.wrong == 0 {
@@ -206,7 +206,7 @@ fn with_wrong(c: Count, byte: u32) -> Count {
     Count { wrong, ..c }
 }
 
-// One more from which the update was begun again, if it was.
+// Counts one more update that was begun again, if it was.
 fn with_again(c: Count, sampled: bool) -> Count {
     if sampled {
         return Count {
@@ -217,7 +217,7 @@ fn with_again(c: Count, sampled: bool) -> Count {
     c
 }
 
-// What one more cut gave.
+// Counts the result of one more cut.
 fn with_cut(c: Count, right: bool, over: bool, byte: u32) -> Count {
     if !right {
         return with_wrong(c, byte);
@@ -234,7 +234,7 @@ fn with_cut(c: Count, right: bool, over: bool, byte: u32) -> Count {
     }
 }
 
-// A cut between operations. The number of those before it is its own.
+// Counts a cut between operations. Its number is how many there were before it.
 fn counted(c: Count, right: bool, over: bool, sampled: bool) -> Count {
     let a = with_again(c, sampled);
     let b = with_cut(a, right, over, 0);
@@ -244,7 +244,8 @@ fn counted(c: Count, right: bool, over: bool, sampled: bool) -> Count {
     }
 }
 
-// A cut inside an operation, after its first j bytes. The cut before the operation is counted, so the number of cuts is the operation's.
+// Counts a cut inside an operation, after its first j bytes. The cut before the operation is counted already, so `cuts` is the number
+// of the operation.
 fn counted_inside(c: Count, right: bool, sampled: bool, j: usize) -> Count {
     let a = with_again(c, sampled);
     let b = with_cut(a, right, false, (j % 4294967296) as u32);
@@ -254,7 +255,7 @@ fn counted_inside(c: Count, right: bool, sampled: bool, j: usize) -> Count {
     }
 }
 
-// What a cut gave: 0 what was found, 1 the new bank, 2 wrong.
+// The result of a cut: 0 what was found, 1 the new bank, 2 wrong.
 fn gave(right: bool, over: bool) -> u8 {
     if !right {
         return 2;
@@ -262,7 +263,7 @@ fn gave(right: bool, over: bool) -> u8 {
     if over { 1 } else { 0 }
 }
 
-// What the picture shows of a cut: what it gave, and 4 more where the update was begun again.
+// A cut's mark in the picture: its result, and 4 more if the update was begun again.
 fn mark(right: bool, over: bool, sampled: bool) -> u8 {
     let g = gave(right, over) % strips::AGAIN;
     if sampled { strips::AGAIN + g } else { g }
@@ -278,7 +279,7 @@ fn tell(p: Plan, cut: u32) {
     }
 }
 
-// Looks at the region after a cut.
+// Tests the region after a cut.
 fn look(
     u: Update,
     region: &[u8],
@@ -311,7 +312,7 @@ fn none() -> Count {
     }
 }
 
-// Looks at the region after a cut inside an operation. Its bytes lie in the bank that is written, so the other bank isn't compared here.
+// Tests the region after a cut inside an operation. Its bytes are in the bank that is written, so the other bank isn't compared here.
 fn look_inside(
     s: Span,
     j: usize,
@@ -330,7 +331,7 @@ fn look_inside(
     counted_inside(c, right, sampled, j)
 }
 
-// The same, where it is tried.
+// The same, if this cut is tried.
 fn at_byte(
     s: Span,
     j: usize,
@@ -347,7 +348,7 @@ fn at_byte(
     c
 }
 
-// All cuts inside an operation: byte by byte the region becomes what the operation left there.
+// All cuts inside an operation: byte by byte the region becomes what the operation left.
 fn bytes(
     s: Span,
     region: &mut [u8],
@@ -368,7 +369,7 @@ fn bytes(
     c
 }
 
-// The cuts inside an operation that is done: its bytes as they were are put back first.
+// The cuts inside an operation that is done: the bytes from before it are put back first.
 fn inside(
     s: Span,
     region: &mut [u8],
@@ -402,13 +403,13 @@ fn inside_if_tried(
     inside(s, region, was, again, data, marks, p, c)
 }
 
-// The cut after an operation shows in its strip too: all its bytes are done.
+// Marks the cut after an operation in its strip too: all its bytes are done.
 fn show_whole(s: Span, marks: &mut [u8], c: Count) {
     let m = get8(marks, wrapping_sub_u32(c.cuts, 1) as usize);
     strips::put(marks, s, s.size, m);
 }
 
-// Where a cut inside an operation was wrong, the cell of the cut after it is too: most operations have no strip.
+// If a cut inside an operation was wrong, marks the cell of the cut after it too: most operations have no strip.
 fn show_wrong(before: Count, inside: Count, marks: &mut [u8], c: Count) {
     if before.wrong != inside.wrong {
         put8(
@@ -419,7 +420,7 @@ fn show_wrong(before: Count, inside: Count, marks: &mut [u8], c: Count) {
     }
 }
 
-// A step that does a flash operation, the cuts inside it, and the one after it.
+// Tries the cuts inside the flash operation of a step, and the one after it.
 fn operate(
     s: Span,
     u: Update,
@@ -439,7 +440,7 @@ fn operate(
     e
 }
 
-// What a step came to: a flash operation is looked at. One that was not told before is wrong: it could not be cut inside.
+// Tries the cuts of a step that did a flash operation. One that `next_operation` did not give is wrong: it could not be cut inside.
 fn next(
     s: Span,
     u: Update,
@@ -459,13 +460,13 @@ fn next(
     c
 }
 
-// An update so far, and its cuts.
+// An update so far, and the count of its cuts.
 struct Tried {
     update: Update,
     count: Count,
 }
 
-// A step, with its cuts. The bytes that it is about are kept as they were.
+// A step, with its cuts. The bytes that it changes are kept from before.
 fn turn(
     t: Tried,
     region: &mut [u8],
@@ -535,7 +536,7 @@ fn compares(region: &mut [u8], data: &[u8], update: u32, same: bool) -> bool {
     is_over(u) & (u.right & (crc32(0, region) == before))
 }
 
-// One more that is wrong, if it is.
+// Counts one more wrong, unless it is right.
 fn with_whole(c: Count, right: bool) -> Count {
     if right {
         return c;
@@ -543,7 +544,7 @@ fn with_whole(c: Count, right: bool) -> Count {
     with_wrong(c, 0)
 }
 
-// All cuts, with as many operations as there must be.
+// All cuts, and whether there are as many operations as there must be.
 fn counted_cuts(
     region: &mut [u8],
     before: &[u8],
@@ -559,7 +560,7 @@ fn counted_cuts(
     )
 }
 
-// One update; one that is compared first is compared after it too.
+// Tries one update; one that is compared before it is compared after it too.
 pub fn trial(
     region: &mut [u8],
     before: &[u8],

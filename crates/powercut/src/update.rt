@@ -16,7 +16,7 @@ use writer::Operation;
 use writer::Stage;
 use writer::Writer;
 
-// What comes next once no operation is due.
+// The next call once no operation is due.
 pub enum Phase {
     Key,
     Table,
@@ -25,8 +25,8 @@ pub enum Phase {
     Over,
 }
 
-// How far an update of n bytes is: bytes taken, flash operations done, whether the last step was one, and whether every call
-// answered as it must. One that compares ends with the question whether the update is what the active bank has.
+// The state of an update of n bytes: bytes appended, flash operations done, whether the last step was one, and whether every call
+// answered as it must. One that compares ends with the question whether the update is the same as the active bank.
 pub struct Update {
     pub writer: Writer,
     pub phase: Phase,
@@ -39,7 +39,7 @@ pub struct Update {
     pub right: bool,
 }
 
-// Time of the beginning and the host's stamp.
+// The time of the beginning, and the host's stamp.
 fn now() -> i64 {
     1791000000
 }
@@ -66,7 +66,7 @@ fn done(a: Answer) -> bool {
     }
 }
 
-// A beginning, and the one source. same is what is to be answered where it compares.
+// Begins an update and its one source. `same` is the answer that a comparison must give.
 pub fn begin(region: &[u8], n: usize, comparing: bool, same: bool) -> Update {
     let s = lower::begin::begin(region, comparing, now());
     let begun = s.writer;
@@ -104,7 +104,7 @@ pub fn is_over(u: Update) -> bool {
     }
 }
 
-// The due operation.
+// Does the due operation.
 fn operate(u: Update, region: &mut [u8]) -> Update {
     let w = u.writer;
     let s = due::due(w, region);
@@ -123,7 +123,7 @@ fn operate(u: Update, region: &mut [u8]) -> Update {
     }
 }
 
-// How many bytes were taken; none is not what is expected here.
+// How many bytes were appended; 0 for any other answer.
 fn taken(a: Answer) -> usize {
     match a {
         Answer::Took(k) => k as usize,
@@ -207,7 +207,7 @@ fn word(u: Update, region: &mut [u8]) -> Update {
     }
 }
 
-// Whether an answer is that it is the same, or that it is not.
+// Whether an answer is that the update is the same, or that it is not.
 fn says(a: Answer, same: bool) -> bool {
     match a {
         Answer::Same => same,
@@ -252,7 +252,7 @@ fn closed(u: Update, region: &mut [u8]) -> Update {
     header(u, region)
 }
 
-// One call more.
+// Makes one call.
 pub fn step(u: Update, region: &mut [u8], data: &[u8]) -> Update {
     let w = u.writer;
     if is_due(w) {
@@ -268,7 +268,7 @@ pub fn step(u: Update, region: &mut [u8], data: &[u8]) -> Update {
     }
 }
 
-// The due erase or write, in the bank that starts at a place.
+// The due erase or write, in the bank at an offset.
 fn due_span(o: Operation, bank: usize) -> Span {
     match o {
         Operation::Erase { sector } => erase(bank, sector),
@@ -280,7 +280,7 @@ fn due_span(o: Operation, bank: usize) -> Span {
     }
 }
 
-// The write of a commit call, where that comes next.
+// The write of a commit call, if that is next.
 fn commit_span(u: Update, bank: usize) -> Span {
     let p = u.phase;
     match p {
@@ -306,7 +306,7 @@ pub fn next_operation(u: Update, bank: usize) -> Span {
     }
 }
 
-// Calls until so many operations are done or the update is over; the longest update takes fewer than 8,000 calls.
+// Makes calls until the first n operations are done or the update is over; the longest update needs fewer than 8,000 calls.
 pub fn run(begun: Update, region: &mut [u8], data: &[u8], operations: u32) -> Update {
     let mut u = begun;
     let mut turns: u32 = 8000;
