@@ -26,7 +26,7 @@ use writer::with_sources;
 
 // The stage is 0 idle, 1 an erase due, 2 a write due, 3 a comparison due, 4 header written, 5 committed. First is the due erase's sector
 // (0 is the header's), or the offset in the data of the due write or comparison, and second its length, without padding. Active is 0
-// with no active bank, 1 with one, 2 after a refused beginning. A flag is set if its number isn't 0.
+// with no active bank, 1 with one; with another number, or a stage above 5, calls meet 11. A flag is set if its number isn't 0.
 #[repr(C)]
 pub struct State {
     pub stage: u32,

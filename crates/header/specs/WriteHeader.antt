@@ -1,4 +1,4 @@
--- The header as commit writes it, and what refusal 13 asks.
+-- The header as commit writes it, and the tests of refusal 13.
 use mathlib.Core.Bool.{Bool, true, false, _&&_}
 use mathlib.Core.List.{List, _++_}
 use Prim.Native.Nat.{ℕ, _*_, _-_}

@@ -74,7 +74,6 @@ pub enum Validated {
     Refused(Refusal),
 }
 
-// The header's numbers.
 fn numbers_of(b: &[u8], number: u32) -> Bank
     ensures { λ r. ⌜ r ≡ numbersOf number (now (b .entry)) ⌝ }
 {

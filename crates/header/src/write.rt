@@ -139,7 +139,7 @@ pub fn header_bytes(b: Bank, ss: [Source; SOURCES]) -> [u8; HEADER_SIZE]
     out
 }
 
-// The commit word.
+// The bytes of the commit word.
 pub fn commit_bytes() -> [u8; 4]
     ensures { λ r. ⌜ r ≡ commitBytes ⌝ }
 {

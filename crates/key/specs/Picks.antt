@@ -16,7 +16,7 @@ sum (n ∷ ns) = n + sum ns
 unfoldable pub text : Text → List ℕ → ℕ → Text
 text bytes lengths k = take (getD lengths k 0) (drop (sum (take k lengths)) bytes)
 
--- "stop name: empty whenever the code isn't"
+-- the stop name is "empty whenever the code isn't"
 abbrev pub unlessCode : Text → Text → Text
 unlessCode [] name = name
 unlessCode (c ∷ cs) name = []

@@ -72,7 +72,7 @@ fn places(texts: &[u8], lengths: &[u32], m: usize, starts: &mut [usize])
     }
 }
 
-// Text k.
+// Text k: the bytes between two offsets.
 fn text<'a, 'b>(texts: &'a [u8], starts: &'b [usize], k: usize) -> &'a [u8]
     requires { ⌜ Rising (now starts) (length (now texts)) × (k + 1 < length (now starts)) ⌝ }
     ensures { λ r. ⌜ now r ≡ between (now (texts .entry)) (now (starts .entry)) k ⌝ }

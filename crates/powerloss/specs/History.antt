@@ -112,7 +112,7 @@ tookSome unchanged n u = u
 tookSome (commit stamp current) n u = u
 tookSome word n u = u
 
--- "Refused calls change nothing."
+-- "Refused calls .. change nothing."
 unfoldable pub updateAfter : Lower → Answer → Update → Update
 updateAfter c Done u = noted c u
 updateAfter c (Took n) u = tookSome c n u

@@ -25,7 +25,7 @@ use snapshot::freshness::Day;
 use snapshot::freshness::Days;
 use snapshot::freshness::FreshAnswer;
 
-// Whether word k is a number.
+// Whether word k is the number n.
 fn is(a: &[u8], k: u8, n: u32) -> bool {
     number32(a, word(a, k)) == n
 }

@@ -1,4 +1,4 @@
--- The upper layer: "each of its calls is a run of lower calls that ends with nothing due", and it tests that all fits before the first byte.
+-- The upper layer "tests that all fits before the first byte; each of its calls is a run of lower calls that ends with nothing due".
 use mathlib.Core.Bool.{Bool, true, not, _&&_}
 use mathlib.Core.List.{List, [], _∷_, _++_}
 use mathlib.Core.Option.{Option, none, some}
