@@ -13,7 +13,7 @@ use Rattle.key.specs.declared.KeyAnswer.{KeyAnswer}
 use Rattle.key.specs.declared.KeyAnswer.the-variants.{Written, Refused as NoKey}
 use Rattle.key.specs.declared.SameKey.{SameKey}
 use Rattle.key.specs.declared.SameKey.the-variants.{Same, Other, Refused as NoMatch}
-use Rattle.record.specs.Record.{sourceBytes}
+use Rattle.record.specs.Record.{sourceBytes, recordSize}
 use Rattle.header.specs.declared.Bank.{Bank}
 use Rattle.header.specs.declared.Validated.{Validated}
 use Rattle.header.specs.declared.Validated.the-variants.{Good, Refused as Bad}
@@ -106,7 +106,7 @@ ofTurn t =
 
 -- a source is given as its record of version 3 in a lent output; 9 if that is shorter
 abbrev pub refusalOf : ℕ → Outcome → ℕ
-refusalOf room Done = pick (leb 384 room) 0 (numberOf Small)
+refusalOf room Done = pick (leb recordSize room) 0 (numberOf Small)
 refusalOf room (NoSource r) = numberOf r
 
 abbrev pub outputOf : List ℕ → Asked → Outcome → List ℕ

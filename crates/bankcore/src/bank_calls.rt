@@ -13,6 +13,9 @@ ghost use Rattle.snapshot.specs.KeyMatch as Matches;
 ghost use Rattle.rowread.specs.Stored as Stored;
 ghost use Rattle.snapshot.specs.Rows as Rows;
 ghost use Rattle.bankcore.specs.BankAnswers as Answers;
+ghost use Rattle.record.specs.Record.{recordSize};
+ghost use Rattle.refusal.specs.Refusal.{numberOf};
+ghost use Rattle.refusal.specs.declared.Refusal.the-variants.{Small};
 use bank::Loaded;
 use bank::turns::Checking;
 use bank::turns::Progress;
@@ -21,6 +24,8 @@ use header::Bank;
 use header::Validated;
 use key::KeyAnswer;
 use key::SameKey;
+use record::RECORD_SIZE;
+use refusal::Refusal;
 use refusal::number_of;
 use rowread::ReadAnswer;
 use snapshot::Outcome;
@@ -347,9 +352,12 @@ pub extern "C" fn tt_fresh(
 }
 
 fn fits(room: usize) -> u32
-    ensures { λ r. ⌜ r ≡ pick (leb 384 room) 0 9 ⌝ }
+    ensures { λ r. ⌜ r ≡ pick (leb recordSize room) 0 (numberOf Small) ⌝ }
 {
-    if room < 384 { 9 } else { 0 }
+    if room < RECORD_SIZE {
+        return number_of(Refusal::Small);
+    }
+    0
 }
 
 // Writes a source's record to the first 384 bytes of out, in version 3's form.

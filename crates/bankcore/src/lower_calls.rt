@@ -1,6 +1,6 @@
 // An update's lower calls. The state is passed by value, as numbers; any numbers are allowed.
 ghost use mathlib.Core.Path.{_≡_};
-ghost use Rattle.record.specs.Record.{decoded};
+ghost use Rattle.record.specs.Record.{decoded, currentVersion};
 ghost use Rattle.lower.specs.Lower as Lower;
 ghost use Rattle.due.specs.Due as Due;
 ghost use Rattle.commit.specs.Commit as Commit;
@@ -37,7 +37,7 @@ pub extern "C" fn tt_update_begin(
 // Begins a source; its record is version 3's, 384 bytes, and its blocks start as zero.
 #[no_mangle]
 pub extern "C" fn tt_update_source(state: State, bytes: &[u8]) -> UpdateStep
-    ensures { λ x. ⌜ x ≡ Answers.after (Lower.sourceStep (writerOf state) (decoded 3 (now (bytes .entry)))) state ⌝ }
+    ensures { λ x. ⌜ x ≡ Answers.after (Lower.sourceStep (writerOf state) (decoded currentVersion (now (bytes .entry)))) state ⌝ }
 {
     let r = decode(bytes, VERSION);
     let s = lower::source::source(writer_of(state), r);

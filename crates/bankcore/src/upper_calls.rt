@@ -1,6 +1,6 @@
 // An update's upper calls. Several texts are passed joined, with their lengths.
 ghost use mathlib.Core.Path.{_≡_};
-ghost use Rattle.record.specs.Record.{decoded};
+ghost use Rattle.record.specs.Record.{decoded, currentVersion};
 ghost use Rattle.upper.specs.Upper as Upper;
 ghost use Rattle.cstate.specs.State.{writerOf};
 ghost use Rattle.cstate.specs.Answers as Answers;
@@ -35,8 +35,8 @@ pub extern "C" fn tt_upper_begin(
 // Begins a source and appends its dates; its record is version 3's, 384 bytes.
 #[no_mangle]
 pub extern "C" fn tt_upper_source(region: &mut [u8], state: State, bytes: &[u8]) -> UpdateStep
-    ensures { λ x. ⌜ x ≡ Answers.after (Upper.upperStep (now (region .entry)) (writerOf state) (Upper.sourceWithDates (decoded 3 (now (bytes .entry))))) state ⌝ }
-    ensures { λ _. ⌜ now (region .exit) ≡ Upper.upperRegion (now (region .entry)) (writerOf state) (Upper.sourceWithDates (decoded 3 (now (bytes .entry)))) ⌝ }
+    ensures { λ x. ⌜ x ≡ Answers.after (Upper.upperStep (now (region .entry)) (writerOf state) (Upper.sourceWithDates (decoded currentVersion (now (bytes .entry))))) state ⌝ }
+    ensures { λ _. ⌜ now (region .exit) ≡ Upper.upperRegion (now (region .entry)) (writerOf state) (Upper.sourceWithDates (decoded currentVersion (now (bytes .entry)))) ⌝ }
 {
     let r = decode(bytes, VERSION);
     let s = upper::source::source(writer_of(state), region, r);

@@ -38,7 +38,7 @@ fn same_blocks(xs: [Block; TABLES], ys: [Block; TABLES]) -> bool
 {
     let mut same = true;
     let mut j = 0;
-    while j < 8 {
+    while j < TABLES {
         let x = xs[j];
         let y = ys[j];
         same = same & same_block(x, y);
@@ -58,7 +58,7 @@ fn same_source(a: Source, b: Source) -> bool
 
 // Whether the first n sources have the dates and blocks of a bank's first n records.
 fn same_sources(ss: [Source; SOURCES], n: usize, l: &[u8], version: u32) -> bool
-    requires { ⌜ n ≤ 3 ⌝ }
+    requires { ⌜ n ≤ maxSources ⌝ }
     ensures { λ r. ⌜ r ≡ Unchanged.sameEach Unchanged.sameSource (take n ss) (recordsOf version (now (l .entry)) n) ⌝ }
 {
     let size = source_size(version);

@@ -19,6 +19,8 @@ ghost use Rattle.header.specs.Header.{
   sourceOk,
   headerOf,
 };
+ghost use Rattle.record.specs.Record.{recordSize};
+ghost use Rattle.header.specs.Header.{maxSources};
 use base::number::le;
 use base::number::wider;
 use base::slice::part;
@@ -97,7 +99,7 @@ fn is_marked(b: &[u8]) -> bool
 }
 
 fn header_crc(b: &[u8], size: usize) -> u32
-    requires { ⌜ size ≤ 384 ⌝ }
+    requires { ⌜ size ≤ recordSize ⌝ }
     ensures { λ r. ⌜ r ≡ headerCrc (now (b .entry)) size ⌝ }
 {
     let zeros = [0u8; 8];
@@ -147,7 +149,7 @@ fn blocks_ok(b: Bank, ts: [Block; TABLES]) -> bool
 {
     let mut ok = true;
     let mut j = 0;
-    while j < 8 {
+    while j < TABLES {
         let x = ts[j];
         ok = ok & block_ok(b, x);
         j += 1;
@@ -174,7 +176,7 @@ pub fn record_at(b: &[u8], version: u32, at: usize) -> Source
 
 // Whether the first n records pass 6.
 fn records_ok(l: &[u8], b: Bank, n: usize) -> bool
-    requires { ⌜ n ≤ 3 ⌝ }
+    requires { ⌜ n ≤ maxSources ⌝ }
     ensures { λ r. ⌜ r ≡ each (sourceOk b) (recordsOf (b .version) (now (l .entry)) n) ⌝ }
 {
     let size = source_size(b.version);

@@ -6,7 +6,7 @@ ghost use lib.Seq.{sets};
 ghost use Rattle.record.specs.Types.{Sized};
 ghost use Rattle.record.specs.Record.{sourceBytes, stampSize, idSize, validatorSize};
 ghost use Rattle.base.specs.Lists.{puts, fill};
-ghost use Rattle.header.specs.Header.{headerSize};
+ghost use Rattle.header.specs.Header.{headerSize, maxSources, recordsOffset};
 ghost use Rattle.header.specs.WriteHeader.{
   firstBytes,
   secondBytes,
@@ -45,7 +45,7 @@ use record::encode;
 
 // How many records are written.
 fn records(count: u32) -> usize
-    ensures { λ r. ⌜ r ≡ min count 3 ⌝ }
+    ensures { λ r. ⌜ r ≡ min count maxSources ⌝ }
 {
     if count < SOURCES_32 {
         count as usize
@@ -105,8 +105,8 @@ fn is_sized(s: Source)
 
 // Writes the first n records, one after the other.
 fn put_records(out: &mut [u8], ss: [Source; SOURCES], n: usize)
-    requires { ⌜ (n ≤ 3) × (length (now out) ≡ headerSize) ⌝ }
-    ensures { λ _. ⌜ (now (out .exit) ≡ sets (now (out .entry)) 48 (puts sourceBytes (take n ss))) × (length (puts sourceBytes (take n ss)) ≡ n * 384) × (length ss ≡ 3) ⌝ }
+    requires { ⌜ (n ≤ maxSources) × (length (now out) ≡ headerSize) ⌝ }
+    ensures { λ _. ⌜ (now (out .exit) ≡ sets (now (out .entry)) recordsOffset (puts sourceBytes (take n ss))) × (length (puts sourceBytes (take n ss)) ≡ n * 384) × (length ss ≡ 3) ⌝ }
 {
     let mut i = 0;
     while i < n {

@@ -62,7 +62,7 @@ BeginSettled =
 
 -- the sectors that n bytes need, and the writes of the tail
 abbrev pub sectors : ℕ → ℕ
-sectors n = (n + 4095) / sectorSize
+sectors n = (n + (sectorSize - 1)) / sectorSize
 
 abbrev pub writes : ℕ → ℕ
 writes n = (n + (tailSize - 1)) / tailSize

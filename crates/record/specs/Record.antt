@@ -39,6 +39,9 @@ abbrev pub tableCount : ℕ → ℕ
 tableCount v = pick (ltb v 3) 7 maxTables
 
 -- a table's block: offset, length, CRC
+abbrev pub blockSize : ℕ
+blockSize = 12
+
 abbrev pub blockAt : List ℕ → ℕ → Block
 blockAt l at = record { offset = word l at; length = word l (at + 4); crc = word l (at + 8) }
 
@@ -71,7 +74,7 @@ sourceOf n l =
       present = word l 8;
       updated = time l 12;
       original = many word 4 l 20 (n * 2) ++ fill 0 (maxTables * 2 - n * 2);
-      tables = many blockAt 12 l (n * 8 + 20) n ++ fill noBlock (maxTables - n);
+      tables = many blockAt blockSize l (n * 8 + 20) n ++ fill noBlock (maxTables - n);
       stamp = many byte 1 l (n * 20 + 20) stampSize;
       idlen = byte l (n * 20 + 32);
       id = many byte 1 l (n * 20 + 33) idSize;

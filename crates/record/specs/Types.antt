@@ -1,12 +1,14 @@
 -- What the types of a record's fields say of its values. It holds of every record in a program.
 use mathlib.Core.Path.{_≡_}
 use mathlib.Core.List.{List, [], _∷_}
-use Prim.Native.Nat.{ℕ, _<_, _^_}
+use Prim.Native.Nat.{ℕ, _*_, _<_, _^_}
 use lib.ListN.{length}
 use mir.Syntax.{w64}
 use mir.Val.{SFits}
 use Rattle.record.specs.declared.Block.{Block}
 use Rattle.record.specs.declared.Source.{Source}
+use Rattle.base.specs.Table.{maxTables}
+use Rattle.record.specs.Record.{stampSize, idSize, validatorSize}
 
 -- P holds of every element
 unfoldable pub All : {A : Type 0} → (A → Type 0) → List A → Type 0
@@ -23,11 +25,11 @@ pub record Block32 (b : Block) : Type 0 where
 
 -- its arrays have their lengths
 pub record Sized (s : Source) : Type 0 where
-  pub original : length (s .original) ≡ 16
-  pub tables : length (s .tables) ≡ 8
-  pub stamp : length (s .stamp) ≡ 12
-  pub id : length (s .id) ≡ 80
-  pub validator : length (s .validator) ≡ 66
+  pub original : length (s .original) ≡ maxTables * 2
+  pub tables : length (s .tables) ≡ maxTables
+  pub stamp : length (s .stamp) ≡ stampSize
+  pub id : length (s .id) ≡ idSize
+  pub validator : length (s .validator) ≡ validatorSize
 
 -- its numbers are in range
 pub record Ranged (s : Source) : Type 0 where

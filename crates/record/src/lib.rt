@@ -20,7 +20,7 @@ ghost use Rattle.record.specs.Record.{
   tailBytes,
   sourceBytes,
 };
-ghost use Rattle.record.specs.Record.{recordSize};
+ghost use Rattle.record.specs.Record.{recordSize, blockSize, stampSize, idSize, validatorSize};
 ghost use Rattle.base.specs.Table.{maxTables};
 use base::number::wide;
 use base::table::TABLES;
@@ -33,6 +33,8 @@ use leaf::bytes::put_time;
 // Sizes of a record's arrays.
 
 pub const ORIGINAL_WORDS: usize = 2 * TABLES;
+
+pub const BLOCK_SIZE: usize = 12;
 
 pub const STAMP_SIZE: usize = 12;
 
@@ -155,8 +157,8 @@ fn block_at(r: &[u8], at: usize) -> Block
 }
 
 fn words_at(r: &[u8], at: usize, n: usize) -> [u32; ORIGINAL_WORDS]
-    requires { ⌜ (n ≤ 16) × (at ≤ 1000) ⌝ }
-    ensures { λ x. ⌜ x ≡ many word 4 (now (r .entry)) at n ++ fill 0 (16 - n) ⌝ }
+    requires { ⌜ (n ≤ maxTables * 2) × (at ≤ 1000) ⌝ }
+    ensures { λ x. ⌜ x ≡ many word 4 (now (r .entry)) at n ++ fill 0 (maxTables * 2 - n) ⌝ }
 {
     let mut t = [0u32; ORIGINAL_WORDS];
     let mut j = 0;
@@ -169,8 +171,8 @@ fn words_at(r: &[u8], at: usize, n: usize) -> [u32; ORIGINAL_WORDS]
 }
 
 fn blocks_at(r: &[u8], at: usize, n: usize) -> [Block; TABLES]
-    requires { ⌜ (n ≤ 8) × (at ≤ 1000) ⌝ }
-    ensures { λ x. ⌜ x ≡ many blockAt 12 (now (r .entry)) at n ++ fill noBlock (8 - n) ⌝ }
+    requires { ⌜ (n ≤ maxTables) × (at ≤ 1000) ⌝ }
+    ensures { λ x. ⌜ x ≡ many blockAt blockSize (now (r .entry)) at n ++ fill noBlock (maxTables - n) ⌝ }
 {
     let b = Block {
         offset: 0,
@@ -180,7 +182,7 @@ fn blocks_at(r: &[u8], at: usize, n: usize) -> [Block; TABLES]
     let mut t = [b; TABLES];
     let mut j = 0;
     while j < n {
-        let x = block_at(r, at + j * 12);
+        let x = block_at(r, at + j * BLOCK_SIZE);
         t[j] = x;
         j += 1;
     }
@@ -226,13 +228,13 @@ fn copy_in(out: &mut [u8], s: &[u8], at: usize, n: usize)
 
 // Reads r as a record with n tables.
 fn read(r: &[u8], n: usize) -> Source
-    requires { ⌜ n ≤ 8 ⌝ }
+    requires { ⌜ n ≤ maxTables ⌝ }
     ensures { λ x. ⌜ x ≡ sourceOf n (now (r .entry)) ⌝ }
 {
     let original = words_at(r, 20, n * 2);
     let tables = blocks_at(r, n * 8 + 20, n);
     let mut stamp = [0u8; STAMP_SIZE];
-    copy_in(&mut stamp, r, n * 20 + 20, 12);
+    copy_in(&mut stamp, r, n * 20 + 20, STAMP_SIZE);
     let mut id = [0u8; ID_SIZE];
     copy_in(&mut id, r, n * 20 + 33, ID_SIZE);
     let mut validator = [0u8; VALIDATOR_SIZE];
@@ -304,7 +306,7 @@ fn put_block(out: &mut [u8], at: usize, b: Block)
 
 fn put_words(out: &mut [u8], at: usize, ws: [u32; ORIGINAL_WORDS])
     requires { ⌜ at + 64 ≤ length (now out) ⌝ }
-    ensures { λ _. ⌜ (now (out .exit) ≡ sets (now (out .entry)) at (puts le32 ws)) × (length ws ≡ 16) ⌝ }
+    ensures { λ _. ⌜ (now (out .exit) ≡ sets (now (out .entry)) at (puts le32 ws)) × (length ws ≡ maxTables * 2) ⌝ }
 {
     let mut j = 0;
     while j < ORIGINAL_WORDS {
@@ -315,11 +317,11 @@ fn put_words(out: &mut [u8], at: usize, ws: [u32; ORIGINAL_WORDS])
 
 fn put_blocks(out: &mut [u8], at: usize, bs: [Block; TABLES])
     requires { ⌜ at + 96 ≤ length (now out) ⌝ }
-    ensures { λ _. ⌜ (now (out .exit) ≡ sets (now (out .entry)) at (puts blockBytes bs)) × (length bs ≡ 8) ⌝ }
+    ensures { λ _. ⌜ (now (out .exit) ≡ sets (now (out .entry)) at (puts blockBytes bs)) × (length bs ≡ maxTables) ⌝ }
 {
     let mut j = 0;
-    while j < 8 {
-        put_block(out, at + j * 12, bs[j]);
+    while j < TABLES {
+        put_block(out, at + j * BLOCK_SIZE, bs[j]);
         j += 1;
     }
 }
@@ -336,7 +338,7 @@ fn put_head(out: &mut [u8], at: usize, s: Source)
 
 fn put_tables(out: &mut [u8], at: usize, s: Source)
     requires { ⌜ at + 160 ≤ length (now out) ⌝ }
-    ensures { λ _. ⌜ (now (out .exit) ≡ sets (now (out .entry)) at (tableBytes s)) × (length (s .original) ≡ 16) × (length (s .tables) ≡ 8) ⌝ }
+    ensures { λ _. ⌜ (now (out .exit) ≡ sets (now (out .entry)) at (tableBytes s)) × (length (s .original) ≡ maxTables * 2) × (length (s .tables) ≡ maxTables) ⌝ }
 {
     let ws = s.original;
     put_words(out, at, ws);
@@ -346,28 +348,28 @@ fn put_tables(out: &mut [u8], at: usize, s: Source)
 
 fn put_stamp(out: &mut [u8], at: usize, x: [u8; STAMP_SIZE])
     requires { ⌜ at + 12 ≤ length (now out) ⌝ }
-    ensures { λ _. ⌜ (now (out .exit) ≡ sets (now (out .entry)) at x) × (length x ≡ 12) ⌝ }
+    ensures { λ _. ⌜ (now (out .exit) ≡ sets (now (out .entry)) at x) × (length x ≡ stampSize) ⌝ }
 {
     put_bytes(out, at, &x);
 }
 
 fn put_id(out: &mut [u8], at: usize, x: [u8; ID_SIZE])
-    requires { ⌜ at + 80 ≤ length (now out) ⌝ }
-    ensures { λ _. ⌜ (now (out .exit) ≡ sets (now (out .entry)) at x) × (length x ≡ 80) ⌝ }
+    requires { ⌜ at + idSize ≤ length (now out) ⌝ }
+    ensures { λ _. ⌜ (now (out .exit) ≡ sets (now (out .entry)) at x) × (length x ≡ idSize) ⌝ }
 {
     put_bytes(out, at, &x);
 }
 
 fn put_validator(out: &mut [u8], at: usize, x: [u8; VALIDATOR_SIZE])
-    requires { ⌜ at + 66 ≤ length (now out) ⌝ }
-    ensures { λ _. ⌜ (now (out .exit) ≡ sets (now (out .entry)) at x) × (length x ≡ 66) ⌝ }
+    requires { ⌜ at + validatorSize ≤ length (now out) ⌝ }
+    ensures { λ _. ⌜ (now (out .exit) ≡ sets (now (out .entry)) at x) × (length x ≡ validatorSize) ⌝ }
 {
     put_bytes(out, at, &x);
 }
 
 fn put_tail(out: &mut [u8], at: usize, s: Source)
     requires { ⌜ at + 159 ≤ length (now out) ⌝ }
-    ensures { λ _. ⌜ (now (out .exit) ≡ sets (now (out .entry)) at (tailBytes s)) × (length (s .stamp) ≡ 12) × (length (s .id) ≡ 80) × (length (s .validator) ≡ 66) ⌝ }
+    ensures { λ _. ⌜ (now (out .exit) ≡ sets (now (out .entry)) at (tailBytes s)) × (length (s .stamp) ≡ stampSize) × (length (s .id) ≡ idSize) × (length (s .validator) ≡ validatorSize) ⌝ }
 {
     let stamp = s.stamp;
     put_stamp(out, at, stamp);
@@ -380,8 +382,8 @@ fn put_tail(out: &mut [u8], at: usize, s: Source)
 
 // Writes the record of version 3 at an offset, where it fits.
 fn put_source(out: &mut [u8], at: usize, s: Source)
-    requires { ⌜ at + 384 ≤ length (now out) ⌝ }
-    ensures { λ _. ⌜ (now (out .exit) ≡ sets (now (out .entry)) at (sourceBytes s)) × (length (sourceBytes s) ≡ 384) ⌝ }
+    requires { ⌜ at + recordSize ≤ length (now out) ⌝ }
+    ensures { λ _. ⌜ (now (out .exit) ≡ sets (now (out .entry)) at (sourceBytes s)) × (length (sourceBytes s) ≡ recordSize) ⌝ }
 {
     put_head(out, at, s);
     put_tables(out, at + 20, s);
@@ -392,27 +394,27 @@ fn put_source(out: &mut [u8], at: usize, s: Source)
 
 // These do nothing: their contracts say that the arrays of a record have their lengths.
 fn has_words(ws: [u32; ORIGINAL_WORDS])
-    ensures { λ _. ⌜ length ws ≡ 16 ⌝ }
+    ensures { λ _. ⌜ length ws ≡ maxTables * 2 ⌝ }
 {}
 
 fn has_blocks(bs: [Block; TABLES])
-    ensures { λ _. ⌜ length bs ≡ 8 ⌝ }
+    ensures { λ _. ⌜ length bs ≡ maxTables ⌝ }
 {}
 
 fn has_stamp(x: [u8; STAMP_SIZE])
-    ensures { λ _. ⌜ length x ≡ 12 ⌝ }
+    ensures { λ _. ⌜ length x ≡ stampSize ⌝ }
 {}
 
 fn has_id(x: [u8; ID_SIZE])
-    ensures { λ _. ⌜ length x ≡ 80 ⌝ }
+    ensures { λ _. ⌜ length x ≡ idSize ⌝ }
 {}
 
 fn has_validator(x: [u8; VALIDATOR_SIZE])
-    ensures { λ _. ⌜ length x ≡ 66 ⌝ }
+    ensures { λ _. ⌜ length x ≡ validatorSize ⌝ }
 {}
 
 fn has_size(s: Source)
-    ensures { λ _. ⌜ length (sourceBytes s) ≡ 384 ⌝ }
+    ensures { λ _. ⌜ length (sourceBytes s) ≡ recordSize ⌝ }
 {
     let original = s.original;
     has_words(original);
@@ -431,8 +433,8 @@ pub fn encode(s: Source, out: &mut [u8], at: usize)
     ensures { λ _. ⌜ now (out .exit) ≡ written (now (out .entry)) at (sourceBytes s) ⌝ }
 {
     has_size(s);
-    if 384 <= out.len() {
-        if at <= out.len() - 384 {
+    if RECORD_SIZE <= out.len() {
+        if at <= out.len() - RECORD_SIZE {
             put_source(out, at, s);
         }
     }

@@ -143,7 +143,7 @@ fn see(at: i64, x: Seen, s: Source) -> Seen
 
 // The oldest updated time of the sources used among a bank's first n.
 fn updated_in(l: &[u8], version: u32, n: usize, days: Days, at: i64) -> i64
-    requires { ⌜ n ≤ 3 ⌝ }
+    requires { ⌜ n ≤ maxSources ⌝ }
     ensures { λ r. ⌜ r ≡ Fresh.updatedAt at (Fresh.used (Fresh.daysOf days) (recordsOf version (now (l .entry)) n)) ⌝ }
 {
     let size = source_size(version);

@@ -2,7 +2,7 @@
 ghost use mathlib.Core.Path.{_≡_};
 ghost use mathlib.Core.List.{_++_};
 ghost use Prim.Native.Nat.{_+_, _*_, _-_, _≤_};
-ghost use Rattle.header.specs.Header.{recordsOf};
+ghost use Rattle.header.specs.Header.{recordsOf, maxSources};
 ghost use Rattle.record.specs.Record.{noSource};
 ghost use Rattle.base.specs.Lists.{fill};
 ghost use Rattle.snapshot.specs.Source as Sources;
@@ -82,8 +82,8 @@ fn refuse_all(r: Refusal) -> Records
 
 // A bank's first n records, and zeros after them.
 fn records_at(l: &[u8], version: u32, n: usize) -> [Source; SOURCES]
-    requires { ⌜ n ≤ 3 ⌝ }
-    ensures { λ r. ⌜ r ≡ recordsOf version (now (l .entry)) n ++ fill noSource (3 - n) ⌝ }
+    requires { ⌜ n ≤ maxSources ⌝ }
+    ensures { λ r. ⌜ r ≡ recordsOf version (now (l .entry)) n ++ fill noSource (maxSources - n) ⌝ }
 {
     let size = source_size(version);
     let z = no_source();
