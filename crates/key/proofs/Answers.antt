@@ -12,7 +12,7 @@ use Rattle.leaf.proofs.Laws.{length-written}
 use mathlib.Core.Logic.{⊎-elim}
 use Rattle.refusal.specs.declared.Refusal.{Refusal}
 use Rattle.refusal.specs.declared.Refusal.the-variants.{Argument, Identity, Small}
-use Rattle.key.specs.Order.{Text, Pick}
+use Rattle.key.specs.Order.{Text, Pick, fieldCount}
 use Rattle.key.specs.Picks.{text, pickOf, pickAt, count, firsts, handed, distinct}
 use Rattle.key.specs.Layout.{every, sized, fit, maxIdentity, keyOf, within, keyAnswer, prefix, body, joined, entry}
 use Rattle.key.specs.Match.{matchAnswer}
@@ -34,7 +34,7 @@ module _ (b : Text) (l : List ℕ) where
   unfolding fit
   fit-many h = rw (lt-leb (count l) 16 (omega arith))
 
-  pub fit-few : length l ≤ 80 → every (count l * 5) (sized (text b l)) ≡ fit b l
+  pub fit-few : length l ≤ 80 → every (count l * fieldCount) (sized (text b l)) ≡ fit b l
   unfolding fit
   fit-few h = rw (le-leb (count l) 16 (omega arith))
 
@@ -45,7 +45,7 @@ module _ (b : Text) (l : List ℕ) (m : ℕ) where
     sizes-same : every m (sized (between b starts)) ≡ every m (sized (text b l))
     sizes-same = every-same (sized (between b starts)) (sized (text b l)) m (λ k h. rw (between-is b l m starts all k h))
 
-    picks-same : (n : ℕ) → n * 5 ≡ m → firsts n (pickOf (between b starts)) ≡ firsts n (pickAt b l)
+    picks-same : (n : ℕ) → n * fieldCount ≡ m → firsts n (pickOf (between b starts)) ≡ firsts n (pickAt b l)
     picks-same n e =
         firsts-same n (pickOf (between b starts)) (pickAt b l)
         (pick-same (between b starts) (text b l) n (λ k h. between-is b l m starts all k (omega arith)))
@@ -66,30 +66,30 @@ module _ (b : Text) (l : List ℕ) (m : ℕ) where
     pub starts-rise : Rising starts (length b)
     starts-rise = rising b l m starts starts-places (sym starts-length)
 
-    pub starts-picks : (n : ℕ) → n * 5 ≡ m → firsts n (pickOf (between b starts)) ≡ firsts n (pickAt b l)
+    pub starts-picks : (n : ℕ) → n * fieldCount ≡ m → firsts n (pickOf (between b starts)) ≡ firsts n (pickAt b l)
     starts-picks n e = picks-same starts starts-places n e
 
-    pub starts-fit : (t : Bool) → t ≡ every m (sized (between b starts)) → m ≡ count l * 5 → length l ≤ 80 → t ≡ fit b l
+    pub starts-fit : (t : Bool) → t ≡ every m (sized (between b starts)) → m ≡ count l * fieldCount → length l ≤ 80 → t ≡ fit b l
     starts-fit t e h w = e ∙ sizes-same starts starts-places ∙ rw h (fit-few b l w)
 
 -- what preparation has shown, once every text is within its size
-module _ (id b : Text) (l all : List ℕ) (long : length all ≡ startsSize) (few : length l ≤ 80) (given : Places b l (count l * 5) all) where
-  fewer : count l * 5 ≤ 80
+module _ (id b : Text) (l all : List ℕ) (long : length all ≡ startsSize) (few : length l ≤ 80) (given : Places b l (count l * fieldCount) all) where
+  fewer : count l * fieldCount ≤ 80
   fewer = omega (arith, few)
 
-  pub fit-known : (t : Bool) → t ≡ every (count l * 5) (sized (between b (startsOf (count l) all))) → t ≡ fit b l
-  fit-known t e = starts-fit b l (count l * 5) all long fewer given t e refl few
+  pub fit-known : (t : Bool) → t ≡ every (count l * fieldCount) (sized (between b (startsOf (count l) all))) → t ≡ fit b l
+  fit-known t e = starts-fit b l (count l * fieldCount) all long fewer given t e refl few
 
-  pub prepared : every (count l * 5) (sized (between b (startsOf (count l) all))) ≡ true → length id ≤ maxIdentity → Ready id b l all (count l)
+  pub prepared : every (count l * fieldCount) (sized (between b (startsOf (count l) all))) ≡ true → length id ≤ maxIdentity → Ready id b l all (count l)
   prepared e h =
       record {
         fits = fit-known true (sym e);
         named = h;
         few = omega (arith, few);
-        rises = starts-rise b l (count l * 5) all long fewer given;
-        long = omega (arith, starts-length b l (count l * 5) all long fewer given);
+        rises = starts-rise b l (count l * fieldCount) all long fewer given;
+        long = omega (arith, starts-length b l (count l * fieldCount) all long fewer given);
         small = entry-small (between b (startsOf (count l) all)) (count l) e;
-        picks = starts-picks b l (count l * 5) all long fewer given (count l) refl;
+        picks = starts-picks b l (count l * fieldCount) all long fewer given (count l) refl;
       }
 
 -- ---- key

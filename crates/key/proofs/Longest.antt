@@ -7,7 +7,7 @@ use native.Mathlib.Omega.{arith}
 use lib.ListN.{length, replicate, length-replicate}
 use lib.Dec.{leb}
 use borrow.Author.Tests.{leb-true}
-use Rattle.key.specs.Order.{Text, textOrder, pickOrder}
+use Rattle.key.specs.Order.{Text, textOrder, pickOrder, fieldCount}
 use Rattle.key.specs.Picks.{sum, text, pickOf, pickAt, count, firsts, handed, insert, distinct}
 use Rattle.key.specs.Layout.{every, sized, fit, prefix, joined, entry, maxIdentity}
 use Rattle.key.specs.Claims.{NoKeyIsLonger, LongestIsReached}
@@ -24,7 +24,7 @@ prefix-short (b ∷ bs) h = omega arith
 pub longest : NoKeyIsLonger
 unfolding fit
 longest id b l h k =
-    let t = both-true (leb (count l) 16) (every (count l * 5) (sized (text b l))) h in
+    let t = both-true (leb (count l) 16) (every (count l * fieldCount) (sized (text b l))) h in
     let n : count l ≤ 16 = leb-true _ _ (t .0) in
     let m = small (count l) (pickAt b l) (entry-small (text b l) (count l) (t .1)) in
     omega (arith, key-length id (handed b l), prefix-short id k, few (count l) (pickAt b l), m)

@@ -11,9 +11,9 @@ use lib.ListN.{length, getD, length-append}
 use borrow.Author.Tests.{leb-true}
 use Rattle.base.specs.Number.{pick}
 use Rattle.base.proofs.Bools.{both-true}
-use Rattle.key.specs.Order.{Text, Pick, pickOrder}
+use Rattle.key.specs.Order.{Text, Pick, pickOrder, fieldCount}
 use Rattle.key.specs.Picks.{pickOf, unlessCode, firsts, place, insert, distinct, In}
-use Rattle.key.specs.Layout.{every, sized, sizes, joined, field, entry}
+use Rattle.key.specs.Layout.{every, sized, sizes, joined, field, entry, longestEntry}
 use Rattle.key.specs.Steps.{Rising, between, Small}
 use Rattle.key.proofs.Sort.{sorts}
 use Rattle.key.proofs.Taken.{split, firsts-length, between-length}
@@ -54,19 +54,19 @@ unless-both : (c t : Text) → length c ≤ 16 → length t ≤ 64 → length c 
 unless-both [] t hc ht = omega arith
 unless-both (x ∷ c) t hc ht = omega arith
 
-module _ (t : ℕ → Text) (n : ℕ) (fits : every (n * 5) (sized t) ≡ true) where
-  within : (k m : ℕ) → k < n * 5 → k % 5 ≡ m → length (t k) ≤ getD sizes m 0
-  within k m h e = rw (← e) (leb-true _ _ (every-at (sized t) (n * 5) k fits h))
+module _ (t : ℕ → Text) (n : ℕ) (fits : every (n * fieldCount) (sized t) ≡ true) where
+  within : (k m : ℕ) → k < n * fieldCount → k % 5 ≡ m → length (t k) ≤ getD sizes m 0
+  within k m h e = rw (← e) (leb-true _ _ (every-at (sized t) (n * fieldCount) k fits h))
 
   pub entry-small : Small (pickOf t) n
   unfolding pickOf joined
   entry-small i h =
-      let t0 : length (t (i * 5)) ≤ 8 = within (i * 5) 0 (omega arith) (omega arith) in
-      let t1 : length (t (i * 5 + 1)) ≤ 32 = within (i * 5 + 1) 1 (omega arith) (omega arith) in
-      let t2 : length (t (i * 5 + 2)) ≤ 16 = within (i * 5 + 2) 2 (omega arith) (omega arith) in
-      let t3 : length (t (i * 5 + 3)) ≤ 32 = within (i * 5 + 3) 3 (omega arith) (omega arith) in
-      let t4 : length (t (i * 5 + 4)) ≤ 64 = within (i * 5 + 4) 4 (omega arith) (omega arith) in
-      let u = unless-both (t (i * 5 + 2)) (t (i * 5 + 4)) t2 t4 in
+      let t0 : length (t (i * fieldCount)) ≤ 8 = within (i * fieldCount) 0 (omega arith) (omega arith) in
+      let t1 : length (t (i * fieldCount + 1)) ≤ 32 = within (i * fieldCount + 1) 1 (omega arith) (omega arith) in
+      let t2 : length (t (i * fieldCount + 2)) ≤ 16 = within (i * fieldCount + 2) 2 (omega arith) (omega arith) in
+      let t3 : length (t (i * fieldCount + 3)) ≤ 32 = within (i * fieldCount + 3) 3 (omega arith) (omega arith) in
+      let t4 : length (t (i * fieldCount + 4)) ≤ 64 = within (i * fieldCount + 4) 4 (omega arith) (omega arith) in
+      let u = unless-both (t (i * fieldCount + 2)) (t (i * fieldCount + 4)) t2 t4 in
       simp length-append (omega arith)
 
 -- how many bytes a pick takes, by the places of its texts
@@ -79,38 +79,38 @@ unless-none : (c t : Text) → length c ≡ 0 → length (unlessCode c t) ≡ le
 unless-none [] t h = refl
 unless-none (x ∷ c) t h = absurd (omega arith)
 
-module _ (b : Text) (s : List ℕ) (r : Rising s (length b)) (i : ℕ) (h : i * 5 + 5 < length s) where
+module _ (b : Text) (s : List ℕ) (r : Rising s (length b)) (i : ℕ) (h : i * fieldCount + fieldCount < length s) where
   gap : (j n : ℕ) → j + 1 ≡ n → n < length s → (length (between b s j) ≡ getD s n 0 - getD s j 0) × (getD s j 0 ≤ getD s n 0)
   gap j n e w = rw (← e) (between-length b s j r (omega arith), r .rises j (omega arith))
 
-  pub up : (getD s (i * 5) 0 ≤ getD s (i * 5 + 4) 0) × (getD s (i * 5) 0 ≤ getD s (i * 5 + 5) 0)
+  pub up : (getD s (i * fieldCount) 0 ≤ getD s (i * fieldCount + 4) 0) × (getD s (i * fieldCount) 0 ≤ getD s (i * fieldCount + 5) 0)
   up =
-      let g0 = gap (i * 5) (i * 5 + 1) (omega arith) (omega arith) in
-      let g1 = gap (i * 5 + 1) (i * 5 + 2) (omega arith) (omega arith) in
-      let g2 = gap (i * 5 + 2) (i * 5 + 3) (omega arith) (omega arith) in
-      let g3 = gap (i * 5 + 3) (i * 5 + 4) (omega arith) (omega arith) in
-      let g4 = gap (i * 5 + 4) (i * 5 + 5) (omega arith) (omega arith) in
+      let g0 = gap (i * fieldCount) (i * fieldCount + 1) (omega arith) (omega arith) in
+      let g1 = gap (i * fieldCount + 1) (i * fieldCount + 2) (omega arith) (omega arith) in
+      let g2 = gap (i * fieldCount + 2) (i * fieldCount + 3) (omega arith) (omega arith) in
+      let g3 = gap (i * fieldCount + 3) (i * fieldCount + 4) (omega arith) (omega arith) in
+      let g4 = gap (i * fieldCount + 4) (i * fieldCount + 5) (omega arith) (omega arith) in
       (omega arith, omega arith)
 
-  pub entry-coded : getD s (i * 5 + 2) 0 < getD s (i * 5 + 3) 0 → getD s (i * 5 + 4) 0 - getD s (i * 5) 0 + 5 ≡ length (entry (pickOf (between b s) i))
+  pub entry-coded : getD s (i * fieldCount + 2) 0 < getD s (i * fieldCount + 3) 0 → getD s (i * fieldCount + 4) 0 - getD s (i * fieldCount) 0 + 5 ≡ length (entry (pickOf (between b s) i))
   unfolding pickOf joined
   entry-coded w =
-      let g0 = gap (i * 5) (i * 5 + 1) (omega arith) (omega arith) in
-      let g1 = gap (i * 5 + 1) (i * 5 + 2) (omega arith) (omega arith) in
-      let g2 = gap (i * 5 + 2) (i * 5 + 3) (omega arith) (omega arith) in
-      let g3 = gap (i * 5 + 3) (i * 5 + 4) (omega arith) (omega arith) in
-      let u = unless-code (between b s (i * 5 + 2)) (between b s (i * 5 + 4)) (omega arith) in
+      let g0 = gap (i * fieldCount) (i * fieldCount + 1) (omega arith) (omega arith) in
+      let g1 = gap (i * fieldCount + 1) (i * fieldCount + 2) (omega arith) (omega arith) in
+      let g2 = gap (i * fieldCount + 2) (i * fieldCount + 3) (omega arith) (omega arith) in
+      let g3 = gap (i * fieldCount + 3) (i * fieldCount + 4) (omega arith) (omega arith) in
+      let u = unless-code (between b s (i * fieldCount + 2)) (between b s (i * fieldCount + 4)) (omega arith) in
       simp length-append (omega arith)
 
-  pub entry-plain : getD s (i * 5 + 3) 0 ≤ getD s (i * 5 + 2) 0 → getD s (i * 5 + 5) 0 - getD s (i * 5) 0 + 5 ≡ length (entry (pickOf (between b s) i))
+  pub entry-plain : getD s (i * fieldCount + 3) 0 ≤ getD s (i * fieldCount + 2) 0 → getD s (i * fieldCount + 5) 0 - getD s (i * fieldCount) 0 + 5 ≡ length (entry (pickOf (between b s) i))
   unfolding pickOf joined
   entry-plain w =
-      let g0 = gap (i * 5) (i * 5 + 1) (omega arith) (omega arith) in
-      let g1 = gap (i * 5 + 1) (i * 5 + 2) (omega arith) (omega arith) in
-      let g2 = gap (i * 5 + 2) (i * 5 + 3) (omega arith) (omega arith) in
-      let g3 = gap (i * 5 + 3) (i * 5 + 4) (omega arith) (omega arith) in
-      let g4 = gap (i * 5 + 4) (i * 5 + 5) (omega arith) (omega arith) in
-      let u = unless-none (between b s (i * 5 + 2)) (between b s (i * 5 + 4)) (omega arith) in
+      let g0 = gap (i * fieldCount) (i * fieldCount + 1) (omega arith) (omega arith) in
+      let g1 = gap (i * fieldCount + 1) (i * fieldCount + 2) (omega arith) (omega arith) in
+      let g2 = gap (i * fieldCount + 2) (i * fieldCount + 3) (omega arith) (omega arith) in
+      let g3 = gap (i * fieldCount + 3) (i * fieldCount + 4) (omega arith) (omega arith) in
+      let g4 = gap (i * fieldCount + 4) (i * fieldCount + 5) (omega arith) (omega arith) in
+      let u = unless-none (between b s (i * fieldCount + 2)) (between b s (i * fieldCount + 4)) (omega arith) in
       simp length-append (omega arith)
 
 of-firsts : (n : ℕ) (f : ℕ → Pick) (x : Pick) → In x (firsts n f) → (i : ℕ) × (i < n) × (x ≡ f i)
@@ -120,11 +120,11 @@ of-firsts (suc n) f x m =
     ⊎-elim (λ w. (zero, suc-le-suc zero-le, w))
     (λ w. let t = of-firsts n (λ k. f (suc k)) x w in (suc (t .0), suc-le-suc (t .1), t .2)) m
 
-all-small : (s : List Pick) → ((p : Pick) → In p s → length (entry p) ≤ 141) → length (joined entry s) ≤ 141 * length s
+all-small : (s : List Pick) → ((p : Pick) → In p s → length (entry p) ≤ longestEntry) → length (joined entry s) ≤ 141 * length s
 unfolding joined
 all-small [] h = omega arith
 all-small (p ∷ s) h =
-    let a : length (joined field p) ≤ 141 = h p (inl refl) in
+    let a : length (joined field p) ≤ longestEntry = h p (inl refl) in
     let r = all-small s (λ q m. h q (inr m)) in
     omega (arith, length-append (joined field p) (joined entry s))
 

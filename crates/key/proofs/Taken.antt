@@ -11,7 +11,7 @@ use lib.ListN.{length, take, drop, getD, drop-of-length-le, length-drop, List·g
 use lib.Seq.{take-suc, take-all}
 use lib.Dec.{leb, ltb}
 use borrow.Author.Tests.{leb-true, leb-false, ltb-true, ltb-false}
-use Rattle.key.specs.Order.{Text, Pick}
+use Rattle.key.specs.Order.{Text, Pick, fieldCount}
 use Rattle.key.specs.Picks.{sum, text, pickOf, firsts}
 use Rattle.key.specs.Steps.{placeOf, Places, Rising, between}
 
@@ -115,34 +115,34 @@ module _ (t : ℕ → Text) (i : ℕ) where
   unfolding pickOf
   five = refl
 
-  pub plain : (f : ℕ) → f < 4 → t (i * 5 + f) ≡ getD (pickOf t i) f []
+  pub plain : (f : ℕ) → f < 4 → t (i * fieldCount + f) ≡ getD (pickOf t i) f []
   unfolding pickOf
-  plain zero h = ap t (add-zero (i * 5))
+  plain zero h = ap t (add-zero (i * fieldCount))
   plain (suc zero) h = refl
   plain (suc (suc zero)) h = refl
   plain (suc (suc (suc zero))) h = refl
   plain (suc (suc (suc (suc f)))) h = absurd (let k : suc (suc (suc (suc f))) < 4 = h in omega arith)
 
-  pub with-code : (code : Text) → code ≡ t (i * 5 + 2) → 0 < length code → [] ≡ getD (pickOf t i) 4 []
+  pub with-code : (code : Text) → code ≡ t (i * fieldCount + 2) → 0 < length code → [] ≡ getD (pickOf t i) 4 []
   unfolding pickOf
   with-code [] e h = absurd (omega arith)
   with-code (x ∷ xs) e h = rw (← e)
 
-  pub no-code : (code : Text) → code ≡ t (i * 5 + 2) → length code ≤ 0 → t (i * 5 + 4) ≡ getD (pickOf t i) 4 []
+  pub no-code : (code : Text) → code ≡ t (i * fieldCount + 2) → length code ≤ 0 → t (i * fieldCount + 4) ≡ getD (pickOf t i) 4 []
   unfolding pickOf
   no-code [] e h = rw (← e)
   no-code (x ∷ xs) e h = absurd (omega arith)
 
 -- ---- the same texts make the same picks
 
-pub pick-same : (t u : ℕ → Text) (n : ℕ) → ((k : ℕ) → k < n * 5 → t k ≡ u k) → (i : ℕ) → i < n → pickOf t i ≡ pickOf u i
+pub pick-same : (t u : ℕ → Text) (n : ℕ) → ((k : ℕ) → k < n * fieldCount → t k ≡ u k) → (i : ℕ) → i < n → pickOf t i ≡ pickOf u i
 unfolding pickOf
 pick-same t u n e i h =
-    let a : t (i * 5) ≡ u (i * 5) = e (i * 5) (omega arith) in
-    let b : t (i * 5 + 1) ≡ u (i * 5 + 1) = e (i * 5 + 1) (omega arith) in
-    let c : t (i * 5 + 2) ≡ u (i * 5 + 2) = e (i * 5 + 2) (omega arith) in
-    let d : t (i * 5 + 3) ≡ u (i * 5 + 3) = e (i * 5 + 3) (omega arith) in
-    let f : t (i * 5 + 4) ≡ u (i * 5 + 4) = e (i * 5 + 4) (omega arith) in
+    let a : t (i * fieldCount) ≡ u (i * fieldCount) = e (i * fieldCount) (omega arith) in
+    let b : t (i * fieldCount + 1) ≡ u (i * fieldCount + 1) = e (i * fieldCount + 1) (omega arith) in
+    let c : t (i * fieldCount + 2) ≡ u (i * fieldCount + 2) = e (i * fieldCount + 2) (omega arith) in
+    let d : t (i * fieldCount + 3) ≡ u (i * fieldCount + 3) = e (i * fieldCount + 3) (omega arith) in
+    let f : t (i * fieldCount + 4) ≡ u (i * fieldCount + 4) = e (i * fieldCount + 4) (omega arith) in
     rw (a, b, c, d, f)
 
 pub firsts-same : (n : ℕ) (f g : ℕ → Pick) → ((i : ℕ) → i < n → f i ≡ g i) → firsts n f ≡ firsts n g

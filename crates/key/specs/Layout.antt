@@ -7,7 +7,7 @@ use lib.Dec.{leb}
 use Rattle.base.specs.Number.{pick}
 use Rattle.leaf.specs.Bytes.{written}
 use Rattle.refusal.specs.declared.Refusal.the-variants.{Argument, Identity, Small}
-use Rattle.key.specs.Order.{Text, Pick}
+use Rattle.key.specs.Order.{Text, Pick, fieldCount}
 use Rattle.key.specs.Picks.{text, count, handed, distinct}
 use Rattle.key.specs.declared.KeyAnswer.{KeyAnswer}
 use Rattle.key.specs.declared.KeyAnswer.the-variants.{Written, Refused}
@@ -58,6 +58,10 @@ longestKey = 67795
 abbrev pub sizes : List ℕ
 sizes = 8 ∷ 32 ∷ 16 ∷ 32 ∷ 64 ∷ []
 
+-- the most bytes of a pick in a key: with a code, whose size is the smaller, the name is empty
+abbrev pub longestEntry : ℕ
+longestEntry = 141
+
 -- the test holds of 0, 1, .., n - 1
 unfoldable pub every : ℕ → (ℕ → Bool) → Bool
 every zero test = true
@@ -69,7 +73,7 @@ sized t k = leb (length (t k)) (getD sizes (k % 5) 0)
 
 -- at most 16 picks, and each text within its size, also a stop name that is left out for a code
 unfoldable pub fit : Text → List ℕ → Bool
-fit bytes lengths = pick (leb (count lengths) maxPicks) (every (count lengths * 5) (sized (text bytes lengths))) false
+fit bytes lengths = pick (leb (count lengths) maxPicks) (every (count lengths * fieldCount) (sized (text bytes lengths))) false
 
 -- ---- the call `key`
 

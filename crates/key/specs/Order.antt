@@ -7,6 +7,9 @@ abbrev pub Text : Type 0
 Text = List ℕ
 
 -- a pick: its five fields
+abbrev pub fieldCount : ℕ
+fieldCount = 5
+
 abbrev pub Pick : Type 0
 Pick = List Text
 

@@ -4,7 +4,7 @@ use mathlib.Core.Path.{_≡_}
 use mathlib.Core.Logic.{_⊎_}
 use Prim.Native.Nat.{ℕ, zero, suc, _+_, _*_, _/_, Ordering, Ordering·lt, Ordering·eq, Ordering·gt}
 use lib.ListN.{length, take, drop, getD}
-use Rattle.key.specs.Order.{Text, Pick, pickOrder}
+use Rattle.key.specs.Order.{Text, Pick, pickOrder, fieldCount}
 
 -- ---- as passed: all texts joined, and their lengths, five to a pick
 
@@ -23,7 +23,7 @@ unlessCode (c ∷ cs) name = []
 
 -- pick i of texts 0, 1, 2, ..: line, route, stop code, stop, stop name
 unfoldable pub pickOf : (ℕ → Text) → ℕ → Pick
-pickOf t i = t (i * 5) ∷ t (i * 5 + 1) ∷ t (i * 5 + 2) ∷ t (i * 5 + 3) ∷ unlessCode (t (i * 5 + 2)) (t (i * 5 + 4)) ∷ []
+pickOf t i = t (i * fieldCount) ∷ t (i * fieldCount + 1) ∷ t (i * fieldCount + 2) ∷ t (i * fieldCount + 3) ∷ unlessCode (t (i * fieldCount + 2)) (t (i * fieldCount + 4)) ∷ []
 
 -- pick i as passed
 abbrev pub pickAt : Text → List ℕ → ℕ → Pick

@@ -4,13 +4,13 @@ use mathlib.Core.Path.{_≡_}
 use Prim.Native.Nat.{ℕ, _+_, _-_, _*_, _≤_, _<_, min, Ordering, Ordering·lt, Ordering·eq, Ordering·gt}
 use lib.ListN.{length, take, drop, getD}
 use Rattle.base.specs.Number.{pick}
-use Rattle.key.specs.Order.{Text, Pick}
+use Rattle.key.specs.Order.{Text, Pick, fieldCount}
 use Rattle.key.specs.Picks.{sum, pickOf, insert, firsts, handed}
 use mathlib.Core.Bool.{true, false}
 use mathlib.Core.Logic.{_⊎_}
 use Rattle.refusal.specs.declared.Refusal.{Refusal}
 use Rattle.refusal.specs.declared.Refusal.the-variants.{Argument, Identity}
-use Rattle.key.specs.Layout.{entry, fit, maxIdentity, maxPicks}
+use Rattle.key.specs.Layout.{entry, fit, maxIdentity, maxPicks, longestEntry}
 use Rattle.key.specs.declared.picks.Prepared.{Prepared}
 use Rattle.key.specs.declared.picks.Prepared.the-variants.{Ready as IsReady, Refused}
 use Rattle.base.specs.Same.{same}
@@ -68,7 +68,7 @@ pub record Ordered (f : ℕ → Pick) (n : ℕ) (s : List Pick) (order : List �
 
 -- each of the first n picks has at most 141 bytes in a key
 abbrev pub Small : (ℕ → Pick) → ℕ → Type 0
-Small f n = (i : ℕ) → i < n → length (entry (f i)) ≤ 141
+Small f n = (i : ℕ) → i < n → length (entry (f i)) ≤ longestEntry
 
 -- ---- comparing
 
@@ -84,7 +84,7 @@ NotReady identity bytes lengths r = ((r ≡ Argument) × (false ≡ fit bytes le
 
 -- the offsets of n picks' texts: the slice `starts[0..n * 5 + 1]`
 abbrev pub startsOf : ℕ → List ℕ → List ℕ
-startsOf n starts = take (n * 5 + 1 - 0) starts
+startsOf n starts = take (n * fieldCount + 1 - 0) starts
 
 -- there are n picks between the offsets, and each text is within its size
 pub record Ready (identity bytes : Text) (lengths starts : List ℕ) (n : ℕ) : Type 0 where
@@ -92,7 +92,7 @@ pub record Ready (identity bytes : Text) (lengths starts : List ℕ) (n : ℕ) :
   pub named : length identity ≤ maxIdentity
   pub few : n ≤ maxPicks
   pub rises : Rising (startsOf n starts) (length bytes)
-  pub long : n * 5 < length (startsOf n starts)
+  pub long : n * fieldCount < length (startsOf n starts)
   pub small : Small (pickIn bytes (startsOf n starts)) n
   pub picks : firsts n (pickIn bytes (startsOf n starts)) ≡ handed bytes lengths
 
@@ -102,4 +102,4 @@ Prepares identity bytes lengths starts (Refused r) = NotReady identity bytes len
 
 -- how many offsets the texts of the most picks have, with the end
 abbrev pub startsSize : ℕ
-startsSize = maxPicks * 5 + 1
+startsSize = maxPicks * fieldCount + 1

@@ -5,9 +5,10 @@ ghost use mathlib.Core.List.{[], _∷_, map};
 ghost use Prim.Native.Nat.{_+_, _-_, _*_, _≤_, _<_};
 ghost use lib.ListN.{length};
 ghost use Rattle.key.specs.Picks.{firsts};
-ghost use Rattle.key.specs.Layout.{field as fieldOf, entry, joined, keyOf, prefix, maxIdentity};
+ghost use Rattle.key.specs.Layout.{field as fieldOf, entry, joined, keyOf, prefix, maxIdentity, maxPicks};
 ghost use Rattle.base.specs.Same.{same};
 ghost use Rattle.key.specs.Steps.{Rising, pickIn, Below, Small, stretch};
+ghost use Rattle.key.specs.Order.{fieldCount};
 use crate::FIELDS;
 use crate::MAX_PICKS;
 use crate::picks::field;
@@ -64,7 +65,7 @@ fn match_field(stored: &[u8], at: usize, s: &[u8]) -> Matched
 }
 
 fn match_pick(stored: &[u8], at: usize, texts: &[u8], starts: &[usize], i: usize) -> Matched
-    requires { ⌜ Rising (now starts) (length (now texts)) × (i * 5 + 5 < length (now starts)) ⌝ }
+    requires { ⌜ Rising (now starts) (length (now texts)) × (i * fieldCount + fieldCount < length (now starts)) ⌝ }
     ensures { λ r. ⌜ r ≡ stretch (now (stored .entry)) at (entry (pickIn (now (texts .entry)) (now (starts .entry)) i)) ⌝ }
 {
     let mut to = at;
@@ -88,7 +89,7 @@ fn match_picks(
     n: usize,
     sorted: &[usize],
 ) -> Matched
-    requires { ⌜ Rising (now starts) (length (now texts)) × (n * 5 < length (now starts)) × Below n (now sorted) ⌝ }
+    requires { ⌜ Rising (now starts) (length (now texts)) × (n * fieldCount < length (now starts)) × Below n (now sorted) ⌝ }
     ensures { λ r. ⌜ r ≡ stretch (now (stored .entry)) at (joined entry (map (pickIn (now (texts .entry)) (now (starts .entry))) (now (sorted .entry)))) ⌝ }
 {
     let mut to = at;
@@ -131,7 +132,7 @@ pub(crate) fn match_key(
     starts: &[usize],
     n: usize,
 ) -> bool
-    requires { ⌜ Rising (now starts) (length (now texts)) × (n * 5 < length (now starts)) × (n ≤ 16) × (length (now identity) ≤ maxIdentity) × Small (pickIn (now texts) (now starts)) n ⌝ }
+    requires { ⌜ Rising (now starts) (length (now texts)) × (n * fieldCount < length (now starts)) × (n ≤ maxPicks) × (length (now identity) ≤ maxIdentity) × Small (pickIn (now texts) (now starts)) n ⌝ }
     ensures { λ r. ⌜ r ≡ same (now (stored .entry)) (keyOf (now (identity .entry)) (firsts n (pickIn (now (texts .entry)) (now (starts .entry))))) ⌝ }
 {
     let mut order: [usize; MAX_PICKS] = [0; MAX_PICKS];

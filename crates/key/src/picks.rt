@@ -4,7 +4,7 @@ ghost use mathlib.Core.Bool.{true};
 ghost use mathlib.Core.List.{[], _∷_, _++_, map};
 ghost use Prim.Native.Nat.{_+_, _-_, _*_, _≤_, _<_};
 ghost use lib.ListN.{length, take, drop, getD};
-ghost use Rattle.key.specs.Order.{textOrder, pickOrder};
+ghost use Rattle.key.specs.Order.{textOrder, pickOrder, fieldCount};
 ghost use Rattle.key.specs.Picks.{firsts, insert, distinct};
 ghost use Rattle.key.specs.Layout.{entry, sized, every};
 ghost use Rattle.key.specs.Steps.{number, Places, Rising, between, pickIn, Goes, Ordered, Below, Prepares, startsSize};
@@ -102,7 +102,7 @@ fn sizes_fit(texts: &[u8], starts: &[usize], m: usize) -> bool
 
 // Field f of pick i, as the key has it.
 pub(crate) fn field<'a, 'b>(texts: &'a [u8], starts: &'b [usize], i: usize, f: usize) -> &'a [u8]
-    requires { ⌜ Rising (now starts) (length (now texts)) × (i * 5 + 5 < length (now starts)) × (f < 5) ⌝ }
+    requires { ⌜ Rising (now starts) (length (now texts)) × (i * fieldCount + fieldCount < length (now starts)) × (f < fieldCount) ⌝ }
     ensures { λ r. ⌜ now r ≡ getD (pickIn (now (texts .entry)) (now (starts .entry)) i) f [] ⌝ }
 {
     let first = i * FIELDS;
@@ -118,7 +118,7 @@ pub(crate) fn field<'a, 'b>(texts: &'a [u8], starts: &'b [usize], i: usize, f: u
 
 // The order of two picks.
 fn order_picks(texts: &[u8], starts: &[usize], i: usize, j: usize) -> u8
-    requires { ⌜ Rising (now starts) (length (now texts)) × (i * 5 + 5 < length (now starts)) × (j * 5 + 5 < length (now starts)) ⌝ }
+    requires { ⌜ Rising (now starts) (length (now texts)) × (i * fieldCount + fieldCount < length (now starts)) × (j * fieldCount + fieldCount < length (now starts)) ⌝ }
     ensures { λ r. ⌜ r ≡ number (pickOrder (pickIn (now (texts .entry)) (now (starts .entry)) i) (pickIn (now (texts .entry)) (now (starts .entry)) j)) ⌝ }
 {
     let mut f: usize = 0;
@@ -136,7 +136,7 @@ fn order_picks(texts: &[u8], starts: &[usize], i: usize, j: usize) -> u8
 
 // The index at which pick i is inserted among the sorted ones.
 fn place_of(texts: &[u8], starts: &[usize], n: usize, sorted: &[usize], i: usize) -> Place
-    requires { ⌜ Rising (now starts) (length (now texts)) × (n * 5 < length (now starts)) × (i < n) × Below n (now sorted) ⌝ }
+    requires { ⌜ Rising (now starts) (length (now texts)) × (n * fieldCount < length (now starts)) × (i < n) × Below n (now sorted) ⌝ }
     ensures { λ r. ⌜ Goes (pickIn (now (texts .entry)) (now (starts .entry)) i) (map (pickIn (now (texts .entry)) (now (starts .entry))) (now (sorted .entry))) r ⌝ }
 {
     let mut k: usize = 0;
@@ -179,7 +179,7 @@ fn insert_pick(
     m: usize,
     i: usize,
 ) -> usize
-    requires { ⌜ Rising (now starts) (length (now texts)) × (n * 5 < length (now starts)) × (i < n) × (m < length (now order)) × Below n (take m (now order)) ⌝ }
+    requires { ⌜ Rising (now starts) (length (now texts)) × (n * fieldCount < length (now starts)) × (i < n) × (m < length (now order)) × Below n (take m (now order)) ⌝ }
     ensures { λ r. ⌜ (r ≤ m + 1) × Ordered (pickIn (now (texts .entry)) (now (starts .entry))) n (insert (pickIn (now (texts .entry)) (now (starts .entry)) i) (map (pickIn (now (texts .entry)) (now (starts .entry))) (take m (now (order .entry))))) (now (order .exit)) r ⌝ }
 {
     let p = place_of(texts, starts, n, &order[0..m], i);
@@ -192,7 +192,7 @@ fn insert_pick(
 
 // Writes the indices of the distinct picks to `order`, sorted; gives how many they are.
 pub(crate) fn sort_picks(texts: &[u8], starts: &[usize], n: usize, order: &mut [usize]) -> usize
-    requires { ⌜ Rising (now starts) (length (now texts)) × (n * 5 < length (now starts)) × (n ≤ length (now order)) ⌝ }
+    requires { ⌜ Rising (now starts) (length (now texts)) × (n * fieldCount < length (now starts)) × (n ≤ length (now order)) ⌝ }
     ensures { λ r. ⌜ (r ≤ n) × Ordered (pickIn (now (texts .entry)) (now (starts .entry))) n (distinct (firsts n (pickIn (now (texts .entry)) (now (starts .entry))))) (now (order .exit)) r ⌝ }
 {
     let mut m: usize = 0;

@@ -5,8 +5,9 @@ ghost use Prim.Native.Nat.{_+_, _-_, _*_, _≤_, _<_};
 ghost use lib.ListN.{length};
 ghost use Rattle.leaf.specs.Bytes.{written};
 ghost use Rattle.key.specs.Picks.{firsts};
-ghost use Rattle.key.specs.Layout.{field as fieldOf, entry, joined, keyOf, prefix, maxIdentity, within, after};
+ghost use Rattle.key.specs.Layout.{field as fieldOf, entry, joined, keyOf, prefix, maxIdentity, within, after, maxPicks, longestEntry};
 ghost use Rattle.key.specs.Steps.{Rising, pickIn, Below, Small};
+ghost use Rattle.key.specs.Order.{fieldCount};
 use crate::FIELDS;
 use crate::KeyAnswer;
 use crate::MAX_PICKS;
@@ -16,7 +17,7 @@ use refusal::Refusal;
 
 // How many bytes pick i has in the key. If it has a code, the name is left out.
 fn entry_length(texts: &[u8], starts: &[usize], i: usize) -> usize
-    requires { ⌜ Rising (now starts) (length (now texts)) × (i * 5 + 5 < length (now starts)) × (length (entry (pickIn (now texts) (now starts) i)) ≤ 141) ⌝ }
+    requires { ⌜ Rising (now starts) (length (now texts)) × (i * fieldCount + fieldCount < length (now starts)) × (length (entry (pickIn (now texts) (now starts) i)) ≤ longestEntry) ⌝ }
     ensures { λ r. ⌜ r ≡ length (entry (pickIn (now (texts .entry)) (now (starts .entry)) i)) ⌝ }
 {
     let first = i * FIELDS;
@@ -24,7 +25,7 @@ fn entry_length(texts: &[u8], starts: &[usize], i: usize) -> usize
     let code = starts[first + 2];
     let stop = starts[first + 3];
     let name = starts[first + 4];
-    let end = starts[first + 5];
+    let end = starts[first + FIELDS];
     if code < stop {
         return name - from + FIELDS;
     }
@@ -33,8 +34,8 @@ fn entry_length(texts: &[u8], starts: &[usize], i: usize) -> usize
 
 // How many bytes the sorted picks have.
 fn entries_length(texts: &[u8], starts: &[usize], n: usize, sorted: &[usize]) -> usize
-    requires { ⌜ Rising (now starts) (length (now texts)) × (n * 5 < length (now starts)) × Below n (now sorted) × (length (now sorted) ≤ 16) × Small (pickIn (now texts) (now starts)) n ⌝ }
-    ensures { λ r. ⌜ (r ≡ length (joined entry (map (pickIn (now (texts .entry)) (now (starts .entry))) (now (sorted .entry))))) × (r ≤ 141 * 16) ⌝ }
+    requires { ⌜ Rising (now starts) (length (now texts)) × (n * fieldCount < length (now starts)) × Below n (now sorted) × (length (now sorted) ≤ maxPicks) × Small (pickIn (now texts) (now starts)) n ⌝ }
+    ensures { λ r. ⌜ (r ≡ length (joined entry (map (pickIn (now (texts .entry)) (now (starts .entry))) (now (sorted .entry))))) × (r ≤ longestEntry * maxPicks) ⌝ }
 {
     let mut bytes: usize = 0;
     let mut k: usize = 0;
@@ -48,7 +49,7 @@ fn entries_length(texts: &[u8], starts: &[usize], n: usize, sorted: &[usize]) ->
 
 fn prefix_length(identity: &[u8]) -> usize
     requires { ⌜ length (now identity) ≤ maxIdentity ⌝ }
-    ensures { λ r. ⌜ (r ≡ length (prefix (now (identity .entry)))) × (r ≤ 65538) ⌝ }
+    ensures { λ r. ⌜ (r ≡ length (prefix (now (identity .entry)))) × (r ≤ maxIdentity + 3) ⌝ }
 {
     let n = identity.len();
     if n == 0 {
@@ -65,7 +66,7 @@ pub(crate) fn key_length(
     n: usize,
     sorted: &[usize],
 ) -> usize
-    requires { ⌜ Rising (now starts) (length (now texts)) × (n * 5 < length (now starts)) × Below n (now sorted) × (length (now sorted) ≤ 16) × Small (pickIn (now texts) (now starts)) n × (length (now identity) ≤ maxIdentity) ⌝ }
+    requires { ⌜ Rising (now starts) (length (now texts)) × (n * fieldCount < length (now starts)) × Below n (now sorted) × (length (now sorted) ≤ maxPicks) × Small (pickIn (now texts) (now starts)) n × (length (now identity) ≤ maxIdentity) ⌝ }
     ensures { λ r. ⌜ r ≡ length (prefix (now (identity .entry))) + 1 + length (joined entry (map (pickIn (now (texts .entry)) (now (starts .entry))) (now (sorted .entry)))) ⌝ }
 {
     prefix_length(identity) + 1 + entries_length(texts, starts, n, sorted)
@@ -94,7 +95,7 @@ fn put_field(out: &mut [u8], at: usize, s: &[u8])
 
 // Writes pick i; gives the offset after it.
 fn put_pick(out: &mut [u8], at: usize, texts: &[u8], starts: &[usize], i: usize) -> usize
-    requires { ⌜ Rising (now starts) (length (now texts)) × (i * 5 + 5 < length (now starts)) × (at + length (entry (pickIn (now texts) (now starts) i)) ≤ length (now out)) ⌝ }
+    requires { ⌜ Rising (now starts) (length (now texts)) × (i * fieldCount + fieldCount < length (now starts)) × (at + length (entry (pickIn (now texts) (now starts) i)) ≤ length (now out)) ⌝ }
     ensures { λ r. ⌜ (r ≡ at + length (entry (pickIn (now (texts .entry)) (now (starts .entry)) i))) × (now (out .exit) ≡ written (now (out .entry)) at (entry (pickIn (now (texts .entry)) (now (starts .entry)) i))) ⌝ }
 {
     let mut to = at;
@@ -110,7 +111,7 @@ fn put_pick(out: &mut [u8], at: usize, texts: &[u8], starts: &[usize], i: usize)
 
 // Writes the sorted picks.
 fn put_picks(out: &mut [u8], at: usize, texts: &[u8], starts: &[usize], n: usize, sorted: &[usize])
-    requires { ⌜ Rising (now starts) (length (now texts)) × (n * 5 < length (now starts)) × Below n (now sorted) × (at + length (joined entry (map (pickIn (now texts) (now starts)) (now sorted))) ≤ length (now out)) ⌝ }
+    requires { ⌜ Rising (now starts) (length (now texts)) × (n * fieldCount < length (now starts)) × Below n (now sorted) × (at + length (joined entry (map (pickIn (now texts) (now starts)) (now sorted))) ≤ length (now out)) ⌝ }
     ensures { λ _. ⌜ now (out .exit) ≡ written (now (out .entry)) at (joined entry (map (pickIn (now (texts .entry)) (now (starts .entry))) (now (sorted .entry)))) ⌝ }
 {
     let mut to = at;
@@ -146,7 +147,7 @@ pub(crate) fn write_key(
     n: usize,
     out: &mut [u8],
 ) -> KeyAnswer
-    requires { ⌜ Rising (now starts) (length (now texts)) × (n * 5 < length (now starts)) × (n ≤ 16) × (length (now identity) ≤ maxIdentity) × Small (pickIn (now texts) (now starts)) n ⌝ }
+    requires { ⌜ Rising (now starts) (length (now texts)) × (n * fieldCount < length (now starts)) × (n ≤ maxPicks) × (length (now identity) ≤ maxIdentity) × Small (pickIn (now texts) (now starts)) n ⌝ }
     ensures { λ r. ⌜ (r ≡ within (length (now (out .entry))) (keyOf (now (identity .entry)) (firsts n (pickIn (now (texts .entry)) (now (starts .entry)))))) × (now (out .exit) ≡ after r (keyOf (now (identity .entry)) (firsts n (pickIn (now (texts .entry)) (now (starts .entry))))) (now (out .entry))) ⌝ }
 {
     let mut order: [usize; MAX_PICKS] = [0; MAX_PICKS];

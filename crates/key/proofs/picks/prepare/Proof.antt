@@ -9,6 +9,7 @@ use Rattle.key.proofs.Answers.{fit-many, starts-rise, starts-length, fi
 use borrow.Author.Needs.{needs}
 use Rattle.key.proofs.picks.prepare.Statement.{statement}
 use Rattle.key.proofs.picks.prepare.Tie as tie
+use Rattle.key.specs.Order.{fieldCount}
 
 returns : tie.Need-returns
 returns c =
@@ -42,7 +43,7 @@ sizes-fit-requires c κs =
     let p = c .before .before .before .before .places in
     let h = c .before .before .before .before .before .before .if1 .left in
     let k = p .kept .1 .1 .1 .0 ∙ c .before .before .before .before .before .before .before .before .before .before .before .pre in
-    let w : count (a .lengths .now) * 5 ≤ 80 = omega (arith, h) in
+    let w : count (a .lengths .now) * fieldCount ≤ 80 = omega (arith, h) in
     (starts-rise (a .texts .now) (a .lengths .now) _ _ k w (p .ensures), starts-length (a .texts .now) (a .lengths .now) _ _ k w (p .ensures))
 
 same-length : tie.Need-same-length

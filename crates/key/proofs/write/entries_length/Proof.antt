@@ -4,7 +4,7 @@ use Prim.Native.Nat.{_+_, _*_, _-_, _≤_, _<_}
 use native.Mathlib.Omega.{arith}
 use lib.ListN.{length, take, getD, length-map}
 use Rattle.key.specs.Picks.{pickOf}
-use Rattle.key.specs.Layout.{joined, entry}
+use Rattle.key.specs.Layout.{joined, entry, longestEntry}
 use Rattle.key.specs.Steps.{between}
 use Rattle.key.proofs.Insert.{below-at, map-at}
 use Rattle.key.proofs.Put.{joined-none, joined-all, step-length}
@@ -30,7 +30,7 @@ step c =
     let e = step-length entry [] (map f (a .sorted .now)) (l .k) (omega arith) (f (getD (a .sorted .now) (l .k) 0)) (map-at f (a .sorted .now) (l .k) h) in
     omega (arith, e, c .entry-length .ensures, l .inv .1)
 
-small : (c : tie.After-entry-length Inv-loop μ-loop) → c .entry-length .result ≤ 141
+small : (c : tie.After-entry-length Inv-loop μ-loop) → c .entry-length .result ≤ longestEntry
 small c =
     let s = c .before .before .before .before .before .before .before in
     let l = c .before .before .before .loop in
