@@ -1,6 +1,6 @@
 #!/usr/bin/env python3
-"""Checks the proved core against programs that have nothing to do with it:
-Python's zlib, datetime, struct and csv, and the published CRC-32 check values."""
+"""Checks the proved core against independent programs: Python's zlib,
+datetime, struct and csv, and the published CRC-32 check values."""
 
 import argparse
 import csv
@@ -128,9 +128,9 @@ def new_dates(program, rng):
 
 
 def large_dates(program, rng):
-    """Numbers past those of the file: none is a date's."""
+    """Numbers past those of the file: none is a date."""
     cases = [655_380_101, (1 << 32) - 1] + [rng.randrange(DATES, 1 << 32) for _ in range(50000)]
-    # years that are in range again modulo 65536
+    # years that are in range modulo 65536
     cases += [(65536 + year) * 10000 + 101 for year in range(1, 10000, 7)]
     return compare("large numbers, no dates", program, [("date %d" % n, 0) for n in cases])
 
@@ -272,7 +272,7 @@ def rows(program, rng):
 
 
 def stored_rows(program, rng):
-    """Rows that Python's csv wrote, quoted where they need not be too."""
+    """Rows that Python's csv wrote, also with quotes that aren't needed."""
     cases = []
     for _ in range(20000):
         width = rng.randrange(1, 12)

@@ -1,8 +1,8 @@
 #!/usr/bin/env python3
 """Makes the sample images of samples/: flash regions of 983,040 bytes, always the same.
 
-The header, the records, the key and the rows are laid out here from document 01,
-apart from the core and from the Rust."""
+Header, records, key and rows are laid out here from document 01, independently
+of the core and of the Rust."""
 
 import argparse
 import os
@@ -198,7 +198,7 @@ def cut(generation, data):
 
 
 def ticket():
-    """A good header over rows of two timetables: the new one's to a page's end, then the one before."""
+    """A good header over rows of two timetables: the new one's up to a page's end, then the old one's."""
     new, before = Bank(12, [Source(trips=40)]), Bank(10, [Source(trips=40, city="Bergen")])
     length = 768
     new.data[length:] = before.data[length:new.length]
@@ -275,13 +275,13 @@ def refusals():
 def generations():
     return [
         ("generation-0-after-last", "0 is newer than 4294967295", good(LAST), Bank(0), OK, OK, 1),
-        ("generation-last-before-0", "0 is newer than 4294967295, banks the other way round",
+        ("generation-last-before-0", "0 is newer than 4294967295, banks swapped",
          Bank(0), good(LAST), OK, OK, 0),
         ("generation-equal", "equal generations: bank 0", good(5), Bank(5), OK, OK, 0),
         ("generation-half-above", "generations 2147483648 apart: bank 0", good(0), Bank(HALF), OK, OK, 0),
-        ("generation-half-below", "generations 2147483648 apart, the other way round: bank 0",
+        ("generation-half-below", "generations 2147483648 apart, banks swapped: bank 0",
          good(HALF), Bank(0), OK, OK, 0),
-        ("generation-of-bad", "the newer word stands in a bad bank", good(3),
+        ("generation-of-bad", "the newer generation is in a bad bank", good(3),
          good(4, crc=0), OK, REFUSED[7], 0),
     ]
 
@@ -338,8 +338,8 @@ def passing():
 
 def contents():
     return [
-        ("ticket-41", "a good header over mixed rows: reading the header alone takes bank 1, load turns "
-         "it down; bank 0 holds the timetable last committed", *ticket(), OK, REFUSED[7], 0),
+        ("ticket-41", "a good header over mixed rows: the header alone would give bank 1, load refuses "
+         "it; bank 0 holds the timetable last committed", *ticket(), OK, REFUSED[7], 0),
         ("full-bank", "487424 bytes of data", full(), ERASED, OK, REFUSED[3], 0),
         ("longest-key", "a key of 67795 bytes", Bank(2, words=key(LONG_IDENTITY, LONG_PICKS)), ERASED, OK,
          REFUSED[3], 0),
@@ -347,7 +347,7 @@ def contents():
 
 
 def images():
-    """Name, what it shows, both banks, what is meant of each, the bank that load gives."""
+    """Name, what it shows, both banks, the expected answer for each, the bank that load gives."""
     return plain() + refusals() + generations() + cuts() + versions() + passing() + contents()
 
 
@@ -363,8 +363,8 @@ def readme(listed):
         "",
         "Flash regions of 983,040 bytes, for `inspect` and for comparing it with the Rust (docs/INSPECT.md).",
         "`tools/samples.py` makes them and this table; `tools/samples.py --check` says whether they are what it",
-        "makes, and `tools/samples.py --ask PROGRAM` whether an inspect program prints what is meant to be in them,",
-        "line by line, freshness and match too.",
+        "makes, and `tools/samples.py --ask PROGRAM` whether an inspect program prints what was put into them,",
+        "line by line, with freshness and match.",
         "`tools/samples.py --dump FILE` writes a whole flash dump, with two-good in it.",
         "",
         "| image | what it shows | bank 0 | bank 1 | load |",
@@ -472,7 +472,7 @@ def expected(banks, meant, load):
 
 
 def ask(folder, program):
-    """Whether the program prints of each image what was meant."""
+    """Whether the program prints what was put into each image."""
     bad = 0
     listed = images()
     for name, _, a, b, first, second, load in listed:
@@ -507,7 +507,7 @@ def main():
     what = parser.add_mutually_exclusive_group()
     what.add_argument("--check", action="store_true", help="say whether the files are what is made here")
     what.add_argument("--ask", metavar="PROGRAM",
-                      help="run an inspect program over the images and see that it prints what is meant")
+                      help="run an inspect program on the images and compare what it prints with what was put into them")
     what.add_argument("--dump", metavar="FILE",
                       help="write a whole flash dump of 4194304 bytes, with two-good at 0x300000")
     options = parser.parse_args()

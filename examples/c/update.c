@@ -8,12 +8,12 @@
 
 enum { REGION = 983040, BANK = REGION / 2, SECTOR = 4096, HEADER = 1200, RECORD = 384 };
 enum { ROUTES = 0, NONE_DUE = 2, ERASE = 1, WRITE = 2 };
-/* Where the commit word stands in a bank, and its size. */
+/* The commit word's offset in a bank, and its size. */
 enum { WORD = 44, WORD_SIZE = 4 };
 
 static const int64_t now = 1790000000;
 
-/* What the host hands over, and how far it got. */
+/* What the host passes, and how much of it is done. */
 typedef struct Host {
     uint8_t key[64], record[RECORD], dates[8], table[1024];
     size_t key_length, table_length;
@@ -55,7 +55,7 @@ static void prepare(Host *h)
     }
 }
 
-/* Keeps the state that a call gives; its answer. */
+/* Keeps the state that a call returns; its answer. */
 static TtUpdateNumbers keep(Host *h, TtUpdateStep step)
 {
     refused(step.numbers.refusal);
@@ -63,7 +63,7 @@ static TtUpdateNumbers keep(Host *h, TtUpdateStep step)
     return step.numbers;
 }
 
-/* Hands over bytes, as many as are taken; whether that was all. */
+/* Passes bytes, as many as are appended; whether that was all. */
 static bool append(Host *h, const uint8_t *bytes, size_t n)
 {
     h->taken += keep(h, tt_update_bytes(h->state, bytes + h->taken, n - h->taken)).count;
@@ -98,7 +98,7 @@ static int turn(Host *h, uint8_t *region)
 }
 
 /* An update that loses power after `power` operations: its state is gone then. How many were
-   done, and whether it came to its end. */
+   done, and whether it was finished. */
 static int update(uint8_t *region, int power, bool *whole)
 {
     static Host h;
@@ -145,7 +145,7 @@ typedef struct Span {
     size_t offset, size;
 } Span;
 
-/* The flash operation of the next turn; its size is 0 where it does none. The state has the one that
+/* The flash operation of the next turn; its size is 0 if it does none. The state has the one that
    is due: of an erase the number of its sector, of a write its offset in the data and its length
    without padding. A commit writes the header, then the commit word. */
 static Span operation(const Host *h)
@@ -168,8 +168,8 @@ static bool same(TtBankNumbers a, TtBankNumbers b)
     return a.found == b.found && a.number == b.number && a.generation == b.generation;
 }
 
-/* The power fails inside an operation, after each of its bytes: those so far are as it leaves them, the
-   others as they were. The commit word is shown byte by byte. */
+/* The power fails inside an operation, after each of its bytes: those so far are as the operation
+   leaves them, the others as they were. The commit word is shown byte by byte. */
 static void cut_inside(int number, Span span, uint8_t *torn, const uint8_t *after)
 {
     TtBankNumbers old = load(torn);

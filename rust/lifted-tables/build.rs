@@ -1,4 +1,4 @@
-//! Takes the lifted text from the package lifted, and switches to the tables.
+//! Uses the lifted text of the package lifted, and switches to the tables.
 fn main() {
     println!("cargo:rerun-if-changed=build.rs");
     println!("cargo:rustc-env=LIFTED={}", std::env::var("DEP_LIFTED_TEXT_FOLDER").unwrap());

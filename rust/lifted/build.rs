@@ -1,4 +1,4 @@
-//! Runs rust/lift and hands its folder to the compiler.
+//! Runs rust/lift and passes its folder to the compiler.
 use std::{env, fs, path::Path, process::Command};
 
 fn main() {

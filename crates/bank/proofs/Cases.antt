@@ -1,4 +1,5 @@
--- A turn, case by case.
+-- A turn of data checking, case by case, as the definition nests them: no region, a state out of range, a header that fails, bytes left to
+-- hash, and the verdict once all are hashed.
 use mathlib.Core.Path.{_≡_, ap, sym}
 use mathlib.Core.Bool.{true, false, _&&_}
 use mathlib.Core.List.{List}

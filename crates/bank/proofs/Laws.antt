@@ -1,4 +1,4 @@
--- The calls on a bank, case by case.
+-- Header, validate and load, case by case, as the definitions nest them: each case's premises are what the code's branches have tested.
 use mathlib.Core.Path.{_≡_, ap, _∙_, sym}
 use mathlib.Core.Bool.{true, false}
 use mathlib.Core.List.{List}

@@ -1,4 +1,5 @@
--- However the bytes are divided, turns come to validate's verdict.
+-- However the bytes are divided into turns, the verdict is that of `validate`. After turns that hashed k bytes the state holds the CRC of
+-- the first k, since the CRC of two parts in turn is that of them joined.
 use mathlib.Core.Path.{_≡_, refl, ap, _∙_, sym}
 use mathlib.Core.Bool.{Bool, true, false}
 use mathlib.Core.List.{List, [], _∷_}
@@ -27,7 +28,7 @@ use Rattle.bank.specs.Turns.{stays, fresh, verdict, hashed, onBank, turn
 use Rattle.bank.proofs.Laws.{no-region, no-bank, named-is}
 use Rattle.bank.proofs.Cases.{turn-bank, some-left}
 
--- a bank that is named is in a region, and its header passes
+-- a bank that `named` finds is in a region of its size, and its header passes
 pub record Named (region : List ℕ) (n : ℕ) (b : Bank) : Type 0 where
   pub region-size : eqb (length region) regionSize ≡ true
   pub bank-number : leb n 1 ≡ true
@@ -104,7 +105,7 @@ module _ (region : List ℕ) (n : ℕ) (b : Bank) (e : named region n ≡ Good b
   step : (k m : ℕ) → k ≤ b .length → Step k m
   step k m h = step-by (eqb k (b .length)) k m refl h
 
-  -- turns from k hashed bytes on
+  -- several turns, from k hashed bytes on
   record Walk (k : ℕ) (ns : List ℕ) : Type 0 where
     within : k + total region (at k) ns ≤ b .length
     there : after region (at k) ns ≡ at (k + total region (at k) ns)
@@ -123,7 +124,7 @@ module _ (region : List ℕ) (n : ℕ) (b : Bank) (e : named region n ≡ Good b
         there = ap (λ (x : Checking). after region x ns) (s .next) ∙ w .there ∙ ap at (sym to);
       }
 
-  -- nothing is hashed at first
+  -- at first no byte is hashed
   first : fresh n ≡ at 0
   first = ap (λ (x : ℕ). record { bank = n; position = 0; crc = x }) (sym (crc32-nil 0 (lit< tt)))
 

@@ -1,4 +1,5 @@
--- The tail that crosses back.
+-- The tail that is returned to C. It is set from the parts or left as it was without looking at the answer; either way it is the
+-- definition's, since refused bytes and due calls leave the tail.
 use mathlib.Core.Path.{_≡_, refl, sym, ap, _∙_}
 use mathlib.Core.Bool.{Bool, true, false, false≢true}
 use mathlib.Core.List.{List}
@@ -20,7 +21,7 @@ use Rattle.cstate.specs.State.{savedOf, writerOf}
 use Rattle.cstate.specs.Answers.{isAnswer, after}
 use Rattle.region.specs.Region.{capacity}
 
--- what crosses back, with a tail of its own
+-- what is returned, with its own tail
 abbrev pub with-tail : List ℕ → UpdateStep → UpdateStep
 with-tail tail x =
     record {

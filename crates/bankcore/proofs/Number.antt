@@ -1,4 +1,4 @@
--- The number that stands for what Date::new answers. Assumes nothing.
+-- The number for what Date::new answers.
 use mathlib.Core.Path.{_≡_, refl, sym, ap, _∙_}
 use mathlib.Core.Bool.{Bool, true, false}
 use Prim.Native.Nat.{ℕ}

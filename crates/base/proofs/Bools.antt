@@ -1,4 +1,4 @@
--- Both tests hold where their conjunction does, written either way.
+-- If a conjunction holds, both of its tests do, for either way of writing it.
 use mathlib.Core.Path.{_≡_, refl}
 use mathlib.Core.Bool.{Bool, true, false, _&&_, false≢true}
 use Rattle.base.specs.Number.{pick}

@@ -1,4 +1,5 @@
--- Runs of things of one size: filled by a loop, and written and read back.
+-- Lists made of elements of one size: what a loop leaves that fills an array, writes such elements or reads them back. Each law of a loop
+-- says that one more turn makes the list for j the one for j + 1.
 use mathlib.Core.Path.{_≡_, refl, ap, _∙_, sym}
 use mathlib.Core.List.{List, [], _∷_, _++_, append-assoc, append-nil}
 use Prim.Native.Nat.{ℕ, suc, zero, _+_, _*_, _-_, _<_, _≤_}
@@ -15,7 +16,7 @@ module _ {A : Type 0} (f : List ℕ → ℕ → A) (step : ℕ) (l : List ℕ) w
   length-many at zero = refl
   length-many at (suc n) = ap suc (length-many (at + step) n)
 
-  -- one more at the end
+  -- one more element at the end
   pub many-more : (at n : ℕ) → many f step l at (suc n) ≡ many f step l at n ++ (f l (at + n * step) ∷ [])
   unfolding many
   many-more at zero = let e : at + 0 * step ≡ at = omega arith in rw e
@@ -59,7 +60,7 @@ clear-more l j h =
 pub clear-length : (l : List ℕ) (j : ℕ) → j ≤ length l → length (fill {A = ℕ} 0 j ++ drop j l) ≡ length l
 clear-length l j h = length-append (fill {A = ℕ} 0 j) (drop j l) ∙ omega (arith, length-fill {A = ℕ} 0 j, length-drop j l)
 
--- one store after the other is the two together
+-- one store after the other equals both at once
 pub sets-sets : (l a b : List ℕ) (i : ℕ) → sets (sets l i a) (i + length a) b ≡ sets l i (a ++ b)
 sets-sets l [] b i = rw (add-zero i)
 sets-sets l (x ∷ a) b i =
@@ -97,11 +98,11 @@ unfolding fill
 replicate-fill d zero = refl
 replicate-fill d (suc n) = ap (λ t. d ∷ t) (replicate-fill d n)
 
--- what a loop over a new array leaves
+-- what is left of a new array that a loop fills
 pub drop-new : {A : Type 0} (d : A) (k n : ℕ) → drop n (replicate k d) ≡ fill d (k - n)
 drop-new d k n = ap (drop n) (replicate-fill d k) ∙ drop-fill d k n
 
--- the same, by a number
+-- two stores, the length of the first given as a number
 pub next : (l a b : List ℕ) (i k : ℕ) → length a ≡ k → sets (sets l i a) (i + k) b ≡ sets l i (a ++ b)
 next l a b i k e = rw (← e) (sets-sets l a b i)
 
@@ -110,7 +111,7 @@ unfolding puts
 puts-join g [] x = append-nil (g x)
 puts-join g (y ∷ xs) x = ap (λ (t : List ℕ). g y ++ t) (puts-join g xs x) ∙ sym (append-assoc (g y) (puts g xs) (g x))
 
--- a turn of a loop that writes, where only what is written so far is known to have its length
+-- a turn of a loop that writes, if only the length of what is written so far is known
 pub puts-next : {A : Type 0} (g : A → List ℕ) (xs : List A) (j at m : ℕ) (z : A) (l : List ℕ) → j < length xs → length (puts g (take j xs)) ≡ m
     → sets (sets l at (puts g (take j xs))) (at + m) (g (getD xs j z)) ≡ sets l at (puts g (take (j + 1) xs))
 puts-next g xs j at m z l h e = rw (add-one, take-suc xs j z h, puts-join g (take j xs) (getD xs j z)) (next l (puts g (take j xs)) (g (getD xs j z)) at m e)

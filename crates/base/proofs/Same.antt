@@ -1,5 +1,5 @@
--- `same` is equality of bytes; and the turns of a loop that compares two slices byte by byte, without a way out: so far nothing differs, or
--- something did.
+-- `same` is equality of bytes, by induction on both lists. For a loop that compares without leaving early: if nothing differs so far, the
+-- result is that of the rests; once a byte differs it is false.
 use mathlib.Core.Path.{_≡_, refl, ap, _∙_, sym}
 use mathlib.Core.Bool.{Bool, true, false, not, _||_, false≢true}
 use mathlib.Core.List.{List, [], _∷_}
@@ -62,7 +62,7 @@ module _ (a b : List ℕ) (i : ℕ) where
         go true = refl
         go false = refl
 
--- ---- another length
+-- ---- different lengths
 
 pub shorter : (s t : List ℕ) → length s < length t → same s t ≡ false
 unfolding same

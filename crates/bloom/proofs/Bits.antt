@@ -1,4 +1,5 @@
--- One bit of a filter, read and set.
+-- One bit of a filter, read and set: setting a bit sets that one and leaves all others. By the digits of a bitwise or, where a power of two
+-- has exactly one digit.
 use mathlib.Core.Path.{_≡_, refl, ap, _∙_}
 use mathlib.Core.Bool.{Bool, true, false}
 use mathlib.Core.List.{List}
@@ -48,7 +49,7 @@ pow-other (suc j) zero ne = ap (λ (n : ℕ). n % 2) (div-eq-of-lt (pow-lt {i = 
 pow-other (suc j) (suc k) ne =
     rw (pow-suc 2 k, pow-suc 2 j, mul-div-mul-right {m = 2} (2 ^ k) (2 ^ j) (zero-lt-suc 1)) (pow-other j k (λ e. ne (ap suc e)))
 
--- a byte of a filter in which a bit was set: as before, or the bit's own byte with the bit
+-- a byte of a filter in which a bit was set: as before, or, if it is the bit's own byte, with the bit
 module _ (bits : List ℕ) (q j : ℕ) where
   After : Type 0
   After = (byte (setBit bits q) j ≡ byte bits j) ⊎ ((j ≡ q / 8) × (byte (setBit bits q) j ≡ bitOr (byte bits j) (2 ^ (q % 8))))
@@ -86,7 +87,7 @@ module _ (bits : List ℕ) where
       let e : bitOr b (2 ^ k) / 2 ^ k % 2 ≡ 1 = or-bit b (2 ^ k) k ∙ rw (pow-same k) m in
       rw (getD-set-same bits (p / 8) (bitOr b (2 ^ k)) 0 h, e)
 
-  -- one that was set before still is
+  -- a bit that was set before still is
   pub bit-kept : (q p : ℕ) → isSet bits p ≡ true → isSet (setBit bits q) p ≡ true
   unfolding isSet After
   bit-kept q p h =
@@ -98,7 +99,7 @@ module _ (bits : List ℕ) where
       let e : bitOr b (2 ^ (q % 8)) / 2 ^ k % 2 ≡ 1 = or-bit b (2 ^ (q % 8)) k ∙ rw o m in
       ⊎-elim (λ s. rw s h) (λ s. rw (s .1, e)) (after bits q (p / 8))
 
-  -- and any other is as it was
+  -- any other bit is as it was
   pub bit-other : (q p : ℕ) → (p ≡ q → ⊥) → isSet (setBit bits q) p ≡ isSet bits p
   unfolding isSet After
   bit-other q p ne =

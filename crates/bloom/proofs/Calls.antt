@@ -1,4 +1,4 @@
--- What the code's calls come to.
+-- What the code's calls return, from the results of the four single reads or sets, and from the test of the filter's size.
 use mathlib.Core.Path.{_≡_}
 use mathlib.Core.Bool.{Bool, true, false, _&&_, and-true}
 use mathlib.Core.List.{List, [], _∷_}
@@ -16,7 +16,7 @@ pub looked : (l : List ℕ) (a b c d : ℕ) (ra rb rc rd : Bool) → ra ≡ isSe
 unfolding allSet
 looked l a b c d ra rb rc rd ea eb ec ed = rw (ea, eb, ec, ed, and-true (isSet l d))
 
--- four visits, one after the other
+-- four bits read and set, one after the other
 module _ (l l1 l2 l3 l4 : List ℕ) (a b c d : ℕ) (s1 : l1 ≡ setBit l a) (s2 : l2 ≡ setBit l1 b) (s3 : l3 ≡ setBit l2 c) (s4 : l4 ≡ setBit l3 d) where
   pub visited : (ra rb rc rd : Bool) → ra ≡ isSet l a → rb ≡ isSet l1 b → rc ≡ isSet l2 c → rd ≡ isSet l3 d
       → (ra && (rb && (rc && rd))) ≡ seen l (a ∷ b ∷ c ∷ d ∷ [])
@@ -28,7 +28,7 @@ module _ (l l1 l2 l3 l4 : List ℕ) (a b c d : ℕ) (s1 : l1 ≡ setBit l a) (s2
   all-visited = rw (s4, s3, s2, s1)
 
 module _ (bits id : List ℕ) where
-  -- a filter of another size is refused, and kept
+  -- a filter of another size is refused and stays
   module _ (e : fits (length bits) ≡ false) where
     pub query-refused : Refused Argument ≡ query bits id
     unfolding query

@@ -1,4 +1,5 @@
--- The claims on the filter.
+-- The claims on the filter: what was inserted is found, no bit is cleared, only the four bits of the id are set, the length stays. Each
+-- follows from the law of one bit, applied to the four positions.
 use mathlib.Core.Path.{_≡_, refl, ap}
 use mathlib.Core.Bool.{Bool, true, false}
 use mathlib.Core.List.{List}

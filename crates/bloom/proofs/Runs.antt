@@ -1,4 +1,5 @@
--- Runs over positions: what insertion leaves, and what it answers.
+-- A list of positions set one after the other: what insertion leaves and what it answers. By induction on the list; the positions are
+-- distinct, so setting one doesn't change what is read at the others.
 use mathlib.Core.Path.{_≡_, refl, _∙_, sym}
 use mathlib.Core.Bool.{true}
 use mathlib.Core.List.{List, [], _∷_}

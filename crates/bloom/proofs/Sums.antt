@@ -1,4 +1,5 @@
--- Positions: in the filter, as the code sums them up, and apart from each other.
+-- The four positions are inside the filter, equal what the code sums up, and differ from each other: the step is odd, so their remainders
+-- modulo 8 differ.
 use mathlib.Core.Path.{_≡_, refl, ap, _∙_, sym}
 use mathlib.Core.List.{[], _∷_}
 use Prim.Native.Nat.{ℕ, suc, zero, _+_, _*_, _/_, _%_, _<_, _^_}
@@ -10,7 +11,7 @@ use Rattle.bloom.specs.Places.{Within}
 use Rattle.bloom.specs.Claims.{Differ}
 use Rattle.bloom.proofs.Bits.{or-low}
 
--- a number modulo a filter's bits is in the filter
+-- a number modulo the filter's number of bits is a position in the filter
 pub in-filter : (x n : ℕ) → 0 < n → x % (8 * n) / 8 < n
 in-filter x n h =
     let b : x % (8 * n) < 8 * n = mod-lt x {m = 8 * n} (omega arith) in
@@ -57,7 +58,7 @@ below-4 P a b c d (suc (suc zero)) h = c
 below-4 P a b c d (suc (suc (suc zero))) h = d
 below-4 P a b c d (suc (suc (suc (suc i)))) h = absurd (omega arith)
 
--- modulo 8 position i is hash + i × step
+-- modulo 8, position i is hash + i × step
 low-three : (hash n i : ℕ) → position hash n i % 8 ≡ (hash + i * stepOf hash) % 8
 unfolding position
 low-three hash n i =

@@ -1,5 +1,6 @@
--- A word of 64 bits folded into the words after it: what the register would do with it in 64 + k steps, what takes its place does
--- in k. Assumes nothing.
+-- A word of 64 bits can be folded into the words after it: 64 + k steps of the register on it do the same as k steps on what is added to
+-- those words. It holds since the exponents of each fold add up to a multiple of the generator (Multiple.antt) and the register is linear
+-- (Steps.antt).
 use mathlib.Core.Path.{_≡_, refl, sym, ap, ap₂, _∙_}
 use mathlib.Core.List.{List, [], _∷_, map}
 use Prim.Native.Nat.{ℕ, zero, _+_, _-_, _*_, _/_, _%_, _^_, _<_, _≤_}
@@ -20,7 +21,7 @@ use Rattle.checksum.proofs.Multiple.{Multiple, multiple, steps-zero}
 
 -- ---- shifts
 
--- x shifted up by r: what stays in the word, and what goes into the next
+-- x shifted up by r: what stays in the word, and what goes into the next one
 abbrev pub shl : ℕ → ℕ → ℕ
 shl x r = x * 2 ^ r % 2 ^ 64
 
@@ -54,7 +55,7 @@ spread k x (more {r} {rs} h hs) =
     ∙ xor-four (steps (64 + k) (shl x r)) (steps (64 + k) (xors (map (shl x) rs))) (steps k (shr x r)) (steps k (xors (map (shr x) rs)))
     ∙ ap₂ bitXor (shift k r (64 - r) x (omega arith)) (spread k x hs)
 
--- ---- pending words
+-- ---- pending words: what is still to be added to the next words of the data
 
 -- a low word and the words above it
 pub steps-two : (k p q : ℕ) → p < 2 ^ 64 → steps (64 + k) (q * 2 ^ 64 + p) ≡ bitXor (steps (64 + k) p) (steps k q)
@@ -62,7 +63,7 @@ steps-two k p q h =
     steps-split 64 k (q * 2 ^ 64 + p)
     ∙ ap₂ (λ (a b : ℕ). bitXor (steps (64 + k) a) (steps k b)) (low q 64 h) (high q 64 h)
 
--- a word added to the lowest
+-- a word added to the lowest one
 add-low : (p q w : ℕ) → p < 2 ^ 64 → w < 2 ^ 64 → bitXor (q * 2 ^ 64 + p) w ≡ q * 2 ^ 64 + bitXor p w
 add-low p q w hp hw =
     ap (bitXor (q * 2 ^ 64 + p)) (sym (zero-add w)) ∙ xor-block 64 q 0 p w hp hw ∙ ap (λ (z : ℕ). z * 2 ^ 64 + bitXor p w) (xor-zero-r q)
@@ -148,7 +149,7 @@ module _ (a b c w : ℕ) (ha : a < 2 ^ 64) (hb : b < 2 ^ 64) (hc : c < 2 ^ 64) (
       ∙ ap (λ (z : ℕ). bitXor z (bitXor (steps 192 b) (steps 128 c))) (sym (near met met-lt))
       ∙ sym (ap (steps 256) (add-low a (c * 2 ^ 64 + b) w ha hw) ∙ steps-three 128 met b c met-lt hb)
 
--- the same under further pending words, which stand above the three
+-- the same below further pending words
 module _ (a b c w h : ℕ) (ha : a < 2 ^ 64) (hb : b < 2 ^ 64) (hc : c < 2 ^ 64) (hw : w < 2 ^ 64) where
   above : steps 256 (bitXor (three a b (h * 2 ^ 64 + c)) w) ≡ bitXor (steps 256 (bitXor (three a b c) w)) (steps 64 h)
   above =
@@ -331,7 +332,7 @@ split-word s h =
     ap little (sym (take-append-drop 8 s)) ∙ little-append (take 8 s) (drop 8 s)
     ∙ ap (λ (k : ℕ). little (drop 8 s) * 2 ^ (8 * k) + little (take 8 s)) (length-take-le 8 s h)
 
--- a fold of the data's first word: what is pending afterwards does with the rest what was pending before does with all
+-- a fold of the data's first word: what is pending afterwards gives on the rest what the earlier pending words give on all of it
 module _ (k v v' : ℕ) (s : List ℕ) (long : 64 + k ≤ 8 * length s) (does : steps k v' ≡ steps (64 + k) (bitXor v (little (take 8 s)))) where
   extra : ℕ
   extra = 8 * length s - (64 + k)
@@ -376,14 +377,14 @@ module _ (k v v' : ℕ) (s : List ℕ) (long : 64 + k ≤ 8 * length s) (does : 
       ∙ steps-xor (64 + (k + extra)) (bitXor v word) (rest * 2 ^ 64)
       ∙ ap₂ bitXor first (steps-add 64 (k + extra) (rest * 2 ^ 64) ∙ ap (steps (k + extra)) (steps-shift 64 rest)))
 
--- the same at a place of the data, with the word that was loaded there
+-- the same at an offset of the data, with the word loaded there
 pub fold-at : (k v v' w i : ℕ) (s : List ℕ) → 64 + k + 8 * i ≤ 8 * length s → w ≡ little (take 8 (drop i s)) → steps k v' ≡ steps (64 + k) (bitXor v w)
     → run v' (drop (i + 8) s) ≡ run v (drop i s)
 fold-at k v v' w i s h e d =
     ap (run v') (sym (drop-drop 8 i s))
     ∙ fold-run k v v' (drop i s) (omega (arith, length-drop i s)) (d ∙ ap (λ (z : ℕ). steps (64 + k) (bitXor v z)) e)
 
--- a word by the table: 64 steps of the lowest pending word leave a register, to be added to the next
+-- a word by the table: 64 steps on the lowest pending word leave a register, which is added to the next word
 pub taken-at : (v r w i : ℕ) (s : List ℕ) → i + 8 ≤ length s → w ≡ little (take 8 (drop i s)) → r ≡ steps 64 (bitXor v w)
     → run r (drop (i + 8) s) ≡ run v (drop i s)
 unfolding steps
@@ -393,7 +394,7 @@ pub byte-at : (r i : ℕ) (s : List ℕ) → i < length s → run (steps 8 (bitX
 unfolding run
 byte-at r i s h = ap (run (steps 8 (bitXor r (getD s i 0 % 256)))) (ap (λ (k : ℕ). drop k s) (add-one i)) ∙ ap (run r) (sym (drop-cons s i 0 h))
 
--- the lowest pending word is taken: what 64 steps leave of it is added to the words above it
+-- the lowest pending word is used up: what 64 steps leave of it is added to the words above it
 pub pending-at : (a q r i : ℕ) (s : List ℕ) → i + 8 ≤ length s → a < 2 ^ 64 → r ≡ steps 64 (bitXor a (little (take 8 (drop i s))))
     → run (bitXor r q) (drop (i + 8) s) ≡ run (q * 2 ^ 64 + a) (drop i s)
 unfolding steps
@@ -420,7 +421,7 @@ module _ (s : List ℕ) (at : ℕ) where
       → run (bitXor r q) (drop (at + (n + 8)) s) ≡ run (q * 2 ^ 64 + a) (drop (at + n) s)
   next-after a q r n h l e = sym (next (bitXor r q) n) ∙ pending-at a q r (at + n) s h l e
 
--- a word that a fold left, with the words pending above it
+-- a word that a fold left, with the pending words above it
 pub above-low : (r d e : ℕ) → r < 2 ^ 64 → d < 2 ^ 64 → bitXor r (e * 2 ^ 64 + d) ≡ e * 2 ^ 64 + bitXor r d
 above-low r d e hr hd =
     xor-comm r (e * 2 ^ 64 + d) ∙ add-low d e r hd hr ∙ ap (λ (z : ℕ). e * 2 ^ 64 + z) (xor-comm d r)

@@ -1,4 +1,4 @@
--- Bytes as one number. Assumes nothing.
+-- Bytes as one number, the first byte the lowest: joined parts, bounds, and the sums by which the code loads 4 and 8 bytes.
 use mathlib.Core.Path.{_≡_, refl, sym, ap, ap₂, _∙_}
 use mathlib.Core.List.{List, [], _∷_, _++_}
 use Prim.Native.Nat.{ℕ, zero, suc, _+_, _*_, _%_, _^_, _<_, _≤_}

@@ -1,5 +1,5 @@
--- Multiples of the generator: where x^n and the terms es add up to a multiple, n steps of the register do what the terms' steps
--- do together. One division shows it of each 32-bit number, and so of 64 bits after 64 steps. Assumes nothing.
+-- If x^n and the terms es add up to a multiple of the generator, n steps of the register equal the sum of the terms' steps. The multiple is
+-- tested on x^0 by computing; linearity extends it to every bit, and so to 32 bits; 64 steps bring 64 bits to 32.
 use mathlib.Core.Path.{_≡_, refl, sym, ap, ap₂, _∙_, subst}
 use mathlib.Core.List.{List, [], _∷_, map}
 use Prim.Native.Nat.{ℕ, zero, suc, _+_, _-_, _*_, _/_, _%_, _^_, _<_, _≤_}
@@ -13,11 +13,11 @@ use Rattle.checksum.proofs.Xor.{digit-ind, xor-four}
 use Rattle.checksum.proofs.Steps.{steps-xor, steps-add, steps-shift, steps-lt}
 use Rattle.checksum.proofs.Sum.{xors}
 
--- the sum of x after each number of steps
+-- the sum of x after each of these numbers of steps
 abbrev pub sum : List ℕ → ℕ → ℕ
 sum es x = xors (map (λ e. steps e x) es)
 
--- x^n and the terms es are a multiple of the generator; 2 ^ 31 is the register that holds x^0
+-- x^n and the terms es add up to a multiple of the generator; 2 ^ 31 is the register that holds x^0
 abbrev pub Multiple : ℕ → List ℕ → Type 0
 Multiple n es = steps n (2 ^ 31) ≡ sum es (2 ^ 31)
 
@@ -46,7 +46,7 @@ sum-zero (e ∷ es) = ap₂ bitXor (steps-zero e) (sum-zero es)
 one-more : (k : ℕ) → suc k ≡ 1 + k
 one-more k = omega arith
 
--- each step leaves one bit less, down to 32
+-- each step leaves one bit fewer, down to 32
 step-down : (k x : ℕ) → x < 2 ^ (32 + suc k) → step x < 2 ^ (32 + k)
 unfolding step
 step-down k x h =
@@ -104,7 +104,7 @@ module _ (n : ℕ) (es : List ℕ) (given : Multiple n es) where
       (good-digit k (omega arith) (x / 2 ^ k) (shr-lt 1 k (subst (λ (z : ℕ). x < 2 ^ z) (one-more k) l)))
       (good-below k (omega arith) (x % 2 ^ k) (mod-lt x (pow-pos k))))
 
-  -- of 64 bits, 64 steps leave 32
+  -- 64 steps on 64 bits leave 32
   pub multiple : (m x : ℕ) → x < 2 ^ 64 → steps (64 + (n + m)) x ≡ xors (map (λ e. steps (64 + (e + m)) x) es)
   unfolding Good
   multiple m x l =

@@ -1,4 +1,5 @@
--- The table of nibbles for 2048 steps: its rule, by one test that is computed, and what lookups of it make together. Assumes nothing.
+-- The table for 2048 steps is right: each entry is 4 steps after the one sixteen before it, which one computed test checks. Eight lookups,
+-- one a nibble, add up to 2048 steps, since the register is linear; so one register gives the other after 256 bytes.
 use mathlib.Core.Path.{_≡_, refl, sym, ap, ap₂, _∙_}
 use mathlib.Core.List.{List, [], _∷_, _++_}
 use Prim.Native.Nat.{ℕ, zero, suc, _+_, _*_, _/_, _%_, _^_, _<_, _≤_}
@@ -17,7 +18,7 @@ use Rattle.checksum.specs.Shift.{Shifts}
 
 -- ---- two registers
 
--- what the second register is, from the first and the difference
+-- the second register, from the first one and the difference
 pub second : (a b n : ℕ) (s : List ℕ) → 8 * length s ≡ n → bitXor (run a s) (steps n (bitXor a b)) ≡ run b s
 second a b n s h =
     let m : ℕ = 8 * length s in
@@ -99,7 +100,7 @@ unfolding ahead
 ahead-length i zero = refl
 ahead-length i (suc n) = ap suc (ahead-length (suc i) n)
 
--- each entry is the one sixteen before it after 4 more steps, and before the first sixteen are the nibbles after 2016
+-- each entry is the one sixteen before it after 4 more steps; before the first sixteen are the nibbles after 2016 steps
 module _ (t : List ℕ) (test : T (follows (ahead 0 16 ++ t) t)) where
   first : (n : ℕ) → n < 16 → getD (ahead 0 16 ++ t) n 0 ≡ steps 2016 n
   first n h =

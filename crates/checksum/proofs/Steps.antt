@@ -1,4 +1,5 @@
--- The shift register is linear, and shifts out what it is given; so a long run of it is an exclusive or of short ones. Assumes nothing.
+-- The shift register is linear, and low digits that are 0 are only shifted out. So many steps are the exclusive or of the steps on parts of
+-- the register, and a run over bytes is steps on the bytes as one number.
 use mathlib.Core.Path.{_≡_, refl, sym, ap, ap₂, _∙_}
 use mathlib.Core.List.{List, [], _∷_, _++_}
 use Prim.Native.Nat.{ℕ, zero, suc, _+_, _*_, _/_, _%_, _^_, _<_}
@@ -47,7 +48,7 @@ unfolding steps
 steps-shift zero h = mul-one h
 steps-shift (suc n) h = ap (steps n) (step-shift h n) ∙ steps-shift n h
 
--- the k low digits, and the others, which the first k steps move down
+-- the k lowest digits, and the others, which the first k steps move down
 pub steps-split : (k m x : ℕ) → steps (k + m) x ≡ bitXor (steps (k + m) (x % 2 ^ k)) (steps m (x / 2 ^ k))
 steps-split k m x =
     ap (steps (k + m)) (sym (split x k) ∙ sym (xor-shifted (x / 2 ^ k) k (x % 2 ^ k) (mod-lt x (pow-pos k))))
@@ -84,7 +85,7 @@ run-append r (b ∷ s) t = run-append (steps 8 (bitXor r (b % 256))) s t
 pub run-part : (r n m : ℕ) (s : List ℕ) → run (run r (take n s)) (take m (drop n s)) ≡ run r (take (n + m) s)
 run-part r n m s = sym (ap (run r) (take-add n m s) ∙ run-append r (take n s) (take m (drop n s)))
 
--- a run over bytes is that many steps, with the bytes, as one number, added at the start
+-- a run over bytes is eight steps a byte, the bytes added at the start as one number
 pub run-steps : (s : List ℕ) (r : ℕ) → run r s ≡ steps (8 * length s) (bitXor r (little s))
 unfolding run little steps
 run-steps [] r = sym (xor-zero-r r)
@@ -97,7 +98,7 @@ run-steps (b ∷ s) r =
     ∙ sym (steps-add 8 (8 * length s) (bitXor r (little s * 256 + b % 256)))
     ∙ ap (λ (k : ℕ). steps k (bitXor r (little s * 256 + b % 256))) (add-comm 8 (8 * length s) ∙ sym (mul-suc 8 (length s)))
 
--- the register and the bytes apart
+-- the register and the bytes separately
 pub run-zero : (s : List ℕ) (r : ℕ) → run r s ≡ bitXor (steps (8 * length s) r) (run 0 s)
 run-zero s r = run-steps s r ∙ steps-xor (8 * length s) r (little s) ∙ ap (bitXor (steps (8 * length s) r)) (sym (run-steps s 0))
 

@@ -1,4 +1,5 @@
--- Sums by exclusive or: two are equal where the same terms stand in both an odd number of times. Assumes nothing.
+-- Two sums by exclusive or are equal if the same terms occur in both an odd number of times, since equal terms cancel. The folds use it to
+-- compare long sums by computing.
 use mathlib.Core.Path.{_≡_, refl, sym, ap, ap₂, _∙_}
 use mathlib.Core.Bool.{Bool, true, false, not}
 use mathlib.Core.List.{List, [], _∷_}
@@ -28,7 +29,7 @@ merge [] q = q
 merge (a ∷ p) [] = a ∷ p
 merge (a ∷ p) (b ∷ q) = differ a b ∷ merge p q
 
--- which terms stand in a sum an odd number of times
+-- which terms occur in a sum an odd number of times
 abbrev pub odd : Sum → List Bool
 odd (term i) = unit i
 odd (plus a b) = merge (odd a) (odd b)

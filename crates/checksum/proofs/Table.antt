@@ -1,4 +1,5 @@
--- The table of nibbles: its rule, by one test that is computed, and what lookups of it make together. Assumes nothing.
+-- The table of nibbles is right: the first sixteen entries are the nibbles after 4 steps, each other one is 4 steps after the one sixteen
+-- before it; one computed test checks this. Lookups, one a nibble, add up to 32 or 64 steps since the register is linear.
 use mathlib.Core.Path.{_≡_, sym, ap, _∙_}
 use mathlib.Core.Bool.{Bool, true, false}
 use mathlib.Core.List.{List, [], _∷_, _++_}
@@ -95,7 +96,7 @@ word x h = sym (steps-split 4 28 x ∙ ap (bitXor (steps 32 (x % 16))) (part 24 
     part : (m i x : ℕ) → steps (4 + m) (x / 2 ^ i) ≡ bitXor (steps (4 + m) (x / 2 ^ i % 16)) (steps m (x / 2 ^ (i + 4)))
     part m i x = steps-split 4 m (x / 2 ^ i) ∙ ap (λ (y : ℕ). bitXor (steps (4 + m) (x / 2 ^ i % 16)) (steps m y)) (shr-shr x i 4)
 
--- 64 bits, by halves
+-- 64 bits, as two halves
 pub halves : (x : ℕ) → steps 32 (bitXor (steps 32 (x % 2 ^ 32)) (x / 2 ^ 32)) ≡ steps 64 x
 unfolding steps
 halves x = sym (steps-add 32 32 x ∙ ap (steps 32) (steps-split 32 0 x))
@@ -110,7 +111,7 @@ byte-steps crc b h =
     ∙ ap (bitXor (steps 8 (bitXor crc b % 16)))
     (steps-split 4 0 (bitXor crc b / 2 ^ 4) ∙ ap (bitXor (steps 4 (bitXor crc b / 2 ^ 4 % 16))) (shr-shr (bitXor crc b) 4 4)))
 
--- a number below 16 that is none of 0 to 14: what the last arm of a match on a nibble knows
+-- a number below 16 that is none of 0 to 14: what the last arm of a match on a nibble has
 abbrev Except : ℕ → ℕ → Type 0
 Except n zero = Unit
 Except n (suc k) = Except n k × (n ≡ k → ⊥)

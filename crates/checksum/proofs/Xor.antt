@@ -1,4 +1,5 @@
--- Laws of exclusive or that the library lacks. Assumes nothing.
+-- Laws of exclusive or that the library lacks, by induction on the digits: the lowest one by its four cases, the others by the law for half
+-- the numbers.
 use mathlib.Core.Path.{_≡_, refl, sym, ap, ap₂, _∙_}
 use Prim.Native.Nat.{ℕ, zero, suc, _+_, _*_, _/_, _%_, _<_}
 use native.Mathlib.Nat.{mod-lt, not-suc-le-zero, le-of-suc-le-suc, zero-lt-suc}
@@ -27,7 +28,7 @@ differ-assoc =
     digit-ind (λ x. (y : ℕ) → y < 2 → (z : ℕ) → z < 2 → Assoc x y z) (λ y hy z hz. refl)
     (digit-ind (λ y. (z : ℕ) → z < 2 → Assoc 1 y z) (λ z hz. refl) (digit-ind (λ z. Assoc 1 1 z) refl refl))
 
--- digit by digit: the lowest, and the others
+-- digit by digit: the lowest one, and the others
 pub xor-odd : (a b : ℕ) → bitXor a b % 2 ≡ differ (a % 2) (b % 2)
 xor-odd a b =
     ap (λ (x : ℕ). x % 2) (xor-step a b)

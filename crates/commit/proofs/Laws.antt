@@ -1,4 +1,5 @@
--- The calls, case by case.
+-- The two calls of a commit, case by case, as the definitions nest them: the answer and the region of each case. A refused call leaves the
+-- region.
 use mathlib.Core.Path.{_≡_, refl, ap}
 use mathlib.Core.Bool.{Bool, true, false, _&&_}
 use mathlib.Core.List.{List, [], _∷_}

@@ -1,4 +1,4 @@
--- The call, case by case, and lists compared one by one.
+-- The call `unchanged`, case by case; and two lists compared element by element: comparing one more at the end extends the result.
 use mathlib.Core.Path.{_≡_, sym, ap, _∙_}
 use mathlib.Core.Bool.{Bool, true, false, _&&_, and-true, and-assoc}
 use mathlib.Core.List.{List, [], _∷_, _++_}
@@ -38,7 +38,7 @@ module _ (region : List ℕ) (w : Writer) where
 
 -- ---- one by one
 
--- a record's place, of three at the most
+-- a record's offset, for three at most
 pub bound : (i n : ℕ) → n ≤ 384 → i * n ≤ i * 384
 bound i n h = rw (mul-comm i n, mul-comm i 384) (mul-le-mul-right i h)
 

@@ -1,4 +1,4 @@
--- A state reads back, and numbers that are no state are out of range.
+-- A state written as numbers reads back, and numbers that mean no state are out of range. By cases on stage, flags and active bank.
 use mathlib.Core.Path.{_≡_, refl}
 use mathlib.Core.Bool.{Bool, true, false, false≢true}
 use Prim.Native.Nat.{ℕ}

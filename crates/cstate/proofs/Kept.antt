@@ -1,4 +1,4 @@
--- A call on a state's parts leaves the sources.
+-- A call on a state's parts leaves its sources, whether its step is answered or refused.
 use mathlib.Core.Path.{_≡_, refl}
 use mathlib.Core.Bool.{Bool, true, false}
 use mathlib.Core.List.{List}

@@ -1,4 +1,5 @@
--- The reader reads the grammar, no more and no less; the writer writes it.
+-- The reader reads exactly the grammar, and the writer writes it. Each is by induction: on the grammar's rules for complete, on the bytes
+-- for sound, on the values for the writer. One reading of each row follows from both.
 use Prim.Native.Nat.{ℕ, zero, suc}
 use lib.Dec.{eqb}
 use native.Mathlib.Omega.{arith}
@@ -25,11 +26,11 @@ inner-complete close h = simp h
 inner-complete (byte {b = b} t p) h = simp t (ap (push b) (inner-complete p h))
 inner-complete (twice p) h = ap (push quote) (inner-complete p h)
 
--- what follows a value: a byte that is no text, and no quote
+-- what follows a value: a byte that is neither text nor a quote
 pub data Stop : ℕ → Type 0 where
   stop : {c : ℕ} → isText c ≡ false → eqb c quote ≡ false → Stop c
 
--- a byte that is text is no quote
+-- a byte of text is no quote
 text-no-quote : (b : ℕ) → isText b ≡ true → eqb b quote ≡ false
 unfolding isText
 text-no-quote b h = go (eqb b quote) h
@@ -213,6 +214,6 @@ unfolding rowOf
 writes v [] r = rw append-assoc (last (field-writes v (lineFeed ∷ r)) lf)
 writes v (w ∷ ws) r = rw append-assoc (more (field-writes v (comma ∷ rowOf (w ∷ ws) ++ r)) (writes w ws r))
 
--- reading what was written gives back the values
+-- reading what was written gives the values back
 pub read-back : (v : List ℕ) (vs : List (List ℕ)) (r : List ℕ) → values (length (v ∷ vs)) (rowOf (v ∷ vs) ++ r) ≡ row (v ∷ vs) r
 read-back v vs r = complete (writes v vs r)

@@ -1,4 +1,5 @@
--- The tail as written, where an operation lies, and the call's cases.
+-- The tail as it is written, padded to a multiple of 4; that the due operation of a state within its ranges is inside the bank; and the
+-- call case by case.
 use mathlib.Core.Path.{_≡_, refl, sym, ap, _∙_}
 use mathlib.Core.Bool.{Bool, true, false, not, _&&_, _||_}
 use mathlib.Core.List.{List, [], _∷_, _++_, append-nil}
@@ -78,7 +79,7 @@ pub one-op : (region : List ℕ) (n : ℕ) (op : Op) → length region ≡ regio
 unfolding performed
 one-op region n op e h k = after-fits region n e h op k
 
--- ---- a state within its ranges: where its operation lies
+-- ---- a state within its ranges: the offset of its operation
 
 or-cases : (a b : Bool) → (a || b) ≡ true → (a ≡ true) ⊎ (b ≡ true)
 or-cases true b e = inl refl
@@ -89,7 +90,7 @@ module _ (t : Taken) where
   some-by (inl h) = omega (arith, eqb-true (t .fill) tailSize h)
   some-by (inr h) = ltb-true 0 (t .fill) (and-right (t .closed) (ltb 0 (t .fill)) h)
 
-  -- the tail holds bytes when something is due
+  -- the tail holds bytes if something is due
   pub fill-some : isDue t ≡ true → 1 ≤ t .fill
   unfolding isDue
   fill-some e = some-by (or-cases (eqb (t .fill) tailSize) (t .closed && ltb 0 (t .fill)) e)
@@ -105,7 +106,7 @@ module _ (t : Taken) where
       let a = aligned t in
       multiple-by h (or-cases (eqb (t .written % tailSize) 0) (t .closed && eqb (t .fill) 0) (and-right p a (and-right (leb (t .fill) tailSize) (p && a) e)))
 
-  -- and a whole tail has its place in the data
+  -- and a whole tail fits in the data at its offset
   pub tail-fits : takenOk t ≡ true → isDue t ≡ true → t .written ≤ lastWrite
   tail-fits e d = omega (arith, multiple e (fill-some d), fill-some d, position-fits t e)
 
@@ -146,7 +147,7 @@ erase-ranged w k e s = sector-fits (w .taken) (w .beginning .comparing) k (range
 pub write-ranged : (w : Writer) (a n : ℕ) → inRange w ≡ true → w .stage ≡ Due (Write a n) → (n ≤ tailSize) × (a ≤ lastWrite)
 write-ranged w a n e s = write-fits (w .taken) (w .beginning .comparing) a n (ranged w e .taken) (is-due w (Write a n) e s) (is-ok w (Write a n) e s)
 
--- ---- the state after
+-- ---- the state after it
 
 pub due-next : (t : Taken) (k : ℕ) → k ≡ 0 → dataDue t ≡ pick (eqb k 0) (dataDue t) (writeDue t)
 due-next t k e = rw (eq-eqb k 0 e)
@@ -197,7 +198,7 @@ module _ (region : List ℕ) (w : Writer) where
   unfolding dueRegion dueOps performed
   region-other e = rw (ne-eqb (length region) regionSize e)
 
--- a step with what an operation leaves of the state
+-- a step with only what an operation may change of the state
 abbrev pub with-rest : Writer → Step → Step
 with-rest w x =
     record {

@@ -1,4 +1,5 @@
--- The table is answered, by computation: a test over it, and the law that turns the test into the claim.
+-- Every example in the table is answered as stated, by computing: one test over the whole table is true, and a test that is true gives the
+-- claim of each line.
 use mathlib.Core.Path.{_≡_, refl, sym}
 use mathlib.Core.Bool.{Bool, true, false, true≢false, _&&_}
 use mathlib.Core.List.{List, [], _∷_}

@@ -1,4 +1,5 @@
--- Laws of operations on a bank, whole or done in part, and of banks in a region.
+-- Laws of operations on a bank, whole or in part, and of the two banks of a region. An operation done in part is its first j bytes as the
+-- whole leaves them, and the rest as before; it changes only its own bytes of its own bank. A write clears bits only.
 use mathlib.Core.Path.{_≡_, refl, sym, ap, _∙_}
 use mathlib.Core.Bool.{false}
 use mathlib.Core.List.{List, [], _∷_, _++_, append-assoc}
@@ -16,7 +17,7 @@ use Rattle.region.specs.Region.{regionSize, bankSize, sectorSize, bankOf}
 use Rattle.flash.specs.Flash.{Op, erase, write, blank, clear, place, size, done, withBank, torn, applied, performed, fits, after}
 use Rattle.flash.specs.Claims.{FirstPart}
 
--- every number of a list is a byte's
+-- every number of a list is below 256
 abbrev pub Bytes : List ℕ → Type 0
 Bytes l = (k : ℕ) → byte l k < 256
 
@@ -34,7 +35,7 @@ length-clear [] b = refl
 length-clear (w ∷ ws) [] = refl
 length-clear (w ∷ ws) (x ∷ b) = ap suc (length-clear ws b)
 
--- x and w together have no bit that x has not
+-- x and w together have no bit that x lacks
 no-more : (x w : ℕ) → bitAnd (bitAnd x w) x ≡ bitAnd x w
 no-more =
     bin-ind (λ (x : ℕ). (w : ℕ) → bitAnd (bitAnd x w) x ≡ bitAnd x w) (λ w. rw (and-zero-l w))
@@ -45,7 +46,7 @@ no-more =
     let q : bitAnd x w % 2 ≡ min (x % 2) (w % 2) = omega arith in
     and-step (bitAnd x w) x ∙ rw (p, q, ih (w / 2)) (omega arith))
 
--- a write clears bits only: no byte has a bit that it had not
+-- a write clears bits only: no byte gets a bit that it lacked
 pub clears-only : (ws b : List ℕ) (i : ℕ) → bitAnd (byte (clear ws b) i) (byte b i) ≡ byte (clear ws b) i
 unfolding clear
 clears-only [] b i = and-self (byte b i)
@@ -56,7 +57,7 @@ clears-only (w ∷ ws) (x ∷ b) (suc i) = clears-only ws b i
 and-255 : (x : ℕ) → x < 256 → bitAnd 255 x ≡ x
 and-255 x h = and-comm 255 x ∙ and-mask x 8 ∙ mod-eq-of-lt h
 
--- blank bytes take what is written
+-- blank bytes become what is written
 pub clear-blank : (ws r : List ℕ) → Bytes ws → clear ws (fill 255 (length ws) ++ r) ≡ ws ++ r
 unfolding clear fill
 clear-blank [] r h = refl
@@ -90,7 +91,7 @@ blank-past (suc n) [] i h = refl
 blank-past (suc n) (x ∷ b) zero h = absurd (not-suc-le-zero h)
 blank-past (suc n) (x ∷ b) (suc i) h = blank-past n b i (le-of-suc-le-suc h)
 
--- a write's first bytes have 255 where it has
+-- the first bytes of a write have 255 where the write has it
 torn-255 : (ws : List ℕ) (j i : ℕ) → getD ws i 255 ≡ 255 → getD (take j ws) i 255 ≡ 255
 torn-255 ws zero i e = refl
 torn-255 [] (suc j) i e = refl
@@ -106,13 +107,13 @@ length-done j (erase at) b =
 length-done j (write at ws) b =
     simp (length-append, length-clear) (sym (length-append (take at b) (drop at b)) ∙ ap length (take-append-drop at b))
 
--- nothing is done yet
+-- with no byte done nothing is changed
 pub done-zero : (op : Op) (b : List ℕ) → done 0 op b ≡ b
 unfolding done blank clear
 done-zero (erase at) b = take-append-drop at b
 done-zero (write at ws) b = take-append-drop at b
 
--- bytes before the operation's place stay
+-- bytes before the operation's offset stay
 take-kept : (at k : ℕ) (b x : List ℕ) → k ≤ at → at ≤ length b → take k (take at b ++ x) ≡ take k b
 take-kept at k b x h l =
     take-append-le k (take at b) x (rw (length-take-le at b l) h)
@@ -133,12 +134,12 @@ unfolding done
 done-before j (erase at) i b h l = kept-before at i b (blank (min j sectorSize) (drop at b)) h l
 done-before j (write at ws) i b h l = kept-before at i b (clear (take j ws) (drop at b)) h l
 
--- a byte from an operation's place on
+-- a byte from an operation's offset on
 from-place : (at i : ℕ) (b x : List ℕ) → at ≤ length b → byte (take at b ++ x) (at + i) ≡ byte x i
 from-place at i b x l =
     ap (λ (n : ℕ). byte (take at b ++ x) (n + i)) (sym (length-take-le at b l)) ∙ getD-append-add (take at b) x i 0
 
--- bytes not yet reached stay, those past the operation's end too
+-- bytes that are not reached yet stay, those past the operation's end too
 min-at-most : (j n i : ℕ) → (j ≤ i) ⊎ (n ≤ i) → min j n ≤ i
 min-at-most j n i (inl h) = omega arith
 min-at-most j n i (inr h) = omega arith
@@ -153,13 +154,13 @@ unfolding done
 write-past j at i ws b l o =
     from-place at i b (clear (take j ws) (drop at b)) l ∙ clear-past (take j ws) (drop at b) i (rw (length-take j ws) (min-at-most j (length ws) i o)) ∙ getD-drop at b i 0
 
--- a blank byte stays where the write has 255 or nothing, however far it is done
+-- a blank byte stays where the write has 255 or nothing, however many bytes are done
 pub write-leaves-255 : (j at i : ℕ) (ws b : List ℕ) → at ≤ length b → getD ws i 255 ≡ 255 → byte b (at + i) ≡ 255 → byte (done j (write at ws) b) (at + i) ≡ 255
 unfolding done
 write-leaves-255 j at i ws b l p q =
     from-place at i b (clear (take j ws) (drop at b)) l ∙ stays-255 (take j ws) (drop at b) i (torn-255 ws j i p) (getD-drop at b i 0 ∙ q)
 
--- the erase of the header sector, done in part: not begun, or byte 0 is 255
+-- the erase of the header sector, in part: not begun, or byte 0 is 255
 pub cut-first : (j : ℕ) (b : List ℕ) → 0 < length b → (done j (erase 0) b ≡ b) ⊎ (byte (done j (erase 0) b) 0 ≡ 255)
 unfolding done blank
 cut-first j [] h = absurd (not-suc-le-zero h)
@@ -168,7 +169,7 @@ cut-first (suc j) (x ∷ b) h = inr (rw (suc-min-suc j 4095))
 
 -- ---- the first part, the rest untouched
 
--- bytes blanked or cleared in part: the first m as all of them, then what was there
+-- bytes blanked or cleared in part: the first m as the whole leaves them, then what was there
 blank-part : (m n : ℕ) (b : List ℕ) → m ≤ n → n ≤ length b → blank m b ≡ take m (blank n b) ++ drop m b
 unfolding blank
 blank-part zero n b h l = refl
@@ -190,7 +191,7 @@ blank-is zero b h = refl
 blank-is (suc n) [] h = absurd (not-suc-le-zero h)
 blank-is (suc n) (x ∷ b) h = ap (λ (r : List ℕ). 255 ∷ r) (blank-is n b (le-of-suc-le-suc h))
 
--- the same from a place on: w is what the whole operation leaves there, and p what its first j bytes do
+-- the same from an offset on: w is what the whole operation leaves there, p what its first j bytes leave
 part-at : (at j : ℕ) (b w p : List ℕ) → at ≤ length b → p ≡ take j w ++ drop j (drop at b) → take at b ++ p ≡ take (at + j) (take at b ++ w) ++ drop (at + j) b
 part-at at j b w p l e =
     let k : length (take at b) ≡ at = length-take-le at b l in
@@ -217,14 +218,14 @@ done-whole j (erase at) b h =
     ap (λ (n : ℕ). take at b ++ blank n (drop at b)) e
 done-whole j (write at ws) b h = ap (λ (l : List ℕ). take at b ++ clear l (drop at b)) (take-all j ws h ∙ sym (take-length ws))
 
--- an erase over what lies there
+-- an erase over what is there
 pub erase-over : (p x r : List ℕ) (at : ℕ) → length p ≡ at → length x ≡ sectorSize → done sectorSize (erase at) (p ++ (x ++ r)) ≡ p ++ (fill 255 sectorSize ++ r)
 unfolding done
 erase-over p x r at e f =
     rw (take-at p (x ++ r) at e, drop-at p (x ++ r) at e)
     (ap (λ (n : ℕ). p ++ blank n (x ++ r)) (sym f) ∙ ap (λ (l : List ℕ). p ++ l) (blank-over x r) ∙ ap (λ (n : ℕ). p ++ (fill 255 n ++ r)) f)
 
--- a write over blank bytes leaves its own
+-- a write over blank bytes leaves its own bytes
 pub write-over : (p ws r : List ℕ) (at : ℕ) → length p ≡ at → Bytes ws → done (length ws) (write at ws) (p ++ (fill 255 (length ws) ++ r)) ≡ p ++ (ws ++ r)
 unfolding done
 write-over p ws r at e h =
@@ -251,7 +252,7 @@ module _ (region : List ℕ) (n : ℕ) (e : length region ≡ regionSize) (h : n
   unfolding bankOf
   length-bank = length-take-le bankSize (drop (n * bankSize) region) (omega (arith, start-fits n h, length-drop (n * bankSize) region))
 
-  -- a bank put where it was
+  -- a bank put back changes nothing
   pub with-same : withBank region n (bankOf region n) ≡ region
   unfolding withBank bankOf
   with-same =
@@ -273,7 +274,7 @@ module _ (region : List ℕ) (n : ℕ) (e : length region ≡ regionSize) (h : n
         rw (drop-at (take (n * bankSize) region) (b ++ drop (n * bankSize + bankSize) region) (n * bankSize) length-start)
         (take-at b (drop (n * bankSize + bankSize) region) bankSize f)
 
-    -- a bank put twice
+    -- of a bank put twice the second counts
     pub with-with : (d : List ℕ) → withBank (withBank region n b) n d ≡ withBank region n d
     unfolding withBank
     with-with d = put-twice region b d (n * bankSize) bankSize length-start f
@@ -288,7 +289,7 @@ pub two-banks : (region : List ℕ) → length region ≡ regionSize → bankOf 
 unfolding bankOf
 two-banks region e = join region (0 * bankSize) (1 * bankSize) bankSize (omega arith) (omega arith) (omega arith)
 
--- the other bank stays: the part of s bytes before, and the one after
+-- the other bank stays: the s bytes before, or those after
 part-before : (l b : List ℕ) (i s t u : ℕ) → i ≡ 0 → t ≡ s → s ≤ length l → take s (drop i (take t l ++ (b ++ drop u l))) ≡ take s (drop i l)
 part-before l b i s t u ei et h = rw (ei, et) (take-at (take s l) (b ++ drop u l) s (length-take-le s l h))
 
@@ -329,12 +330,12 @@ module _ (region : List ℕ) (n : ℕ) (e : length region ≡ regionSize) (h : n
   unfolding torn
   other-torn m k ne = other-with region n m (done j op (bankOf region n)) e length-part h k ne
 
-  -- where nothing is changed yet the region is as it was
+  -- if nothing is changed yet, the region is as it was
   pub torn-none : done j op (bankOf region n) ≡ bankOf region n → torn n j op region ≡ region
   unfolding torn
   torn-none f = ap (withBank region n) f ∙ with-same region n e h
 
-  -- past its size the operation is whole
+  -- with all its bytes done the operation is whole
   pub torn-whole : size op ≤ j → torn n j op region ≡ applied n op region
   unfolding torn applied
   torn-whole f = ap (withBank region n) (done-whole j op (bankOf region n) f)
@@ -357,7 +358,7 @@ module _ (region : List ℕ) (n : ℕ) (e : length region ≡ regionSize) (h : n
   unfolding after
   after-fits k = rw (eq-eqb (length region) regionSize e, le-leb n 1 h, le-leb (place op + size op) bankSize k)
 
--- the first p bytes of a part as d has them and the rest as they were, between what stands before it and after it
+-- the first p bytes of a part as d has them and the rest as they were, between what is before and what is after the part
 part-there : (l d : List ℕ) (i s p : ℕ) → length (take i l) ≡ i → length d ≡ s → s ≤ length (drop i l) → p ≤ s
     → take i l ++ ((take p d ++ drop p (take s (drop i l))) ++ drop (i + s) l) ≡ take (i + p) (take i l ++ (d ++ drop (i + s) l)) ++ drop (i + p) l
 part-there l d i s p k f m h =
@@ -395,7 +396,7 @@ torn-first n j region e h l =
     let m : min j sectorSize ≡ j = omega arith in
     ap (λ (k : ℕ). withBank region n (blank k (bankOf region n))) m ∙ ap (withBank region n) (blank-is j (bankOf region n) (omega (arith, length-bank region n e h)))
 
--- and what doesn't changes nothing
+-- what doesn't fit changes nothing
 pub after-not : (region : List ℕ) (n : ℕ) (op : Op) → fits region n op ≡ false → after n op region ≡ region
 unfolding after
 after-not region n op e = rw e
@@ -417,7 +418,7 @@ other-performed n m [] region h k ne e = refl
 other-performed n m (op ∷ ops) region h k ne e =
     other-performed n m ops (applied n op region) h k ne (length-applied region n e h op) ∙ other-applied region n e h op m k ne
 
--- a bank after operations, each whole, one after the other
+-- a bank after whole operations, one after the other
 unfoldable pub doneAll : List Op → List ℕ → List ℕ
 doneAll [] b = b
 doneAll (op ∷ ops) b = doneAll ops (done (size op) op b)

@@ -1,4 +1,5 @@
--- One byte more of an operation, and a part of the region for a part of a bank: what the code does.
+-- What the code does is the model's operation: each loop's turn does one byte more, and blanking or clearing a slice of the region is the
+-- operation on the bank, since the slice is a part of the bank.
 use mathlib.Core.Path.{_≡_, refl, sym, ap, _∙_}
 use mathlib.Core.Bool.{Bool, true, false, and-false}
 use mathlib.Core.List.{List, [], _∷_, _++_, append-assoc}
@@ -46,7 +47,7 @@ clear-part [] b = refl
 clear-part (w ∷ ws) [] = refl
 clear-part (w ∷ ws) (x ∷ b) = ap (λ (l : List ℕ). bitAnd x w ∷ l) (clear-part ws b)
 
--- ---- a part of a part: s bytes of l from i on, and k of these from at on
+-- ---- a part of a part: s bytes of l from i on, and k of these from `at` on
 
 module _ (l : List ℕ) (i s at k : ℕ) (e : i + s ≤ length l) (f : at + k ≤ s) where
   long : s ≤ length (drop i l)
@@ -106,7 +107,7 @@ pub write-is : (region : List ℕ) (n at : ℕ) (ws : List ℕ) → length regio
 unfolding applied torn withBank bankOf done
 write-is region n at ws e h f = rw (take-length ws) (clear-there region (n * bankSize) bankSize at ws (omega arith) f)
 
--- as the calls leave them: the part that was lent, k bytes, came back as x
+-- as the calls leave them: the slice of k bytes that was lent came back as x
 pub erased-is : (region : List ℕ) (n at k : ℕ) (x : List ℕ) → length region ≡ regionSize → n ≤ 1 → at + sectorSize ≤ bankSize → k ≡ sectorSize
     → x ≡ blank (length (take k (drop (n * bankSize + at) region))) (take k (drop (n * bankSize + at) region))
     → take (n * bankSize + at) region ++ (x ++ drop k (drop (n * bankSize + at) region)) ≡ erasedIn region n at

@@ -1,4 +1,5 @@
--- Laws about a header's tests.
+-- What the tests of a header give. Tests 3 to 6 case by case, as the definition nests them; and what a header has that passes them: at most
+-- three sources, and all its records good.
 use mathlib.Core.Path.{_≡_, refl, ap, _∙_, sym}
 use mathlib.Core.Bool.{Bool, true, false, _&&_, false≢true, and-true, and-assoc}
 use mathlib.Core.List.{List, [], _∷_, _++_}
@@ -35,7 +36,7 @@ pub unknown-bits : (t : ℤ) → SFits w64 t → eqb (ofZ w64 t) 922337203685477
 unknown-bits (pos n) f = ne-eqb n 9223372036854775808 (λ e. omega (arith, f .sfits))
 unknown-bits (negsuc n) f = lowest-by n (eqb n 9223372036854775807) refl
 
--- a test of each, one by one
+-- a test of each element, one by one
 
 each-last : {A : Type 0} (p : A → Bool) (xs : List A) (x : A) → each p (xs ++ (x ∷ [])) ≡ (each p xs && p x)
 unfolding each
@@ -69,7 +70,7 @@ span-count b e =
     let r = and-right (keyOk b) (countOk b && t) (and-right (lengthOk b) (keyOk b && (countOk b && t)) e) in
     leb-true (b .count) 3 (and-right (leb 1 (b .count)) (leb (b .count) 3) (and-left (countOk b) t r))
 
--- 3 to 6, case by case
+-- tests 3 to 6, case by case
 module _ (n : ℕ) (l : List ℕ) where
   pub not-marked : marked l ≡ false → Refused Mark ≡ headerOf n l
   unfolding headerOf
@@ -93,7 +94,7 @@ module _ (n : ℕ) (l : List ℕ) where
   unfolding headerOf judge
   all-good m s e f = rw (m, s, e, f)
 
--- what passes 3 to 6: the numbers are the header's, and both tests of the judge hold
+-- what passes 3 to 6: the numbers are the header's, and both tests of `judge` hold
 abbrev isGood : Validated → Bool
 isGood (Good b) = true
 isGood (Refused r) = false

@@ -1,4 +1,5 @@
--- Laws of the header as written: its size, what a bank says with the commit word blank, and what it says once the word is written.
+-- The header as commit writes it. With the commit word blank, byte 47 is 255, so the bank meets 3. With the word written, every number and
+-- record reads back from its offset, so the bank is judged by what was written.
 use mathlib.Core.Path.{_≡_, refl, ap, _∙_, sym}
 use mathlib.Core.Bool.{Bool, true, false, and-false, false≢true}
 use mathlib.Core.List.{List, [], _∷_, _++_, append-assoc}
@@ -219,7 +220,7 @@ bytes-commit-bytes = bytes-le32 commitWord
 
 -- ---- a committed header
 
--- records that were written, from the front
+-- records that were written, from the first on
 pub records-back : (ss : List Source) → All Proper ss → (p q : List ℕ) (k : ℕ) → length p ≡ k → many (recordAt 3) 384 (p ++ (puts sourceBytes ss ++ q)) k (length ss) ≡ ss
 unfolding many puts All recordAt
 records-back [] h p q k e = refl

@@ -1,4 +1,5 @@
--- What the writers of a header's parts leave, joined.
+-- What the writers of a header's parts leave, joined: into 1,200 zeros go 40 bytes of numbers, the records from 48 on, then CRC and commit
+-- word between them. Stores that follow each other are stored as one.
 use mathlib.Core.Path.{_≡_, refl, ap, _∙_, sym}
 use mathlib.Core.Bool.{Bool, true, false, _&&_}
 use mathlib.Core.List.{List, [], _++_, append-assoc}
@@ -23,7 +24,7 @@ use Rattle.header.specs.declared.Validated.the-variants.{Good, Refused}
 use Rattle.header.specs.Header.{magic, spanOk, sourceOk, judge, headerSize}
 use Rattle.header.specs.WriteHeader.{firstBytes, secondBytes, numberBytes, recordBytes, crcOf, headerBytes, blankWord, passes}
 
--- a number that fits in 1,200 bytes is stored, and there are 1,200 again
+-- a number that fits in 1,200 bytes is stored, and they are still 1,200
 put-fits : (l : List ℕ) (at n : ℕ) → length l ≡ headerSize → at + 4 ≤ headerSize → written l at (le32 n) ≡ sets l at (le32 n)
 put-fits l at n e h = written-sets l at (le32 n) (rw (length-le32 n, e) h)
 
@@ -109,7 +110,7 @@ pub numbers-are : (l : List ℕ) (b : Bank) → sets (sets l 0 (firstBytes b)) 1
 unfolding firstBytes le32
 numbers-are l b = next l (firstBytes b) (secondBytes b) 0 16 refl
 
--- 40 bytes and m from 48 on, put into 1,200 zeros
+-- 40 bytes, and m from 48 on, stored into 1,200 zeros
 bare-over : (f r : List ℕ) (m k : ℕ) → length f ≡ 40 → length r ≡ m → m + k ≡ 1152 → sets (sets (fill 0 headerSize) 0 f) 48 r ≡ f ++ (fill 0 8 ++ (r ++ fill 0 k))
 bare-over f r m k lf lr e =
     let x : List ℕ = fill 0 m in
@@ -124,7 +125,7 @@ bare-over f r m k lf lr e =
     let h : sets (fill 0 headerSize) 0 f ≡ (f ++ z) ++ (x ++ y) = g ∙ rw d (sym (append-assoc f z (x ++ y))) in
     rw (h, sets-mid (f ++ z) x r y 48 q (length-fill {A = ℕ} 0 m ∙ sym lr)) (append-assoc f z (r ++ y))
 
--- and eight bytes put between
+-- and eight bytes stored between them
 seal-over : (f s w d : List ℕ) → length f ≡ 40 → length s ≡ 4 → length w ≡ 4 → sets (sets (f ++ (fill 0 8 ++ d)) 40 s) 44 w ≡ f ++ (s ++ (w ++ d))
 seal-over f s w d lf ls lw =
     let z : List ℕ = fill 0 4 in
@@ -155,7 +156,7 @@ by-tests b true true = refl
 by-tests b true false = refl
 by-tests b false t = refl
 
--- what passes 5 and 6 passes both tests
+-- `judge` passes exactly if both tests, 5 and 6, hold
 pub judge-is : (b : Bank) (ss : List Source) → passes (judge b ss) ≡ (spanOk b && each (sourceOk b) ss)
 unfolding judge
 judge-is b ss = by-tests b (spanOk b) (each (sourceOk b) ss)

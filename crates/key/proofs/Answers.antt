@@ -1,4 +1,5 @@
--- The answers of the public functions, one for each way through them.
+-- The answers of the public functions, one lemma for each path through them, from what preparation has shown: its offsets cut the texts as
+-- the definitions do, so its tests are theirs.
 use mathlib.Core.Path.{_≡_, refl, ap, _∙_, sym}
 use mathlib.Core.Bool.{Bool, true, false}
 use mathlib.Core.List.{List, [], _∷_, _++_, map}
@@ -38,7 +39,7 @@ module _ (b : Text) (l : List ℕ) where
   unfolding fit
   fit-few h = rw (le-leb (count l) 16 (omega arith))
 
--- ---- the places that were computed are those of the texts
+-- ---- the offsets that were computed are those of the texts
 
 module _ (b : Text) (l : List ℕ) (m : ℕ) where
   module _ (starts : List ℕ) (all : Places b l m starts) where
@@ -123,14 +124,14 @@ pub in-room : (room : ℕ) (key : List ℕ) (n : ℕ) → n ≡ length key → n
 unfolding within
 in-room room key n e h = let k : length key ≤ room = omega arith in rw (le-leb (length key) room k, e)
 
--- how long the key is
+-- the key's length
 pub key-length : (id : Text) (ps : List Pick) → length (keyOf id ps) ≡ length (prefix id) + 1 + length (joined entry (distinct ps))
 unfolding keyOf
 key-length id ps =
     let e = length-append (prefix id) (body (distinct ps)) in
     omega arith
 
--- prefix, count byte and picks, put one after the other
+-- prefix, count byte and picks, written one after the other
 pub whole : (out o₁ o₂ : List ℕ) (id : Text) (ps : List Pick) (at n : ℕ) → length (keyOf id ps) ≤ length out
     → at ≡ length (prefix id) → n ≡ length (distinct ps) → o₁ ≡ written out 0 (prefix id)
     → o₂ ≡ written (set o₁ at (n % 256)) (at + 1) (joined entry (distinct ps)) → o₂ ≡ written out 0 (keyOf id ps)
@@ -197,7 +198,7 @@ match-refused x id b l r =
 pub fit-refused : (id b : Text) (l : List ℕ) (r : Refusal) → length id ≡ 0 → NotReady id b l r → false ≡ fit b l
 fit-refused id b l r e = ⊎-elim (λ h. h .1) (λ h. absurd (omega (arith, h .2)))
 
--- prefix, count byte and picks, one after the other
+-- prefix, count byte and picks, compared one after the other
 module _ (x : List ℕ) (id : Text) (ps : List Pick) where
   pub prefix-differs : stretch x 0 (prefix id) ≡ Differs → false ≡ same x (keyOf id ps)
   unfolding keyOf

@@ -1,4 +1,5 @@
--- A pick put in its place among sorted ones.
+-- A pick inserted into the sorted ones: the search finds the first one that isn't below it, and moving the rest up by one gives the
+-- definition's `insert`. Adding the picks from the last to the first gives `distinct`.
 use mathlib.Core.Path.{_≡_, refl, ap, _∙_, sym}
 use mathlib.Core.List.{List, [], _∷_, _++_, map, append-assoc}
 use Prim.Native.Nat.{ℕ, zero, suc, _+_, _≤_, _<_, Ordering, Ordering·lt, Ordering·eq, Ordering·gt}
@@ -28,7 +29,7 @@ is-gt Ordering·lt h k = absurd (h refl)
 is-gt Ordering·eq h k = absurd (k refl)
 is-gt Ordering·gt h k = refl
 
--- ---- the search for the place
+-- ---- the search for the index
 
 module _ (p : Pick) (s : List Pick) (k : ℕ) (so-far : insert p s ≡ take k s ++ insert p (drop k s)) where
   pub goes-end : length s ≤ k → k ≤ length s → Goes p s (At k)
@@ -77,7 +78,7 @@ module _ (n : ℕ) where
   below-drop (suc k) [] b = tt
   below-drop (suc k) (x ∷ s) b = below-drop k s (b .1)
 
--- ---- a number put into a list
+-- ---- a number inserted into a list
 
 abbrev pub putIn : ℕ → ℕ → List ℕ → List ℕ
 putIn k v x = take k x ++ v ∷ drop k x
@@ -104,7 +105,7 @@ module _ (a : List ℕ) (k v : ℕ) where
         ∙ rw e (put-more (take j a) (getD a j 0) (omega arith))
         ∙ ap (putIn k v) {x = take j a ++ getD a j 0 ∷ []} {y = take (j + 1) a} (rw (add-one) (sym (take-suc a j 0 in-a)))
 
--- ---- the picks that numbers name
+-- ---- the picks that the numbers mean
 
 module _ (f : ℕ → Pick) where
   map-append : (s t : List ℕ) → map f (s ++ t) ≡ map f s ++ map f t

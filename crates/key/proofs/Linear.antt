@@ -1,4 +1,5 @@
--- `picks` is a linear order: shown once for `lex` over any such order, and used twice.
+-- The order of picks is linear. It is shown once that `lex` over any linear order is linear, and used twice: for texts over bytes, and for
+-- picks over texts.
 use mathlib.Core.Path.{_≡_, refl, ap, _∙_, sym}
 use mathlib.Core.List.{List, [], _∷_}
 use Prim.Native.Nat.{ℕ, zero, suc, compare, Ordering, Ordering·lt, Ordering·eq, Ordering·gt, compare·zero-zero, compare·zero-suc, compare·suc-zero, compare·suc-suc}

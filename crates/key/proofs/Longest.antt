@@ -1,4 +1,4 @@
--- The longest key has 67,795 bytes.
+-- The longest key has 67,795 bytes: none is longer, by the bounds on prefix and picks; and one has that length, by computing.
 use mathlib.Core.Path.{_≡_, refl, ap}
 use mathlib.Core.Bool.{true}
 use mathlib.Core.List.{List, [], _∷_}
@@ -29,7 +29,7 @@ longest id b l h k =
     let m = small (count l) (pickAt b l) (entry-small (text b l) (count l) (t .1)) in
     omega (arith, key-length id (handed b l), prefix-short id k, few (count l) (pickAt b l), m)
 
--- ---- it is reached: an identity of 65,535 bytes, and 16 picks without a code, each field as long as it may be
+-- ---- one of that length: an identity of 65,535 bytes, and 16 picks without a code, each field as long as it may be
 
 zeros : ℕ → Text
 zeros n = replicate n 0

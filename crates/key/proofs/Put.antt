@@ -1,4 +1,4 @@
--- Bytes put one after the other, and joined lists taken one by one.
+-- Parts written one after the other are written as one; and a loop over a joined list has written, after i turns, the joined first i.
 use mathlib.Core.Path.{_≡_, refl, ap, _∙_, sym}
 use mathlib.Core.List.{List, [], _∷_, _++_, append-assoc, append-nil}
 use Prim.Native.Nat.{ℕ, suc, _+_, _/_, _%_, _≤_, _<_}

@@ -1,4 +1,4 @@
--- What the size test gives: a pick takes at most 141 bytes, all of them at most 141 to a pick.
+-- What the size test gives: a pick has at most 141 bytes, since code or name is empty, and n picks at most 141 n.
 use mathlib.Core.Path.{_≡_, refl}
 use mathlib.Core.Bool.{Bool, true, false}
 use mathlib.Core.List.{List, [], _∷_}
@@ -69,7 +69,7 @@ module _ (t : ℕ → Text) (n : ℕ) (fits : every (n * fieldCount) (sized t) �
       let u = unless-both (t (i * fieldCount + 2)) (t (i * fieldCount + 4)) t2 t4 in
       simp length-append (omega arith)
 
--- how many bytes a pick takes, by the places of its texts
+-- how many bytes a pick has, by the offsets of its texts
 
 unless-code : (c t : Text) → 0 < length c → length (unlessCode c t) ≡ 0
 unless-code [] t h = absurd (omega arith)
@@ -133,7 +133,7 @@ small n f h =
     all-small (distinct (firsts n f))
     (λ p m. let t = of-firsts n f p (sorts (firsts n f) .from p m) in rw (t .2) (h (t .0) (t .1)))
 
--- ---- no more than were handed over
+-- ---- no more picks than were passed
 
 place-count : (o : Ordering) (p q : Pick) (qs f : List Pick) → length f ≤ suc (length qs) → length (place o p q qs f) ≤ suc (suc (length qs))
 place-count Ordering·lt p q qs f h = omega arith

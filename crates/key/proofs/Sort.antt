@@ -1,4 +1,5 @@
--- `distinct` sorts: its members are those of the list, each before all behind it; and no other list does.
+-- `distinct` sorts: its members are those of the list, in ascending order. No other list does: two ascending lists with the same members
+-- have the same first one, and so on.
 use mathlib.Core.Path.{_≡_, refl, ap, _∙_, sym, subst}
 use mathlib.Core.List.{List, [], _∷_}
 use mathlib.Core.Logic.{_⊎_, inl, inr, ⊎-elim}

@@ -1,4 +1,5 @@
--- Comparing part after part.
+-- Comparing a stored key part by part equals comparing it with the joined parts: where a part matches, the next one is compared from its
+-- end on; where one differs, the whole does.
 use mathlib.Core.Path.{_≡_, refl, ap, _∙_, sym}
 use mathlib.Core.Bool.{Bool, true, false, not}
 use mathlib.Core.List.{List, [], _∷_, _++_, append-nil}
@@ -51,7 +52,7 @@ unfolding stretch same
 nothing-to-match x at [] h = ap To (sym (add-zero at))
 nothing-to-match x at (b ∷ s) h = absurd (omega arith)
 
--- ---- part after part
+-- ---- one part after the other
 
 abbrev pub andThen : Matched → (ℕ → Matched) → Matched
 andThen (To a) k = k a

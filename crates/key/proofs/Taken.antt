@@ -1,4 +1,5 @@
--- Texts by their places.
+-- Texts by their offsets: text k is what is between offsets k and k + 1, each at most the end of the bytes. So cutting by offsets gives the
+-- texts of the definition, and the fields of a pick.
 use mathlib.Core.Path.{_≡_, refl, ap, _∙_, sym}
 use mathlib.Core.Bool.{Bool, true, false}
 use mathlib.Core.List.{List, [], _∷_, _++_}
@@ -22,7 +23,7 @@ split a b = go (ltb a b) refl
     go true e = inl (ltb-true a b e)
     go false e = inr (ltb-false a b e)
 
--- ---- places
+-- ---- offsets
 
 sum-append : (s t : List ℕ) → sum (s ++ t) ≡ sum s + sum t
 unfolding sum
@@ -70,7 +71,7 @@ drop-min s n = go (leb n (length s)) refl
         let h : length s < n = leb-false _ _ e in
         drop-of-length-le s {i = min (length s) n} (omega arith) ∙ sym (drop-of-length-le s {i = n} (omega arith))
 
--- a length that reaches past the end takes what there is
+-- a length that reaches past the end gives what there is
 take-up-to : (s : Text) (m n : ℕ) → m ≡ min (length s) n → take m s ≡ take n s
 take-up-to s m n e =
     ⊎-elim

@@ -1,4 +1,5 @@
--- Two lists compared from the front: what a turn of such a loop finds.
+-- Two lists compared from the front: equal elements leave the rests to compare, the first different one decides, and a list that ends first
+-- is the lower one.
 use mathlib.Core.Path.{_≡_, refl, ap, _∙_, sym}
 use mathlib.Core.List.{List, []}
 use Prim.Native.Nat.{ℕ, zero, suc, _+_, _≤_, _<_, compare, Ordering, Ordering·lt, Ordering·eq, Ordering·gt, compare·zero-suc, compare·suc-suc}

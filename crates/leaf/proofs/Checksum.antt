@@ -1,4 +1,5 @@
--- The laws of CRC-32 that callers cite. Assumes nothing.
+-- The laws of CRC-32 that other crates cite. They hold since the CRC is the shift register started from the complement and complemented
+-- again (Shift.antt), and a register runs over joined bytes as over the parts.
 use mathlib.Core.Path.{_≡_, refl, sym, ap, ap₂, _∙_}
 use mathlib.Core.Bool.{Bool, true, false, not}
 use mathlib.Core.List.{List, [], _∷_, _++_}
@@ -13,7 +14,7 @@ use Rattle.leaf.specs.Crc.{bits, frame, shifted, complementFirst, comple
 use Rattle.leaf.proofs.Remainder.{division, add-nil, length-add}
 use Rattle.leaf.proofs.Shift.{crc32-run, shifted-length}
 
--- the register that `start` stands for
+-- the register that `start` means
 begun : ℕ → ℕ
 begun start = (2 ^ 32 - 1) - start % 2 ^ 32
 
@@ -25,7 +26,7 @@ begun-lt start = omega arith
 pub crc32-lt : (start : ℕ) (s : List ℕ) → crc32 start s < 2 ^ 32
 crc32-lt start s = omega (arith, crc32-run start s)
 
--- feeding two parts equals feeding them joined
+-- the CRC of two parts, one after the other, is that of them joined
 pub crc32-append : (start : ℕ) (s t : List ℕ) → crc32 (crc32 start s) t ≡ crc32 start (s ++ t)
 unfolding begun
 crc32-append start s t =
@@ -39,7 +40,7 @@ crc32-append start s t =
     ∙ ap (λ (x : ℕ). (2 ^ 32 - 1) - x) (sym (run-append (begun start) s t))
     ∙ sym (crc32-run start (s ++ t))
 
--- nothing fed changes nothing
+-- no bytes change nothing
 pub crc32-nil : (start : ℕ) → start < 2 ^ 32 → crc32 start [] ≡ start
 unfolding run
 crc32-nil start h =
@@ -62,7 +63,7 @@ pub crc32-fcs : (s : List ℕ) → crc32 0 s ≡ fcs s
 unfolding crc32 fcs bits
 crc32-fcs s = ap (complementedRemainder s) (complement-add 32 (shifted s))
 
--- and that comes from a division by the generator
+-- which is the complement of a division's remainder by the generator
 pub fcs-division : (s : List ℕ)
     → Division (complementFirst 32 (shifted s)) (quotient (length (frame s)) (complementFirst 32 (shifted s))) (remainder (length (frame s)) (complementFirst 32 (shifted s)))
 fcs-division s =

@@ -1,4 +1,5 @@
--- Laws for those who cite the definitions and must not unfold them.
+-- What other crates may use of bytes, generations and dates without unfolding the definitions: sizes; what is written reads back and other
+-- offsets stay; the next generation is newer, and of two at most one is newer; which numbers are dates.
 use mathlib.Core.Path.{_≡_, refl, ap, _∙_, sym}
 use mathlib.Core.Bool.{Bool, true, false, _&&_, and-false}
 use mathlib.Core.List.{List, [], _∷_, _++_, append-assoc}
@@ -23,7 +24,7 @@ use Rattle.leaf.specs.Date.{leap, monthDays, isDate, dateNumber, validDa
 use Rattle.leaf.proofs.Numbers.{signed-is, bits-is, positive}
 use Rattle.base.proofs.Bools.{and-left, and-right}
 
--- bytes at a place
+-- bytes at an offset
 
 pub length-le32 : (n : ℕ) → length (le32 n) ≡ 4
 unfolding le32
@@ -61,7 +62,7 @@ other-by : (l : List ℕ) (at : ℕ) (v : List ℕ) (k : ℕ) → (k < at) ⊎ (
 other-by l at v k o true e = rw (written-sets l at v (leb-true (at + length v) (length l) e)) (sets-other l at v k o)
 other-by l at v k o false e = rw (written-not l at v e)
 
--- a byte before the place or past its end stays
+-- a byte before the offset or past the end of what is written stays
 pub written-other : (l : List ℕ) (at : ℕ) (v : List ℕ) (k : ℕ) → (k < at) ⊎ (at + length v ≤ k) → byte (written l at v) k ≡ byte l k
 written-other l at v k o = other-by l at v k o (leb (at + length v) (length l)) refl
 
@@ -71,7 +72,7 @@ sets-sets l (x ∷ a) b i =
     let e : i + suc (length a) ≡ suc i + length a = omega arith in
     rw e (sets-sets (set l i x) a b (suc i))
 
--- bytes put next to those put before are the two together
+-- bytes written right after others are the two together
 pub written-next : (l a b : List ℕ) (at k : ℕ) → length a ≡ k → at + (k + length b) ≤ length l → written (written l at a) (at + k) b ≡ written l at (a ++ b)
 written-next l a b at k e h =
     let n : length (a ++ b) ≡ k + length b = length-append a b ∙ omega arith in
@@ -80,7 +81,7 @@ written-next l a b at k e h =
     let r : at + length (a ++ b) ≤ length l = omega arith in
     rw (written-sets l at a p, written-sets (sets l at a) (at + k) b q, written-sets l at (a ++ b) r, ← e) (sets-sets l a b at)
 
--- a reader that looks from its place onwards only
+-- a reader that looks only at bytes from its offset on
 abbrev pub Shifts : {A : Type 0} → (List ℕ → ℕ → A) → Type 0
 Shifts f = (p q : List ℕ) (k : ℕ) → f (p ++ q) (length p + k) ≡ f q k
 
@@ -113,7 +114,7 @@ word-drop l at k = rw (
   add-assoc at k 3,
 )
 
--- what was written is read at its place
+-- what was written is read at its offset
 pub read-written : {A : Type 0} (f : List ℕ → ℕ → A) → Shifts f → (l : List ℕ) (at : ℕ) (v : List ℕ) → at + length v ≤ length l
     → f (written l at v) at ≡ f (v ++ drop (at + length v) l) 0
 read-written f s l at v h =
@@ -166,7 +167,7 @@ time-fits l at h =
     let n = word l at + word l (at + 4) * 2 ^ 32 in
     rw (← signed-is n) (toZ-fits w64 n (record { fits = omega (arith, word-lt l at h, word-lt l (at + 4) h) }))
 
--- what is read at another place stays
+-- what is read at another offset stays
 module _ (l : List ℕ) (at : ℕ) (v : List ℕ) (k : ℕ) where
   outside : (j : ℕ) → k ≤ j → j < k + 4 → (k + 4 ≤ at) ⊎ (at + length v ≤ k) → byte (written l at v) j ≡ byte l j
   outside j from to o = written-other l at v j (⊎-elim (λ p. inl (omega arith)) (λ p. inr (omega arith)) o)
@@ -254,7 +255,7 @@ ranges y m d e =
       day = (leb-true 1 d (and-left (leb 1 d) (leb d n) ds), omega arith);
     }
 
--- a number is valid exactly when it is some date's
+-- a number is valid exactly if it is some date's
 pub date-of : (y m d : ℕ) → isDate y m d ≡ true → validDate (dateNumber y m d) ≡ true
 unfolding validDate
 date-of y m d e =

@@ -1,4 +1,5 @@
--- Two's complement as the code computes it, and the code's tests as those of the definitions.
+-- Two's complement as the code computes it equals that of the definitions, and so do the code's tests of signs. Each is by cases: below
+-- half of the range, or from half on.
 use mathlib.Core.Path.{_≡_, refl, ap, _∙_}
 use mathlib.Core.Bool.{Bool, true, false, true≢false, _&&_, and-true, and-false}
 use Prim.Native.Nat.{ℕ, suc, zero, _+_, _-_, _%_, _<_, _≤_, _^_}
@@ -33,7 +34,7 @@ minus-one : (y : ℕ) → negsuc 0 -ℤ pos y ≡ negsuc y
 minus-one zero = refl
 minus-one (suc y) = ap negsuc {y = suc y} (ap suc (zero-add y))
 
--- 64 bits from half on, as the code turns them: -1 - (2^64 - 1 - x)
+-- 64 bits from half of the range on, as the code computes them: -1 - (2^64 - 1 - x)
 module _ (x : ℕ) (h : x < 18446744073709551616) (k : 9223372036854775808 ≤ x) where
   pub low-fits : SFits w64 (negsuc 0 -ℤ toZ w64 (18446744073709551615 - x))
   low-fits = rw (toZ-pos w64 (18446744073709551615 - x) (omega arith), minus-one) (record { sfits = omega arith })
@@ -48,7 +49,7 @@ minus-neg n =
     let e : suc n - 1 ≡ n = omega arith in
     rw (le-ltb (suc n) 1 (omega arith), e)
 
--- -1 less a number below zero, as the code computes it
+-- -1 minus a number below zero, as the code computes it
 abbrev pub turned : ℤ → ℤ
 turned z = toZ w64 (ofZ w64 (negsuc 0 -ℤ toZ w64 (ofZ w64 z)))
 
@@ -87,7 +88,7 @@ up-at (negsuc n) f e = absurd (true≢false e)
 pub up : (z : ℤ) → SFits w64 z → ltZ (toZ w64 (ofZ w64 z)) (pos 0) ≡ false → Up z
 up z f e = up-at z f (rw (toZ-ofZ w64 z f) at e)
 
--- a distance is above zero read as signed when it is neither zero nor from half on
+-- a distance, read as signed, is above zero if it is neither zero nor from half of the range on
 positive-by : (d : ℕ) (t : Bool) → ltb d 2147483648 ≡ t → (ltb 0 d && t) ≡ ltZ (pos 0) (pick t (pos d) (negsuc (4294967296 - suc d)))
 positive-by d true e = and-true (ltb 0 d)
 positive-by d false e = and-false (ltb 0 d)

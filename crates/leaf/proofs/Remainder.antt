@@ -1,4 +1,5 @@
--- The long division is a division, and the only one. Assumes nothing.
+-- The long division gives p = q G + r with r of 32 coefficients, by induction on q's length; and no other q and r do, since equal sums have
+-- equal first coefficients.
 use mathlib.Core.Path.{_≡_, refl, sym, ap, ap₂, _∙_}
 use mathlib.Core.Bool.{Bool, true, false}
 use mathlib.Core.List.{List, [], _∷_, _++_}
@@ -57,7 +58,7 @@ length-add [] g = refl
 length-add (a ∷ p) [] = refl
 length-add (a ∷ p) (b ∷ g) = ap suc (length-add p g)
 
--- zeros and g is g
+-- zeros plus g is g
 zeros-add : (n : ℕ) (g : List Bool) → length g ≡ n → add (zeros n) g ≡ g
 unfolding add plus
 zeros-add zero [] h = refl

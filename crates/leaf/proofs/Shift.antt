@@ -1,4 +1,5 @@
--- The long division is the shift register. Assumes nothing.
+-- The long division and the shift register compute the same: a turn of the division, its coefficients read as a number, is a step of the
+-- register. So `crc32` is a run started from the complement, complemented at the end.
 use mathlib.Core.Path.{_≡_, refl, sym, ap, ap₂, _∙_}
 use mathlib.Core.Bool.{Bool, true, false, not}
 use mathlib.Core.List.{List, [], _∷_, _++_, map}

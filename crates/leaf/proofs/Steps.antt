@@ -1,4 +1,4 @@
--- What the functions return, over plain variables: each proof applies one of these.
+-- What the functions return, stated over plain variables; each function's proof applies one of these to its own values.
 use mathlib.Core.Path.{_≡_, refl, ap, _∙_, sym}
 use mathlib.Core.Bool.{Bool, true, false, _&&_, and-true, and-false, and-assoc}
 use mathlib.Core.List.{List, [], _∷_}
@@ -32,7 +32,7 @@ time-of l at x y p q =
     let e : x + y * 4294967296 ≡ word l at + word l (at + 4) * 4294967296 = rw (p, q, word-drop l at 0, word-drop l at 4, add-zero at) in
     ap (λ (n : ℕ). signed 64 n) e
 
--- room
+-- room: whether n bytes fit at i
 pub room-by : (i n len : ℕ) → n ≤ len → (t : Bool) → leb (i + n) len ≡ t → leb i (len - n) ≡ t
 room-by i n len h true e = let k = leb-true (i + n) len e in le-leb i (len - n) (omega arith)
 room-by i n len h false e = let k = leb-false (i + n) len e in lt-leb i (len - n) (omega arith)
@@ -80,7 +80,7 @@ none : (d : ℕ) → (leb 1 d && leb d 0) ≡ false
 none zero = refl
 none (suc d) = rw (leb·suc-zero d) (and-false (leb 1 (suc d)))
 
--- no day of a month with none
+-- no day is in a month without days
 no-day : (a : Bool) (d x : ℕ) → x ≡ 0 → ((a && leb 1 d) && leb d x) ≡ false
 no-day true d x e = rw e (none d)
 no-day false d x e = refl

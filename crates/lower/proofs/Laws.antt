@@ -1,4 +1,4 @@
--- The calls, case by case.
+-- The lower calls, case by case, as the definitions nest them; and two facts on bits of the tables begun.
 use mathlib.Core.Path.{_≡_, refl, sym, ap, subst}
 use mathlib.Core.Bool.{true, false, not, _&&_}
 use mathlib.Core.List.{List}
@@ -85,7 +85,7 @@ module _ (w : Writer) (xs : List ℕ) where
   unfolding took
   took-some n v e h k = rw (e, ← h) (ap (λ (x : Writer). record { answer = Took n; writer = x }) k)
 
--- the tail and the place of a state that takes bytes
+-- the tail and the position of a state that may append
 pub takes-fits : (w : Writer) → mayAppend w ≡ true → (w .taken .fill ≤ tailSize) × (position (w .taken) ≤ capacity)
 takes-fits w m = let t = ranged w (and-left (inRange w) (not (w .taken .closed)) m) .taken in (fill-fits (w .taken) t, position-fits (w .taken) t)
 
@@ -101,7 +101,7 @@ shifted (suc (suc (suc (suc (suc (suc zero)))))) h = refl
 shifted (suc (suc (suc (suc (suc (suc (suc zero))))))) h = refl
 shifted (suc (suc (suc (suc (suc (suc (suc (suc n)))))))) h = absurd (omega arith)
 
--- a bit past the last
+-- a bit past the last one
 pub begun-past : (n t : ℕ) → n < 4294967296 → 32 ≤ t → false ≡ begunIn n t
 unfolding begunIn
 begun-past n t h k =

@@ -1,4 +1,5 @@
--- A run takes all of its bytes: after three due calls nothing is due, and a byte is taken then.
+-- A run appends all of its bytes. At most three operations are due in a row, and each due call does one, so after three nothing is due; a
+-- byte is appended then, if the capacity holds it. By induction on the bytes.
 use mathlib.Core.Path.{_≡_, refl, sym, ap, _∙_, subst}
 use mathlib.Core.Bool.{Bool, true, false, and-false}
 use mathlib.Core.List.{List, [], _∷_, _++_, append-assoc}

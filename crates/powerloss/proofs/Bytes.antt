@@ -1,4 +1,4 @@
--- Lists of bytes: parts and joins of them.
+-- Lists of bytes: parts, joins and stores of bytes are bytes.
 use mathlib.Core.List.{List, [], _∷_}
 use Prim.Native.Nat.{ℕ, zero, suc, _<_}
 use native.Mathlib.Omega.{arith}

@@ -1,5 +1,6 @@
--- Both calls of a commit carry the invariant on, whole or cut after any of their bytes. The header's write leaves byte 47 at 255, and so do
--- fewer than four bytes of the commit word: the bank meets 3 until the word's last byte is written.
+-- Both calls of a commit keep the invariant, whole or cut after any of their bytes. The header's write leaves byte 47 at 255, and so do
+-- fewer than four bytes of the commit word: the bank meets 3 until the word's last byte is written. Then the new bank passes and is newer,
+-- so load gives it.
 use mathlib.Core.Path.{_≡_, refl, sym, ap, _∙_, subst}
 use mathlib.Core.Bool.{Bool, true, false, not, _&&_, false≢true}
 use mathlib.Core.Logic.{_⊎_, inl, inr}
@@ -97,7 +98,7 @@ span-some b e =
     let r = and-right (keyOk b) (countOk b && t) (and-right (lengthOk b) (keyOk b && (countOk b && t)) e) in
     leb-true 1 (b .count) (and-left (leb 1 (b .count)) (leb (b .count) 3) (and-left (countOk b) t r))
 
--- the records that the history comes to are the writer's
+-- the records that the history gives are the writer's
 module _ (region : List ℕ) (hd : Loaded) (w : Writer) (u : Update) (o : Open region hd w u) where
   own : Ranged w
   own = ranged w (o .tied .range)
@@ -249,7 +250,7 @@ isFound (Found b) = true
 isFound Nothing = false
 isFound (NotRead r) = false
 
--- the new generation follows the other bank's, or the other bank fails
+-- the new generation is the next after the other bank's, or the other bank fails
 good-of : (v : Validated) (b : Bank) → orElse v Nothing ≡ Found b → v ≡ Good b
 good-of (Good c) b e = ap (λ (x : Loaded). Good (bankOr b x)) e
 good-of (Bad r) b e = absurd (false≢true (ap isFound e))

@@ -1,5 +1,5 @@
--- The worked instances, computed call by call: the region is any, so only its length is asked for, and what load found there is a variable, hd. An
--- update is followed from any run whose history holds what load gives, so that one can follow another.
+-- The instances, computed call by call. The region is any, so only its length is known, and what load found there is a variable, hd. An
+-- update is computed from any run whose history holds what load gives, so that one can follow another.
 use mathlib.Core.Path.{_≡_, refl, sym, ap, _∙_, subst}
 use mathlib.Core.Bool.{Bool, true, false, false≢true}
 use mathlib.Core.Option.{none, some}
@@ -78,7 +78,7 @@ at hd rs im region w u = mk region (some w) hd rs (some u) im
 abbrev Does : Lower → List ℕ → Writer → Answer → Writer → List Op → Type 0
 Does c region w x w′ ops = (lowerStep region w c ≡ record { answer = x; writer = w′ }) × (lowerOps region w c ≡ ops)
 
--- ---- each call's: sources, tail and CRCs are any where it doesn't look at them
+-- ---- each call: sources, tail and CRCs are any if it doesn't look at them
 
 module _ (hd : Loaded) (ok : activeOk hd ≡ true) (region : List ℕ) (ss : List Source) (tail : List ℕ) (a b : ℕ) where
   does-key : Does (bytes key) region (st hd Idle (tk 0 0 a false) (tb 0 8 0 b 0) ss tail)
@@ -158,7 +158,7 @@ does-commit : (hd : Loaded) → activeOk hd ≡ true → (region tail : List ℕ
 unfolding lowerStep lowerOps commitStep commitOps inRange takenOk tablesOk stageOk isDue
 does-commit hd ok region tail a b l = rw (eq-eqb (length region) regionSize l, ok, fit hd tail a b) (refl, refl)
 
--- ---- the list
+-- ---- the list of calls
 
 -- a call that isn't the commit word's, then the rest
 called : (hd : Loaded) (rs : List Source) (im : Image) (c : Lower) (region : List ℕ) (g : Stage) (t : Taken) (b : Tables) (ss : List Source) (tail : List ℕ) (x : Answer) (w′ : Writer) (ops : List Op) (u : Update)

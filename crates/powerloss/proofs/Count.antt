@@ -1,4 +1,5 @@
--- How many operations an update has made, by its stage and the bytes written: each lower call keeps the count.
+-- How many operations an update has made is a function of its stage and of the bytes written. Each lower call keeps this: the due call adds
+-- its one operation and moves the stage or the bytes on, commit adds two, the others none.
 use mathlib.Core.Path.{_≡_, refl, sym, ap, _∙_, subst}
 use mathlib.Core.Bool.{Bool, true, false, not, _&&_, false≢true}
 use mathlib.Core.List.{List, [], _∷_}
@@ -38,7 +39,7 @@ use Rattle.powerloss.specs.Operations.{sectors, writes}
 use Rattle.powerloss.proofs.Exactly.{compare-ops, ops-are}
 use Rattle.header.specs.Header.{commitOffset}
 
--- in writing mode, with n bytes written: before the first erase none
+-- in writing mode, with n bytes written: none before the first erase
 abbrev pub soFar : Stage → ℕ → ℕ
 soFar Idle n = min n 1 + sectors n + writes n
 soFar (Due (Erase zero)) n = 0
@@ -66,7 +67,7 @@ pub same-tally : (c : Bool) (st : Stage) (n ops m : ℕ) → m ≡ ops + 0 → T
 same-tally true st n ops m e h = omega arith
 same-tally false st n ops m e h = (e ∙ omega arith ∙ h .0, h .1)
 
--- ---- what comes to be due was not done before
+-- ---- what becomes due was not done before
 
 module _ (t : Taken) (ops : ℕ) (h : Tally false Idle (t .written) ops) where
   data-tally : (0 ≡ t .written → ⊥) → (z : Bool) → eqb (t .written % sectorSize) 0 ≡ z → Tally false (Due (pick z (Erase (t .written / sectorSize + 1)) (writeDue t))) (t .written) ops

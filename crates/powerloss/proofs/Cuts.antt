@@ -1,5 +1,5 @@
--- Laws of a cut: the region that it leaves and the number of operations that are done then, operation by operation. The others cite these, not
--- the definitions. With no byte of the next operation done it is a cut between two operations.
+-- Laws of a cut: the region that it leaves and the number of operations done then, operation by operation. Other proofs cite these, not the
+-- definitions. With no byte of the next operation done it is a cut between two operations.
 use mathlib.Core.Path.{_≡_, refl, sym, ap, _∙_}
 use mathlib.Core.Bool.{Bool, true, false}
 use mathlib.Core.List.{List, [], _∷_, _++_}
@@ -76,7 +76,7 @@ done-between (suc k) (op ∷ ops) s = done-after op ops k 0 ∙ ap suc (done-bet
 
 -- ---- every call's cuts
 
--- inside the operation after those before it
+-- inside the operation that follows those before it
 cut-at : (n j : ℕ) (before rest : List Op) (op : Op) (region : List ℕ) → cutAt n (length before) j (before ++ (op ∷ rest)) region ≡ torn n j op (performed n before region)
 unfolding performed
 cut-at n j [] rest op region = cut-inside n op rest region j

@@ -1,5 +1,5 @@
--- The call that does what is due carries the invariant on, whole or cut after any of its bytes. The header sector's erase isn't begun or has
--- made byte 0 255, and the other operations lie after that byte: the magic is gone, the bank meets 3, and load gives the other one.
+-- The due call keeps the invariant, whole or cut after any of its bytes. The header sector's erase isn't begun or has made byte 0 255, and
+-- the other operations are after that byte: the magic is gone, the bank meets 3, and load gives the other one.
 use mathlib.Core.Path.{_≡_, refl, sym, ap, _∙_, subst}
 use mathlib.Core.Bool.{Bool, true, false, _||_, false≢true}
 use mathlib.Core.Logic.{_⊎_, inl, inr}
@@ -50,7 +50,7 @@ module _ (n : ℕ) (region : List ℕ) (hd : Loaded) (rs : List Source) (im : Im
   unfolding performed
   no-ops o = record { whole = k; open· = o; cut = λ i j. rw (cut-none n i j region) k }
 
-  -- one operation, of which any first bytes may be done
+  -- one operation, of which any number of bytes may be done
   pub one-op : (op : Op) → ((j : ℕ) → Kept (torn n j op region) hd rs im) → Open (applied n op region) hd w u → Carried (op ∷ []) n region hd rs im w u
   unfolding performed
   one-op op t o =
@@ -61,7 +61,7 @@ module _ (n : ℕ) (region : List ℕ) (hd : Loaded) (rs : List Source) (im : Im
       parts q zero j = rw (cut-inside n op [] region j) (t j)
       parts q (suc i) j = rw (cut-after n op [] region i j, cut-none n i j (applied n op region)) q
 
--- an operation on the bank that is written, named by the state
+-- an operation on the bank that is written, which the state names
 module _ (region : List ℕ) (hd a : Loaded) (rs : List Source) (im : Image) (k : Kept region hd rs im) (v : Live region hd a) (op : Op) where
   pub kept-unmarked-at : (j : ℕ) → marked (done j op (bankOf region (target a))) ≡ false → Kept (torn (target a) j op region) hd rs im
   kept-unmarked-at j =

@@ -1,4 +1,5 @@
--- Every list of events keeps the count: how many operations a committed update made.
+-- Every list of events keeps the count of operations (Count.antt), so a committed update has made the claimed number. By induction on the
+-- list; a cut drops the state and with it the count.
 use mathlib.Core.Path.{_≡_, refl, sym, ap, _∙_, subst}
 use mathlib.Core.Bool.{Bool, true, false, false≢true}
 use mathlib.Core.Option.{Option, none, some}

@@ -1,4 +1,5 @@
--- An operation is due exactly when the tail is full, or after closing while bytes are unwritten.
+-- An operation is due exactly if the tail is full, or after closing while bytes are unwritten: the test `isDue` says so, and a stage within
+-- its ranges agrees with that test.
 use mathlib.Core.Path.{_≡_, refl, sym, ap, _∙_}
 use mathlib.Core.Bool.{Bool, true, false, _&&_, _||_, false≢true}
 use mathlib.Core.Logic.{inl, inr}

@@ -1,4 +1,5 @@
--- What holds between the region, the state and the history, between two calls.
+-- The invariant: what holds between region, state and history between two calls. Load gives the bank held; the state is what the history
+-- notes; and the bytes are in the bank as the stage says. An operation that leaves the written bank unmarked keeps the held one.
 use mathlib.Core.Path.{_≡_, refl, ap, _∙_}
 use mathlib.Core.Bool.{Bool, true, false}
 use mathlib.Core.Logic.{_⊎_}
@@ -54,7 +55,7 @@ pub record Kept (region : List ℕ) (hd : Loaded) (rs : List Source) (im : Image
   pub given : Holds (im .bank) (im .given)
   pub small : Small hd
 
--- the bank that isn't written is the held one
+-- the bank that isn't written is the one held
 pub record Live (region : List ℕ) (hd a : Loaded) : Type 0 where
   pub active : a ≡ hd
   pub other : orElse (validated region (1 - target hd)) Nothing ≡ hd
@@ -93,14 +94,14 @@ pub record Tied (w : Writer) (u : Update) : Type 0 where
   pub noted : Noted (w .tables) (w .sources) (u .data·) (u .notes)
   pub tailed : Tailed (w .tail)
 
--- ---- how the bytes lie in the bank that is written
+-- ---- where the bytes are in the bank that is written
 
 -- nothing is done yet: the bytes are in the tail
 pub record Bare (wr fl : ℕ) (tail d : List ℕ) : Type 0 where
   pub written : wr ≡ 0
   pub all : d ≡ take fl tail
 
--- the header sector is blank, the written bytes follow, then blank bytes up to the erased sectors' end, at least lo and below hi
+-- the header sector is blank, the written bytes follow, then blank bytes up to the end of the erased sectors: at least lo, below hi
 pub record Laid (lo hi wr fl : ℕ) (tail d b : List ℕ) : Type 0 where
   pub front : List ℕ
   pub rest : List ℕ
@@ -144,7 +145,7 @@ pub record Open (region : List ℕ) (hd : Loaded) (w : Writer) (u : Update) : Ty
   pub tied : Tied w u
   pub mode : Mode (w .beginning .comparing) (w .stage) region hd (w .beginning .active) (w .taken) (w .tail) u
 
--- with no state nothing is asked; with one an update is open
+-- without a state nothing is required; with one an update is open
 abbrev pub State : List ℕ → Loaded → Option Writer → Option Update → Type 0
 State region hd none v = Unit {0}
 State region hd (some w) none = ⊥

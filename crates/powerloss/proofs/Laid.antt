@@ -1,4 +1,5 @@
--- How an update's bytes lie in its bank, and how the operations carry that on.
+-- Where an update's bytes are in its bank, and that each operation keeps it: an erase makes a sector blank, a write over blank bytes leaves
+-- its own, and the padding is 255, which changes nothing.
 use mathlib.Core.Path.{_≡_, refl, sym, ap, _∙_, subst}
 use mathlib.Core.Bool.{false}
 use mathlib.Core.List.{List, [], _++_, append-assoc, append-nil}
@@ -39,12 +40,12 @@ pub laid-blank : (lo hi wr fl : ℕ) (tail d b : List ℕ) → Laid lo hi wr fl 
 laid-blank lo hi wr fl tail d b h i l =
     ap (λ (x : List ℕ). byte x i) (h .lies) ∙ byte-fill sectorSize i (h .front ++ (fill 255 (h .gap) ++ h .rest)) l
 
--- and stays without its mark under an operation at a later place, however far that is done
+-- and stays unmarked under an operation at a later offset, however many of its bytes are done
 pub later-unmarked : (lo hi wr fl : ℕ) (tail d b : List ℕ) → Laid lo hi wr fl tail d b → (j : ℕ) (op : Op) → 0 < place op → place op ≤ length b → marked (done j op b) ≡ false
 later-unmarked lo hi wr fl tail d b h j op p l =
     no-magic (done j op b) (done-before j op 0 b p l ∙ laid-blank lo hi wr fl tail d b h 0 (omega arith))
 
--- nor does the header's write mark it, however far it is done: its byte 47 is 255
+-- nor does the header's write mark it, however many bytes are done: its byte 47 is 255
 pub head-unmarked : (lo hi wr fl : ℕ) (tail d b : List ℕ) → Laid lo hi wr fl tail d b → (j : ℕ) (k : Bank) (ss : List Source) → marked (done j (write 0 (headerBytes k ss blankWord)) b) ≡ false
 head-unmarked lo hi wr fl tail d b h j k ss =
     unmarked (done j (write 0 (headerBytes k ss blankWord)) b)
@@ -232,7 +233,7 @@ module _ (k : Bank) (ss : List Source) (ps : All Proper ss) (n : length ss ≤ 3
       ∙ sym (append-assoc t (commitBytes ++ r) y)
       ∙ ap (λ (x : List ℕ). x ++ y) (sym (header-split k ss commitBytes))
 
-  -- the data stand behind the header sector
+  -- the data are after the header sector
   pub header-data : (d rest : List ℕ) → dataOf (headerBytes k ss commitBytes ++ (fill 255 2896 ++ (d ++ rest))) (length d) ≡ d
   unfolding dataOf
   header-data d rest =

@@ -1,4 +1,5 @@
--- Laws of load: which bank's bytes decide its answer.
+-- Laws of load: only a bank's own bytes decide what validate says of it; a bank that fails leaves the answer to the other; a bank that
+-- passes and is newer, or is beside one that fails, is the answer.
 use mathlib.Core.Path.{_≡_, refl, sym, ap, _∙_, subst}
 use mathlib.Core.Bool.{Bool, true, false, false≢true}
 use mathlib.Core.List.{List}
@@ -207,7 +208,7 @@ other-held region (Found b) e g =
 other-held region Nothing e g = load-none region 1 e (omega arith) g
 other-held region (NotRead r) e g = absurd (load-read region r e g)
 
--- ---- a bank that passes and follows the other, or stands beside one that fails, is the one that load gives
+-- ---- a bank that passes and is the next after the other, or is beside one that fails, is the one that load gives
 
 fails : (region : List ℕ) (n : ℕ) (b : Bank) → length region ≡ regionSize → n ≤ 1 → validated region n ≡ Good b → (v : Validated) → validated region (1 - n) ≡ v → orElse v Nothing ≡ Nothing → loaded region ≡ Found b
 fails region n b e h g (Good c) p q = absurd (false≢true (sym (ap isFound q)))

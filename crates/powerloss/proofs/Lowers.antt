@@ -1,4 +1,5 @@
--- Every lower call, answered or cut, and a beginning, carry the invariant on.
+-- Every lower call, answered or cut, and a beginning keep the invariant. By cases on the call; the commit word is its own case, since from
+-- its last byte on load gives the new bank.
 use mathlib.Core.Path.{_≡_, refl, sym}
 use mathlib.Core.Bool.{Bool, true, false, false≢true}
 use mathlib.Core.Logic.{inl}
@@ -232,7 +233,7 @@ begin-open region hd c now f l e ok =
       mode = begin-mode c region hd now l e;
     }
 
--- the new state, where the beginning is answered
+-- the new state, if the beginning is answered
 pub begun-open : (region : List ℕ) (hd : Loaded) (rs : List Source) (im : Image) (c : Bool) (now : ℤ) → SFits w64 now → Kept region hd rs im → answerOf hd ≡ Done
     → Open region hd (started hd c now) (takes [] (opened hd now))
 begun-open region hd rs im c now f k d = begin-open region hd c now f (k .size) (k .loads) (active-ok region hd (k .size) (k .loads))

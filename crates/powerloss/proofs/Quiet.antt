@@ -1,4 +1,5 @@
--- The calls that do no flash operation carry the invariant on.
+-- The calls that do no flash operation keep the invariant: the region stays, and what the call changes in the state is what the history
+-- notes of it. Source, table, table end and unchanged, each by the cases of its answer.
 use mathlib.Core.Path.{_≡_, refl, sym, ap, _∙_, subst}
 use mathlib.Core.Bool.{Bool, true, false, not, _&&_, false≢true}
 use mathlib.Core.Logic.{inl, inr}
@@ -94,7 +95,7 @@ proper-last rs t b h k q =
     let i = length rs - 1 in
     all-set Proper rs i (withBlock (getD rs i pastEnd) t b) h (proper-block (getD rs i pastEnd) t b (all-at Proper rs i pastEnd h (omega arith)) q)
 
--- ---- stages that may take
+-- ---- stages that may append
 
 no-head : (c : Bool) (t : Taken) (n : Note) (u : Update) (tail b : List ℕ) (st : Stage) → t .closed ≡ false → stageOk c t st ≡ true → Lies st t tail u b → Lies st t tail (notesOf n u) b
 no-head c t n u tail b Idle e k h = h
@@ -116,7 +117,7 @@ only-idle c t (Due o) k e d = true-false (isDue t) (due-ok c t o k .0) d
 only-idle c t HeaderWritten k e d = true-false (t .closed) (headed-end c t k .closed) e
 only-idle c t Committed k e d = true-false (t .closed) (committed-end c t k .closed) e
 
--- what is due then, where nothing was due
+-- what is due then, if nothing was due
 module _ (t : Taken) (tail : List ℕ) (u : Update) (b : List ℕ) (m : t .written % tailSize ≡ 0) where
   pub data-lies : Laid 0 sectorSize (t .written) (t .fill) tail (u .data·) b → (z : Bool) → eqb (t .written % sectorSize) 0 ≡ z → Lies (Due (pick z (Erase (t .written / sectorSize + 1)) (writeDue t))) t tail u b
   data-lies h true e = subst (λ (k : ℕ). Lies (Due (Erase k)) t tail u b) (sym (add-one (t .written / sectorSize))) h

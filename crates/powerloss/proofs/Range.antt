@@ -1,4 +1,5 @@
--- States stay within their ranges.
+-- States stay within their ranges: each change of bytes, stage or tables that a call makes keeps the tests of `inRange`. By cases on the
+-- tests.
 use mathlib.Core.Path.{_≡_, refl, sym, ap, _∙_}
 use mathlib.Core.Bool.{Bool, true, false, not, _&&_, _||_, false≢true, and-false}
 use mathlib.Core.Logic.{_⊎_, inl, inr}
@@ -46,7 +47,7 @@ or-either false b e = inr e
 pub true-false : {A : Type 0} (a : Bool) → a ≡ true → a ≡ false → A
 true-false a e f = absurd (false≢true (sym f ∙ e))
 
--- ---- what was taken
+-- ---- the bytes appended
 
 pub open-aligned : (t : Taken) → takenOk t ≡ true → t .closed ≡ false → t .written % tailSize ≡ 0
 unfolding takenOk
@@ -55,7 +56,7 @@ open-aligned t e c =
     let f : (eqb (t .written % tailSize) 0 || false) ≡ true = ap (λ (x : Bool). eqb (t .written % tailSize) 0 || (x && eqb (t .fill) 0)) (sym c) ∙ a in
     eqb-true (t .written % tailSize) 0 (or-left (eqb (t .written % tailSize) 0) f)
 
--- while the tail holds bytes the count is a multiple of 256
+-- while the tail holds bytes, the number of bytes written is a multiple of 256
 pub tail-aligned : (t : Taken) → takenOk t ≡ true → 0 < t .fill → t .written % tailSize ≡ 0
 unfolding takenOk
 tail-aligned t e p =
@@ -126,7 +127,7 @@ pub stage-ok : (c : Bool) (t : Taken) → stageOk c t (stageOf c t) ≡ true
 unfolding stageOf
 stage-ok c t = stage-by c t (isDue t) refl
 
--- a stage that is due
+-- a stage with an operation due
 pub due-ok : (c : Bool) (t : Taken) (o : Operation) → stageOk c t (Due o) ≡ true → (isDue t ≡ true) × (operationOk c t o ≡ true)
 unfolding stageOk
 due-ok c t o e = (and-left (isDue t) (operationOk c t o) e, and-right (isDue t) (operationOk c t o) e)
@@ -208,7 +209,7 @@ closed-empty t c e =
     let f : ltb 0 (t .fill) ≡ false = ap (λ (x : Bool). x && ltb 0 (t .fill)) (sym c) ∙ or-both (eqb (t .fill) tailSize) (t .closed && ltb 0 (t .fill)) e .1 in
     omega (arith, ltb-false 0 (t .fill) f)
 
--- nothing is due: the tail has room
+-- nothing is due: the tail isn't full
 pub idle-room : (t : Taken) → isDue t ≡ false → takenOk t ≡ true → t .fill < tailSize
 unfolding isDue
 idle-room t e k =

@@ -1,4 +1,5 @@
--- Laws of the history: the records that its notes come to.
+-- The records that the history's notes give: what one note more adds, and that later bytes don't change a block that is ended. By induction
+-- on the notes.
 use mathlib.Core.Path.{_≡_, refl, sym, ap, _∙_}
 use mathlib.Core.List.{List, [], _∷_, _++_}
 use Prim.Native.Nat.{ℕ, zero, suc, _+_, _-_, _≤_, _<_}
@@ -13,7 +14,7 @@ use Rattle.record.specs.Types.{All}
 use Rattle.lower.specs.Lower.{emptied, pastEnd, withBlock}
 use Rattle.powerloss.specs.History.{Note, sourceNote, tableNote, endNote, blockBetween, lastWith, recordsAfter}
 
--- the table of the last table note, and where it starts
+-- the table of the last table note, and its start
 abbrev pub tableOf : ℕ → List Note → ℕ
 tableOf t [] = t
 tableOf t (sourceNote s ∷ ns) = tableOf t ns
@@ -60,7 +61,7 @@ module _ (xs : List ℕ) (ns : List Note) where
   unfolding recordsAfter
   records-end n = records-append xs [] 0 0 ns (endNote n ∷ [])
 
--- a block whose end is the count of bytes: bytes that come later change nothing
+-- a block that ends at the number of bytes so far: later bytes change nothing
 pub block-is : (xs ys : List ℕ) (from : ℕ) → from ≤ length xs → blockBetween (xs ++ ys) from (length xs) ≡ record { offset = from; length = length xs - from; crc = crc32 0 (drop from xs) }
 unfolding blockBetween
 block-is xs ys from h =
@@ -82,7 +83,7 @@ last-source ss n t b h k =
     ∙ ap (λ (s : Source). set (take n ss) (n - 1) (withBlock s t b)) g
     ∙ sym (take-set-lt n ss (n - 1) (withBlock (getD ss (n - 1) pastEnd) t b) (omega arith))
 
--- ---- what holds of each
+-- ---- what holds of each element
 
 pub all-append : {A : Type 0} (P : A → Type 0) (xs ys : List A) → All P xs → All P ys → All P (xs ++ ys)
 unfolding All

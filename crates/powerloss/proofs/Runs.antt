@@ -1,4 +1,5 @@
--- Runs of lower calls, none the commit word, carry the invariant on, whole or cut after any byte of any operation.
+-- Runs of lower calls, none the commit word, keep the invariant, whole or cut after any byte of any operation. By induction on the run: a
+-- cut is in the first call's operations or in those of the rest.
 use mathlib.Core.Path.{_≡_, refl, sym, _∙_, subst}
 use mathlib.Core.List.{List, [], _∷_, _++_}
 use Prim.Native.Nat.{ℕ, zero, suc}
@@ -55,7 +56,7 @@ same-number c Same u = refl
 same-number c Different u = refl
 same-number c (Refused r) u = refl
 
--- a cut of operations one after the other falls among the first ones or among the others
+-- a cut in a list of operations is among the first ones or among the others
 cut-run : (n : ℕ) (ops rest : List Op) (region : List ℕ) (hd : Loaded) (rs : List Source) (im : Image) → ((k j : ℕ) → Kept (cutAt n k j ops region) hd rs im)
     → ((k j : ℕ) → Kept (cutAt n k j rest (performed n ops region)) hd rs im) → (k j : ℕ) → Kept (cutAt n k j (ops ++ rest) region) hd rs im
 unfolding performed

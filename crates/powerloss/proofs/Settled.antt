@@ -1,4 +1,5 @@
--- An upper beginning that is answered leaves nothing due.
+-- An upper beginning that is answered leaves nothing due: each byte of the key is appended with the due calls after it, which leave nothing
+-- due (Appends.antt).
 use mathlib.Core.Path.{_≡_, refl, ap}
 use mathlib.Core.Bool.{Bool, false, false≢true}
 use mathlib.Core.Option.{Option, none, some}
@@ -28,7 +29,7 @@ use Rattle.powerloss.proofs.Appends.{Now, regionThree, writerThree, thr
 use Rattle.powerloss.proofs.Uppers.{done-by, inv-found, inv-all}
 use Rattle.powerloss.specs.Operations.{BeginSettled}
 
--- nothing is due after bytes are fed, each with what is due then
+-- nothing is due after bytes are appended, each with what is due then
 appends-still : (hd : Loaded) (rs : List Source) (im : Image) (xs region : List ℕ) (w : Writer) (u : Update) → Now hd rs im region w u → isDue (w .taken) ≡ false → Bytes xs
     → isDue (ranWriter region w (appends xs) .taken) ≡ false
 unfolding appends ranWriter

@@ -1,4 +1,5 @@
--- What else holds of the states that a list of calls reaches: they are within their ranges, and an upper call leaves nothing due.
+-- What else holds of the states that a list of calls reaches: they are within their ranges, and an upper call that is answered leaves
+-- nothing due, since its run ends with three due calls.
 use mathlib.Core.Path.{_≡_, refl, sym, ap, _∙_, subst}
 use mathlib.Core.Bool.{Bool, true, false, false≢true}
 use mathlib.Core.Option.{Option, none, some}

@@ -1,4 +1,5 @@
--- Bytes and closing carry the invariant on.
+-- Appending bytes and closing keep the invariant: the bytes go into the tail and into the history alike, both CRCs go on over them, and the
+-- region stays.
 use mathlib.Core.Path.{_≡_, refl, sym, ap, _∙_, subst}
 use mathlib.Core.Bool.{Bool, true, false, not, _&&_}
 use mathlib.Core.Logic.{inl, inr}
@@ -35,7 +36,7 @@ use Rattle.powerloss.proofs.Inv.{Lies, Mode, Open}
 use Rattle.powerloss.proofs.Range.{range-of, open-aligned, taken-of, aligned-of, stage-ok, close-stage, close-taken, tables-later}
 use Rattle.powerloss.proofs.Quiet.{only-idle, mode-stage, takes-nil}
 
--- the tail once bytes are put behind what it holds
+-- the tail once bytes are appended to what it holds
 tail-more : (tail : List ℕ) (n : ℕ) (ys : List ℕ) → n + length ys ≤ length tail → take (n + length ys) (sets tail n ys) ≡ take n tail ++ ys
 tail-more tail n ys h =
     let l : length (take n tail ++ ys) ≡ n + length ys = length-append (take n tail) ys ∙ omega (arith, length-take-le n tail (omega arith)) in

@@ -1,4 +1,4 @@
--- What upper calls take are bytes: key, dates, names line, row.
+-- What upper calls append are bytes: key, dates, names line and row, since their texts are and every byte added is below 256.
 use mathlib.Core.Path.{_≡_, refl}
 use mathlib.Core.Bool.{Bool, true, false}
 use mathlib.Core.List.{List, [], _∷_, _++_}

@@ -1,4 +1,5 @@
--- Every upper call, answered or cut, carries the invariant on: demand 3.
+-- Every upper call, answered or cut, keeps the invariant, and so does every list of events: demand 3. An accepted call's run is a run of
+-- lower calls that appends all of its bytes, so the history's note of the call and those of its run agree.
 use mathlib.Core.Path.{_≡_, refl, sym, ap, _∙_, subst}
 use mathlib.Core.Bool.{Bool, true, false, not, false≢true}
 use mathlib.Core.Option.{Option, none, some}
@@ -139,7 +140,7 @@ module _ (hd : Loaded) (rs : List Source) (im : Image) (region : List ℕ) (w : 
         ∙ dues-update region (withClosed w) [] u
         ∙ unfold ranUpdate in (sym (takes-nil u))
 
--- ---- an accepted call's run takes all of its bytes, and notes its own
+-- ---- the run of an accepted call appends all of its bytes and has the call's own note
 
 record Accepted (w : Writer) (c : Upper) : Type 0 where
   argument : argumentOk c ≡ true
@@ -341,7 +342,7 @@ unfolding nextAll
 inv-all [] r p h = h
 inv-all (e ∷ es) r p h = inv-all es (next r e) (p .1) (inv-next r e (p .0) h)
 
--- at first
+-- at the start
 small-by : (region : List ℕ) (hd : Loaded) → length region ≡ regionSize → Bytes region → loaded region ≡ hd → Small hd
 unfolding generation bankOf
 small-by region (Found b) l y e =

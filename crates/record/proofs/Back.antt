@@ -1,4 +1,5 @@
--- A record that was written reads back.
+-- A record that was written reads back: each field is at its offset, after the fields before it, whose lengths are known. Versions 1 and 2
+-- have one table fewer, and what a shorter record lacks reads as zeros.
 use mathlib.Core.Path.{_≡_, refl, ap, _∙_, sym}
 use mathlib.Core.List.{List, [], _∷_, _++_, append-assoc, append-nil}
 use Prim.Native.Nat.{ℕ, _+_, _≤_}

@@ -1,4 +1,5 @@
--- What a record's writers leave, joined.
+-- What the writers of a record's parts leave, joined: parts stored one right after the other are stored as one, so the whole is
+-- `sourceBytes`, of 384 bytes.
 use mathlib.Core.Path.{_≡_, refl, ap, _∙_}
 use mathlib.Core.List.{List, [], _∷_, _++_, append-assoc}
 use Prim.Native.Nat.{ℕ, _+_}

@@ -1,4 +1,5 @@
--- What was written reads back: a run of things of one size, wherever it stands.
+-- A list of elements of one size that was written reads back, at whatever offset it is: a reader that looks only from its offset on sees
+-- each element after the ones before it.
 use mathlib.Core.Path.{_≡_, refl, ap, _∙_}
 use mathlib.Core.List.{List, [], _∷_, _++_, append-assoc}
 use Prim.Native.Nat.{ℕ, suc, zero, _+_, _<_, _≤_}
@@ -45,7 +46,7 @@ bytes-back m p q k n e h = many-at byte 1 byte-shifts n p (m ++ q) k e ∙ rw (�
 pub words-back : (xs : List ℕ) → All (λ n. n < 4294967296) xs → (p q : List ℕ) (k n : ℕ) → length p ≡ k → length xs ≡ n → many word 4 (p ++ (puts le32 xs ++ q)) k n ≡ xs
 words-back = run-back word 4 word-shifts le32 (λ n. n < 4294967296) length-le32 (λ n h q. word-front n q h)
 
--- past the end a run of bytes is zeros
+-- past the end bytes read as zeros
 pub past : (n : ℕ) (l : List ℕ) (at : ℕ) → length l ≤ at → many byte 1 l at n ≡ fill 0 n
 unfolding many fill
 past zero l at h = refl

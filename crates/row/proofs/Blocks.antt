@@ -1,4 +1,5 @@
--- What a block of 64 bytes does to what is left to write.
+-- What a block of 64 bytes does to what is left to write. With no quote it is copied; with one, 64 bytes are copied twice, the second time
+-- from the quote on and one byte later, and what is too much is overwritten by the rest.
 use Prim.Native.Nat.{ℕ, suc, _+_, _-_, _≤_, _<_}
 use native.Mathlib.Omega.{arith}
 use native.Mathlib.Decide.{decLt}
@@ -13,7 +14,7 @@ use Rattle.row.specs.Steps.{FirstQuote}
 use Rattle.row.proofs.Laws.{doubled-split, doubled-less, doubled-same, doubled-quote, doubled-out, plain-doubled, rest-is, sets-over}
 use Rattle.csv.specs.Csv.{quote}
 
--- a quote between a and b is written twice, and z, behind them, is written over by c
+-- a quote between a and b is written twice, and z, after them, is overwritten by c
 twice-over : (out a b z c : List ℕ) (to : ℕ) → length z ≤ length c
     → sets (sets (sets out to (a ++ (quote ∷ b))) (suc (to + length a)) ((quote ∷ b) ++ z)) (suc (to + length a) + length (quote ∷ b)) c ≡ sets out to (a ++ (quote ∷ quote ∷ (b ++ c)))
 twice-over out a b z c to h =
@@ -27,11 +28,11 @@ twice-over out a b z c to h =
     let k : sets out to (a ++ (quote ∷ quote ∷ (b ++ c))) ≡ sets w r c = sets-append out to a (quote ∷ quote ∷ (b ++ c)) ∙ sets-append o (suc p) (quote ∷ b) c in
     ap (λ (l : List ℕ). sets (sets l (suc p) ((quote ∷ b) ++ z)) r c) i ∙ ap (λ (l : List ℕ). sets l r c) j ∙ sets-over w r z c h ∙ sym k
 
--- what a block does: o is what out becomes, r where it ends
+-- what a block does: o is what out becomes, r the offset of its end
 abbrev pub Blocked : List ℕ → List ℕ → List ℕ → ℕ → ℕ → Type 0
 Blocked v out o to r = (r ≡ to + length (doubled (take 64 v))) × (sets o r (doubled (drop 64 v)) ≡ sets out to (doubled v))
 
--- its bytes are put, and those behind it are left
+-- its bytes are written, and those after it are left to write
 pub block-each : (v out o : List ℕ) (to r : ℕ) → r ≡ to + length (doubled (take 64 v)) → o ≡ sets out to (doubled (take 64 v)) → Blocked v out o to r
 block-each v out o to r m e =
     (m, rw (m, e) (sym (ap (sets out to) (doubled-split 64 v) ∙ sets-append out to (doubled (take 64 v)) (doubled (drop 64 v)))))
@@ -104,7 +105,7 @@ module _ (v out o : List ℕ) (to : ℕ) (h : 64 ≤ length v) where
         ∙ ap (λ (z : List ℕ). sets z (suc (to + length a)) ((quote ∷ b) ++ take f c)) (e ∙ ap (sets out to) block-split) in
         (omega (arith, n, whole), rw (k, end) (twice-over out a b (take f c) (doubled c) to s ∙ ap (sets out to) (sym block-both)))
 
--- a block more of v is put
+-- one more block of v is written
 pub blocks-turn : (v out₀ out o : List ℕ) (to i n r : ℕ)
     → Blocked (take (length v - i) (drop i v)) out o n r → n + length (doubled (drop i v)) ≡ to + length (doubled v) → sets out n (doubled (drop i v)) ≡ sets out₀ to (doubled v)
     → (length o ≡ length out) × (r + length (doubled (drop (i + 64) v)) ≡ to + length (doubled v)) × (sets o r (doubled (drop (i + 64) v)) ≡ sets out₀ to (doubled v))
@@ -115,6 +116,6 @@ blocks-turn v out₀ out o to i n r b m e =
     let k = sym (length-sets o r (doubled (drop 64 (drop i v)))) ∙ ap length (w .1) ∙ length-sets out n (doubled (drop i v)) in
     (k, omega (arith, w .0, l, m, ap (λ (z : List ℕ). length (doubled z)) d), ap (λ (z : List ℕ). sets o r (doubled z)) (sym d) ∙ w .1 ∙ e)
 
--- what is left of v is put
+-- what is left of v is written
 pub blocks-end : (v o p w : List ℕ) (i n : ℕ) → p ≡ sets o n (doubled (take (length v - i) (drop i v))) → sets o n (doubled (drop i v)) ≡ w → p ≡ w
 blocks-end v o p w i n e b = e ∙ ap (λ (z : List ℕ). sets o n (doubled z)) (rest-is v i) ∙ b

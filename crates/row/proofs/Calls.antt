@@ -1,4 +1,4 @@
--- The calls' answers, one lemma a case.
+-- The answers of the calls, one lemma a case, in the order of the tests: table, number of values, length of the row, size of the output.
 use Prim.Native.Nat.{ℕ, _≤_, _<_, min, _+_}
 use native.Mathlib.Omega.{arith}
 use mathlib.Core.Path.{_≡_, refl, sym, ap, _∙_}

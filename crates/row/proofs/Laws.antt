@@ -1,4 +1,5 @@
--- What a loop's turn does to what is left to write.
+-- What a turn of each loop does to what is left to write: the output with the rest stored after it stays the same list. This is the
+-- invariant of every loop that writes; for those that count, the count so far and that of the rest add up.
 use Prim.Native.Nat.{ℕ, zero, suc, _+_, _-_, _≤_, _<_, min}
 use native.Mathlib.Omega.{arith}
 use native.Mathlib.Decide.{decLt}
@@ -64,7 +65,7 @@ counted-yes v i n h e k = (λ z. absurd (omega arith), λ z. go (decLt 0 n))
 pub counted-no : (v : List ℕ) (i n : ℕ) → i < length v → special (getD v i 0) ≡ false → Counted v i n → Counted v (i + 1) n
 counted-no v i n h e k = (λ z. sym (any-turn v i h e) ∙ k .0 z, k .1)
 
--- the first n bytes, and those behind them
+-- the first n bytes, and those after them
 special-split : (n : ℕ) (v : List ℕ) → anySpecial v ≡ anySpecial (take n v) || anySpecial (drop n v)
 unfolding anySpecial
 special-split zero v = refl
@@ -89,7 +90,7 @@ doubled-split (suc n) (b ∷ v) = go (eqb b quote) (doubled-split n v)
     go true e = ap (λ (l : List ℕ). quote ∷ quote ∷ l) e
     go false e = ap (λ (l : List ℕ). b ∷ l) e
 
--- k bytes from a place on, and those behind them
+-- k bytes from an offset on, and those after them
 pub doubled-part : (v : List ℕ) (i k : ℕ) → doubled (drop i v) ≡ doubled (take (i + k - i) (drop i v)) ++ doubled (drop (i + k) v)
 doubled-part v i k =
     let n : i + k - i ≡ k = omega arith in
@@ -113,7 +114,7 @@ pub doubled-out : (v : List ℕ) (i : ℕ) → length v ≤ i → doubled (drop 
 unfolding doubled
 doubled-out v i h = rw (drop-of-length-le v h)
 
--- quotes counted in 64 bytes more, and in the rest
+-- quotes counted in 64 more bytes, and in the rest
 pub count-turn : (v : List ℕ) (i n q : ℕ) → 64 ≤ length v - i → q + length (take (i + 64 - i) (drop i v)) ≡ length (doubled (take (i + 64 - i) (drop i v)))
     → n + length (doubled (drop i v)) ≡ length (doubled v) + (length v - i) → n + q + length (doubled (drop (i + 64) v)) ≡ length (doubled v) + (length v - (i + 64))
 count-turn v i n q h e f =
@@ -136,7 +137,7 @@ doubled-less (b ∷ v) = go (eqb b quote) (doubled-less v)
     go true h = omega arith
     go false h = omega arith
 
--- a value that takes no more room with its quotes doubled has none
+-- a value that isn't longer with its quotes doubled has none
 pub doubled-same : (v : List ℕ) → length (doubled v) ≡ length v → doubled v ≡ v
 unfolding doubled
 doubled-same [] e = refl
@@ -175,7 +176,7 @@ set-early : (o : List ℕ) (k m c : ℕ) (b : List ℕ) → k < m → set (sets 
 set-early o k m c [] h = refl
 set-early o k m c (x ∷ b) h = set-early (set o m x) k (suc m) c b (omega arith) ∙ ap (λ (l : List ℕ). sets l (suc m) b) (set-comm o m k x c (λ e. omega arith))
 
--- what is written over is as if it had not been written
+-- what is overwritten might as well not have been written
 pub sets-over : (o : List ℕ) (k : ℕ) (b c : List ℕ) → length b ≤ length c → sets (sets o k b) k c ≡ sets o k c
 sets-over o k [] c h = refl
 sets-over o k (x ∷ b) [] h = absurd (omega arith)
@@ -217,7 +218,7 @@ module _ (v : List ℕ) (i r k : ℕ) (h : r ≤ k) (g : k ≤ length v - i) (q 
       let t : sets out n (take k (drop i v)) ≡ sets (sets out n a) (n + r) b = ap (sets out n) w ∙ sets-append out n a b ∙ ap (λ (z : ℕ). sets (sets out n a) z b) p in
       ap (sets out n) run-doubled ∙ sets-append out n a c ∙ ap (λ (z : ℕ). sets (sets out n a) z c) p ∙ sym (sets-over (sets out n a) (n + r) b c s) ∙ ap (λ (l : List ℕ). sets l (n + r) c) (sym t)
 
--- what a run does: o is what out becomes, r how far it goes
+-- what a run does: o is what out becomes, r how many bytes it goes on by
 pub record Ran (v out o : List ℕ) (i n r : ℕ) : Type 0 where
   pub inside : i + r ≤ length v
   pub size : length (doubled (drop i v)) ≡ r + length (doubled (drop (i + r) v))
@@ -290,7 +291,7 @@ run-close v out o to r h f e =
 pub run-far : (v out o : List ℕ) (to r : ℕ) → 64 ≤ length v → FirstQuote (take 64 v) r → o ≡ sets out to (take 64 v) → FirstQuote (take 64 v) r × (o ≡ sets out to (take (pick (leb 64 (length v)) 64 r) v))
 run-far v out o to r h f e = (f, rw (le-leb 64 (length v) h) e)
 
--- n is the least place of a quote before i, the length for none
+-- n is the least index of a quote before i, the length if there is none
 abbrev pub Least : List ℕ → ℕ → ℕ → Type 0
 Least v i n = (n ≤ length v) × ((j : ℕ) → j < n → j < i → getD v j 0 ≡ quote → ⊥) × (n < length v → (n < i) × (getD v n 0 ≡ quote))
 
@@ -354,7 +355,7 @@ drop-min n l = go (decLt n (length l))
     go (yes h) = let e : min n (length l) ≡ n = omega arith in rw e
     go (no h) = let a : length l ≤ min n (length l) = omega arith in let b : length l ≤ n = omega arith in drop-of-length-le l a ∙ sym (drop-of-length-le l b)
 
--- what is left to write of the values, from length k and place `from` on
+-- what is left to write of the values, from length k and offset `from` on
 abbrev pub left : List ℕ → List ℕ → ℕ → ℕ → List (List ℕ)
 left texts lengths k from = cutBy (drop k lengths) (drop from texts)
 
@@ -421,7 +422,7 @@ field-bound v = go (anySpecial v)
     go true = omega (arith, quoted-length v, doubled-most v)
     go false = omega arith
 
--- a field of its value's size is its value; one of another size is quoted
+-- a field as long as its value is its value; one of another size is quoted
 pub field-plain : (v : List ℕ) → length (fieldOf v) ≡ length v → fieldOf v ≡ v
 unfolding fieldOf
 field-plain v e = go (anySpecial v) e
@@ -439,7 +440,7 @@ field-special v h = go (anySpecial v) refl
 
 -- ---- the sizes of the fields
 
--- what is to be shown of the sizes of all values, where those before k are known
+-- what is to be shown of the sizes of all values, if those before k are known
 abbrev pub Known : List ℕ → ℕ → List (List ℕ) → List (List ℕ) → Type 0
 Known sizes k all vs = (s : List ℕ) → ((j : ℕ) → j < k → getD s j 0 ≡ getD sizes j 0) → Sizes s k vs → Sizes s 0 all
 

@@ -1,4 +1,5 @@
--- The tables of the code: how many columns a table has, and where its names line stands.
+-- The code's constants are right: the number of columns of each table, and the offsets of the names lines in the constant that joins them.
+-- Each is computed for the eight tables.
 use Prim.Native.Nat.{ℕ, zero, suc, _+_, _-_, _≤_, _<_}
 use native.Mathlib.Omega.{arith}
 use native.Mathlib.Decide.{decLt}
@@ -29,7 +30,7 @@ columns-past t h = List·getD-eq-default columns [] {n = t} (omega (arith, eight
 pub count-past : (t : ℕ) → lastTable < t → 0 ≡ columnCount t
 count-past t h = sym (ap length (columns-past t h))
 
--- what holds at each of eight numbers holds below eight
+-- what holds of 0 to 7 holds below eight
 below : (P : ℕ → Type 0) → P 0 → P 1 → P 2 → P 3 → P 4 → P 5 → P 6 → P 7 → (t : ℕ) → t < 8 → P t
 below P a b c d e f g i zero h = a
 below P a b c d e f g i (suc zero) h = b
@@ -49,7 +50,7 @@ pub count-most : (t : ℕ) → t ≤ lastTable → columnCount t ≤ maxColumns
 unfolding columnsOf columns
 count-most t h = below (λ t. length (getD columns t []) ≤ maxColumns) (omega arith) (omega arith) (omega arith) (omega arith) (omega arith) (omega arith) (omega arith) (omega arith) t (omega arith)
 
--- where the names line of a table stands among all of them
+-- where a table's names line is in the constant
 pub record Stands (t : ℕ) : Type 0 where
   pub rises : getD starts t 0 ≤ getD starts (t + 1) 0
   pub inside : getD starts (t + 1) 0 ≤ length allLines
@@ -76,7 +77,7 @@ none : (vs : List (List ℕ)) → vs ≡ [] → line vs ≡ rowOf vs
 unfolding line rowOf
 none vs e = rw e
 
--- no name is quoted, so a names line is a row
+-- no name needs quotes, so a names line is a row
 pub names-are-a-row : NamesAreARow
 names-are-a-row t = go (decLt t 8)
   where

@@ -1,4 +1,5 @@
--- The call's answers, one lemma a case.
+-- The call's answers, one lemma a case: offset past the end, at the end, no row, an output too small, a row. A fast path's result is the
+-- row's as well, since both hold what the reader reads.
 use Prim.Native.Nat.{ℕ, _+_, _-_, _≤_, _<_, min}
 use native.Mathlib.Omega.{arith}
 use native.Mathlib.Decide.{decLt}
@@ -49,7 +50,7 @@ pub record Answers (table : List ℕ) (width place : ℕ) (out ends : List ℕ) 
   pub bytes : o ≡ after r (joined (valuesAt table width place)) out
   pub marks : e ≡ after r (endsOf 0 (valuesAt table width place)) ends
 
--- outputs to which nothing was written yet
+-- outputs that nothing was written to yet
 pub since : {table : List ℕ} {width place : ℕ} {out ends o s p q : List ℕ} {r : ReadAnswer} → o ≡ out → s ≡ ends → Answers table width place o s r p q → Answers table width place out ends r p q
 since e f a = rw (e, f) at a
 
@@ -131,7 +132,7 @@ module _ (table : List ℕ) (width place : ℕ) (out ends : List ℕ) where
               marks = w ∙ sym (written-sets ends 0 (endsOf 0 (valuesAt table width place)) (omega arith));
             }
 
-    -- by a quick way
+    -- by a fast path
     pub read-quick : {o s : List ℕ} {next size : ℕ} → Holds (partAt table place) 0 0 0 width out ends o s next size → Answers table width place out ends (Stored (place + next) size) o s
     unfolding scanOf
     read-quick {o} {s} {next} {size} x =

@@ -1,4 +1,5 @@
--- What a turn of a loop that copies does to what is left to copy.
+-- What a turn of each copying loop does to what is left to copy: the output with the rest stored after it stays the same list. The rest is
+-- what the reader's definition gives from the offset on.
 use Prim.Native.Nat.{ℕ, suc, _+_, _-_, _≤_, _<_}
 use native.Mathlib.Omega.{arith}
 use native.Mathlib.Decide.{decLt}
@@ -48,7 +49,7 @@ part-none t i end h = let m : end - i ≡ 0 = omega arith in rw m
 
 -- ---- a quoted value
 
--- g is a value with r behind it
+-- g is a value followed by r
 abbrev pub Has : Got → List ℕ → Type 0
 Has g r = g ≡ got (valueOf g) r
 
@@ -76,7 +77,7 @@ run-has (b ∷ bs) r h = go (isStop b) refl (run-has bs r)
         let x = f (w .0) in
         (x .0, ap valueOf p ∙ w .1 ∙ ap (λ (l : List ℕ). b ∷ l) (x .1))
 
--- a run without stops, from p to e
+-- a run without delimiters, from p to e
 module _ (t : List ℕ) (p e : ℕ) (r : List ℕ) (h : Has (inner (drop p t)) r) (q : e ≡ p + length (lineOf (drop p t))) where
   pub run-left : Has (inner (drop e t)) r
   run-left = has-same (inner (drop (length (lineOf (drop p t))) (drop p t))) (inner (drop e t)) r (ap inner (run-end t p e q)) (run-has (drop p t) r h .0)
@@ -114,7 +115,7 @@ module _ (t : List ℕ) (p : ℕ) (r : List ℕ) (h : Has (inner (drop p t)) r) 
       let w = push-has quote (inner (drop (p + 1 + 1) t)) r (has-same _ _ r q h) in
       (past t (p + 1) 33 d, w .0, ap valueOf q ∙ w .1 ∙ rw e)
 
-  -- a quote that no other follows closes
+  -- a quote that no other follows ends the value
   pub copy-close : getD t p 0 ≡ quote → (getD t (p + 1) 0 ≡ quote → ⊥) → (valueOf (inner (drop p t)) ≡ []) × (p + 1 ≡ length t - length r)
   copy-close e d =
       let i : inner (drop p t) ≡ got [] (drop (p + 1) t) = inner-close t p copy-inside e d in
@@ -129,13 +130,13 @@ sets-done out n v e = rw e
 
 -- ---- the values of a row, one by one
 
--- values that stand in t from a place on, one after the other
+-- values that are in t from an offset on, one after the other
 pub data Fields (t : List ℕ) : ℕ → List (List ℕ) → Type 0 where
   none : {from : ℕ} → Fields t from []
   one : {from place : ℕ} {v : List ℕ} {vs : List (List ℕ)} → from ≤ length t → place < length t → fieldAt (drop from t) ≡ got v (drop place t)
       → Fields t (place + 1) vs → Fields t from (v ∷ vs)
 
--- a rest that is not empty starts inside
+-- a rest that is not empty starts inside t
 starts : (t r : List ℕ) (b : ℕ) → b ∷ r ≡ drop (length t - length (b ∷ r)) t → length t - length (b ∷ r) < length t
 starts t r b e = omega (arith, ap length e, length-drop (length t - length (b ∷ r)) t)
 
@@ -172,7 +173,7 @@ is-got g v r e = rw e
 pub place-of : (t : List ℕ) (g : Got) (v : List ℕ) (place : ℕ) → place < length t → g ≡ got v (drop place t) → length t - length (restOf g) ≡ place
 place-of t g v place h e = rw e (omega (arith, length-drop place t))
 
--- what is left to copy: values from a place on, behind `to` bytes and k ends
+-- what is left to copy: values from an offset on, after `to` bytes and k ends
 pub record Left (t out₀ ends₀ : List ℕ) (width : ℕ) (out ends : List ℕ) (from to k : ℕ) : Type 0 where
   pub values : List (List ℕ)
   pub fields : Fields t from values

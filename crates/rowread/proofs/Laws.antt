@@ -1,4 +1,5 @@
--- What a loop's turn does to what is left to read.
+-- What a turn of each scanning loop does to what is left to read: the size so far and that of the rest add up to the reader's. By cases on
+-- the byte: text, quote, comma, LF.
 use Prim.Native.Nat.{ℕ, zero, suc, _+_, _-_, _≤_, _<_}
 use native.Mathlib.Omega.{arith}
 use native.Mathlib.Decide.{decLt}
@@ -147,7 +148,7 @@ plain-piece t i e l h q =
 
 -- ---- a row
 
--- what a piece tells of the value
+-- what a piece says of the value
 pub record IsValue (t : List ℕ) (from to size : ℕ) : Type 0 where
   pub value : List ℕ
   pub read : fieldAt (drop from t) ≡ got value (drop to t)
@@ -222,7 +223,7 @@ end-inside t to h = rw (first t to) (go (eqb (getD t to 0) lineFeed) refl (λ q.
     go true e n = let p : to < length t = past t to 9 (eqb-true (getD t to 0) lineFeed e) in omega arith
     go false e n = absurd (n refl)
 
--- one value is left
+-- one value is left to read
 module _ (t : List ℕ) (s from to size : ℕ) (p : IsValue t from to size) where
   pub scan-last : (e : ℕ) → e ≡ rowEnd (drop to t) → (e ≡ 0 → ⊥) → Whole (to + e) (s + size) ≡ scanFrom (length t) s (values 1 (drop from t))
   unfolding values ended joined

@@ -1,4 +1,6 @@
--- Rows without quotes: what a turn of their loops does, and that they are rows.
+-- Rows without quotes: what a turn of their loops does to what is left, and why the result is a row of the grammar. The bytes before the
+-- first delimiter (a quote or LF) are plain values with commas between them: with LF after them they are a row, with a quote after a comma
+-- the first values of one.
 use Prim.Native.Nat.{ℕ, zero, suc, _+_, _-_, _≤_, _<_, min}
 use native.Mathlib.Decide.{decLt}
 use native.Mathlib.Omega.{arith}
@@ -19,7 +21,7 @@ use Rattle.rowread.specs.Stored.{joined, endsOf}
 use Rattle.rowread.specs.Steps.{pieceOf, isStop, FirstStop, lineOf, commasIn, textIn, cutsIn, marksIn, anyStop, Opens, Holds}
 use Rattle.rowread.proofs.Laws.{past, add, add-push}
 
--- ---- the bytes before the first one
+-- ---- the bytes before the first delimiter
 
 pub line-out : (t : List ℕ) (i : ℕ) → length t ≤ i → i ≡ i + length (lineOf (drop i t))
 unfolding lineOf
@@ -37,7 +39,7 @@ pub neither : (a b : Bool) → (a || b) ≡ false → (a ≡ false) × (b ≡ fa
 neither true b e = absurd (let z : _≡_ {A = ℕ} 0 1 = cc in omega arith)
 neither false b e = (refl, e)
 
--- the first one stands among the first n
+-- there is one among the first n bytes
 pub line-in : (n : ℕ) (t : List ℕ) → length (lineOf (take n t)) < length (take n t) → length (lineOf t) ≡ length (lineOf (take n t))
 unfolding lineOf
 line-in zero t h = absurd (omega arith)
@@ -49,7 +51,7 @@ line-in (suc n) (b ∷ t) h = go (isStop b) h (line-in n t)
     go true h f = refl
     go false h f = ap suc (f (omega arith))
 
--- none stands there
+-- there is none
 line-none : (n : ℕ) (t : List ℕ) → n ≤ length t → length (lineOf (take n t)) ≡ length (take n t) → length (lineOf t) ≡ n + length (lineOf (drop n t))
 unfolding lineOf
 line-none zero t h e = omega arith
@@ -68,7 +70,7 @@ stop-none t i end h g e =
     let d : length (lineOf (drop (end - i) (drop i t))) ≡ length (lineOf (drop end t)) = rw (drop-drop (end - i) i t, m) in
     omega (arith, q, d)
 
--- n is the least place of a stop before i, 32 for none
+-- n is the least index of a delimiter before i, 32 if there is none
 abbrev pub Least : List ℕ → ℕ → ℕ → Type 0
 Least v i n = (n ≤ 32) × (n ≡ 32 → i + length (lineOf (drop i v)) ≡ length (lineOf v)) × (n < 32 → (n ≡ length (lineOf v)) × (n < i))
 
@@ -104,7 +106,7 @@ stop-inside t i e h q = let s = line-size (drop i t) in (omega (arith, q), omega
 pub stop-less : (t : List ℕ) (i e : ℕ) → i ≤ length t → e ≡ i + length (lineOf (drop i t)) → (e ≡ length t → ⊥) → e < length t
 stop-less t i e h q n = let s = stop-inside t i e h q in omega (arith, s .1, n)
 
--- ---- commas, and what is between them
+-- ---- commas, and the text between them
 
 pub comma-yes : (v : List ℕ) (i : ℕ) → i < length v → getD v i 0 ≡ comma → commasIn (drop i v) ≡ 1 + commasIn (drop (i + 1) v)
 unfolding commasIn
@@ -161,14 +163,14 @@ text-size (b ∷ v) = go (eqb b comma) (text-size v)
     go true e = omega (arith, e)
     go false e = omega (arith, e)
 
--- the last end behind the others
+-- the last end after the others
 pub marks-last : (ends v : List ℕ) (k n : ℕ) → k ≡ length v - n → n ≡ length (textIn v) → set (sets ends 0 (cutsIn 0 v)) k n ≡ sets ends 0 (marksIn 0 v)
 marks-last ends v k n e f =
     let z : 0 + length (cutsIn 0 v) ≡ k = omega (arith, e, f, cuts-size 0 v, text-size v) in
     let y : 0 + length (textIn v) ≡ n = omega (arith, f) in
     rw (sets-append ends 0 (cutsIn 0 v) ((0 + length (textIn v)) ∷ []), z, y)
 
--- commas among the first bytes and the others
+-- commas among the first bytes and among the others
 commas-part : (n : ℕ) (v : List ℕ) → commasIn v ≡ commasIn (take n v) + commasIn (drop n v)
 unfolding commasIn
 commas-part zero v = omega arith
@@ -238,7 +240,7 @@ many-in (b ∷ v) = go (eqb b comma) (many-in v)
 
 -- ---- the row
 
--- v stands before a comma or LF, c: its first field, and the row once that is a field
+-- v is followed by a comma or LF, c: its first field, and the row once that is a field
 record Begun (v : List ℕ) (c : ℕ) (r : List ℕ) (ws : List (List ℕ)) (s : List ℕ) : Type 0 where
   rest : List ℕ
   head : NonEscaped (v ++ (c ∷ r)) (firstIn v) rest
@@ -253,7 +255,7 @@ text-of b s c = go (eqb b quote) (eqb b lineFeed) s
     go false true e = absurd (let z : _≡_ {A = ℕ} 0 1 = cc in omega arith)
     go false false e = simp c
 
--- behind v: a row of its last value and ws, once that is a field
+-- after v: a row of its last value and ws, once that value is a field
 module _ (c : ℕ) (r : List ℕ) (ws : List (List ℕ)) (s : List ℕ) (behind : (bs f : List ℕ) → Field bs f (c ∷ r) → Record bs (f ∷ ws) s) where
   begun : (v : List ℕ) → anyStop v ≡ false → Begun v c r ws s
   unfolding anyStop firstIn othersIn
@@ -303,11 +305,11 @@ line-take (b ∷ t) = go (isStop b) (line-take t)
 pub front-part : (t : List ℕ) (n : ℕ) → take (n - 0) (drop 0 t) ≡ take n t
 front-part t n = let m : n - 0 ≡ n = omega arith in rw m
 
--- the bytes before the first stop, as a part of t
+-- the bytes before the first delimiter, as a part of t
 pub line-part : (t : List ℕ) (n : ℕ) → n ≡ length (lineOf t) → take (n - 0) (drop 0 t) ≡ lineOf t
 line-part t n e = let m : n - 0 ≡ length (lineOf t) = omega (arith, e) in rw m (line-take t)
 
--- a run without stops, from p to e
+-- a run without delimiters, from p to e
 module _ (t : List ℕ) (p e : ℕ) (q : e ≡ p + length (lineOf (drop p t))) where
   pub run-end : drop (length (lineOf (drop p t))) (drop p t) ≡ drop e t
   run-end = drop-drop (length (lineOf (drop p t))) p t ∙ ap (λ (x : ℕ). drop x t) (sym q)
@@ -321,7 +323,7 @@ module _ (t : List ℕ) (p e : ℕ) (q : e ≡ p + length (lineOf (drop p t))) w
 pub line-parts : (t : List ℕ) (e : ℕ) → e ≡ length (lineOf t) → (e ≤ length t) × (length (take (e - 0) (drop 0 t)) ≡ e) × (length (textIn (take (e - 0) (drop 0 t))) + commasIn (take (e - 0) (drop 0 t)) ≡ e)
 line-parts t e p = let m : length (take (e - 0) (drop 0 t)) ≡ e = ap length (line-part t e p) ∙ sym p in (omega (arith, p, line-size t), m, text-size (take (e - 0) (drop 0 t)) ∙ m)
 
--- ---- a quoted value, from stop to stop
+-- ---- a quoted value, from delimiter to delimiter
 
 pub no-quote : (b : ℕ) → isStop b ≡ false → eqb b quote ≡ false
 unfolding isStop
@@ -345,7 +347,7 @@ turn-run t i e k q =
     let m : length (lineOf (drop i t)) ≡ e - i = omega (arith, q) in
     run-piece (drop i t) k (length t) ∙ rw (run-end t i e q, m)
 
--- ---- values without quotes before a place
+-- ---- values without quotes before an offset
 
 pub text-comma : (u : List ℕ) → textIn (u ++ (comma ∷ [])) ≡ textIn u
 unfolding textIn
@@ -367,7 +369,7 @@ unfolding anyStop
 clean-front [] w e = refl
 clean-front (b ∷ u) w e = let p = neither (isStop b) (anyStop (u ++ w)) e in rw (p .0) (clean-front u w (p .1))
 
--- before the first stop
+-- before the first delimiter
 pub opens : (t : List ℕ) (e n : ℕ) → e ≡ length (lineOf t) → ((e ≡ 0 → ⊥) → getD t (e - 1) 0 ≡ comma) → n ≡ commasIn (take (e - 0) (drop 0 t)) → Opens t e n
 opens t e n p q r =
     let m : take e t ≡ lineOf t = rw p (line-take t) in
@@ -383,7 +385,7 @@ pub more-of : {bs v cs r : List ℕ} {ws : List (List ℕ)} → Field bs v (comm
 more-of f (last g e) = more f (last g e)
 more-of f (more g p) = more f (more g p)
 
--- they are values of any row that what follows them is one of
+-- they are the first values of a row, if what follows them is a row
 pub record Before (t : List ℕ) (e n : ℕ) : Type 0 where
   pub values : List (List ℕ)
   pub on : {vs : List (List ℕ)} {r : List ℕ} → Record (drop e t) vs r → Record t (values ++ vs) r

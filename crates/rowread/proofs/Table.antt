@@ -1,4 +1,5 @@
--- The claims: what was written is read, row by row to the table's end; what is read is a row.
+-- The claims: a table that was written is read row by row to its end, and what is read is a row of the grammar. By the grammar's theorems,
+-- since a row of at most 8,192 bytes doesn't depend on what follows it.
 use Prim.Native.Nat.{ℕ, _+_, _-_, _≤_}
 use native.Mathlib.Omega.{arith}
 use mathlib.Core.Bool.{Bool, true, false}
@@ -26,7 +27,7 @@ row-some : (v : Text) (vs : List Text) → 1 ≤ length (rowOf (v ∷ vs))
 unfolding rowOf
 row-some v vs = omega (arith, length-append (fieldOf v) (behind vs ∷ rowOf vs))
 
--- a row at the front of the bytes among which it may stand
+-- a row at the front of the bytes that may hold it
 front-part : (p r : Text) → length p ≤ maxRow → take maxRow (p ++ r) ≡ p ++ take (maxRow - length p) r
 front-part p r h =
     let e : length p + (maxRow - length p) ≡ maxRow = omega arith in

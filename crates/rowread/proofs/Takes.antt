@@ -1,4 +1,5 @@
--- Rows with quotes in one pass: what a turn adds to what was put out.
+-- Rows with quotes in one pass: what a turn adds to what was put out, and that the whole is a row. What was put out before an offset and
+-- what follows from there on are together a value, or the values of a row, of the grammar.
 use Prim.Native.Nat.{ℕ, suc, _+_, _-_, _≤_, _<_}
 use native.Mathlib.Omega.{arith}
 use native.Mathlib.Numerals.{add-one}
@@ -29,7 +30,7 @@ use Rattle.rowread.proofs.Calls.{length-ends}
 
 -- ---- a quoted value
 
--- a byte at a place, and what follows it
+-- a byte at an offset, and what follows it
 at-place : (t : List ℕ) (p b : ℕ) → getD t p 0 ≡ suc b → drop p t ≡ suc b ∷ drop (p + 1) t
 at-place t p b e = rw (add-one p) (drop-cons t p 0 (past t p b e) ∙ rw e)
 
@@ -38,7 +39,7 @@ unfolding anyStop
 inner-run [] e i = i
 inner-run (b ∷ w) e i = let p = neither (isStop b) (anyStop w) e in byte (no-quote b (p .0)) (inner-run w (p .1) i)
 
--- a part of the value was put out: what follows goes on with it
+-- a part of the value was put out: what follows continues it
 pub record Gone (t : List ℕ) (from : ℕ) (out : List ℕ) (to : ℕ) (o : List ℕ) (p n : ℕ) : Type 0 where
   pub value : List ℕ
   pub on : {v r : List ℕ} → Inner (drop p t) v r → Inner (drop from t) (value ++ v) r
@@ -76,7 +77,7 @@ module _ {t : List ℕ} {from : ℕ} {out : List ℕ} {to : ℕ} {o : List ℕ} 
       let h : p + 1 < length t = past t (p + 1) 33 f in
       rw e (gone-more (quote ∷ []) (p + 1 + 1) (λ v r i. rw (at-place t p 33 e, at-place t (p + 1) 33 f) (twice i)) (omega arith) (omega arith))
 
-  -- a run without stops, as it was put out
+  -- a run without delimiters, as it was put out
   pub gone-run : (e m : ℕ) (q : List ℕ) → e ≡ p + length (lineOf (drop p t)) → (m ≡ n + (e - p)) × (q ≡ sets o n (take (e - p) (drop p t))) → Gone t from out to q e m
   gone-run e m q h x =
       let k : length (lineOf (drop p t)) ≡ e - p = omega (arith, h) in
@@ -84,7 +85,7 @@ module _ {t : List ℕ} {from : ℕ} {out : List ℕ} {to : ℕ} {o : List ℕ} 
       let i : (v r : List ℕ) → Inner (drop e t) v r → Inner (drop p t) (lineOf (drop p t) ++ v) r = λ v r y. rw (← f) at (inner-run (lineOf (drop p t)) (line-clean (drop p t)) y) in
       rw (x .0, x .1, run-part t p e h, ← k) (gone-more (lineOf (drop p t)) e i (omega (arith, h)) (stop-inside t p e (g .inside) h .1))
 
-  -- there is room for one byte more
+  -- there is space for one byte more
   pub gone-room : to + (length t - from) ≤ length out → p < length t → n < length o
   gone-room h l = omega (arith, gone-same, g .upto, g .grows)
 
@@ -101,7 +102,7 @@ module _ {t : List ℕ} {from : ℕ} {out : List ℕ} {to : ℕ} {o : List ℕ} 
         bytes = g .bytes;
       }
 
--- behind its opening quote it is a field
+-- after its opening quote it is a field
 pub quoted : {t : List ℕ} {from : ℕ} {out : List ℕ} {to : ℕ} {o : List ℕ} {next size : ℕ} → getD t from 0 ≡ quote → Into Inner t (from + 1) out to o next size → Into Field t from out to o next size
 quoted {t} {from} e i =
     record {
@@ -176,7 +177,7 @@ ends-append n (v ∷ vs) ws =
     let z : n + length (v ++ joined vs) ≡ n + length v + length (joined vs) = omega (arith, length-append v (joined vs)) in
     rw z (ap (λ (l : List ℕ). (n + length v) ∷ l) (ends-append (n + length v) vs ws))
 
--- the values before a place, as they were put out, and those from there on
+-- the values before an offset, as they were put out, and those from there on
 module _ (t : List ℕ) (e n : ℕ) (h : Opens t e n) (out ends o s : List ℕ) (to : ℕ) (m : to ≡ length (textIn (take (e - 0) (drop 0 t)))) (x : o ≡ sets out 0 (textIn (take (e - 0) (drop 0 t)))) (y : s ≡ sets ends 0 (cutsIn 0 (take (e - 0) (drop 0 t)))) where
   same-out : length o ≡ length out
   same-out = ap length x ∙ length-sets out 0 (textIn (take (e - 0) (drop 0 t)))
@@ -207,7 +208,7 @@ module _ (t : List ℕ) (e n : ℕ) (h : Opens t e n) (out ends o s : List ℕ) 
   took-before width p q (Whole next size) w = holds-before w
   took-before width p q Broken w = tt
 
-  -- from there on: one quoted value, with no stop inside
+  -- from there on: one quoted value with no delimiter inside
   pub quote-before : (c size : ℕ) (p : List ℕ) → getD t e 0 ≡ quote → Closes t e c → size ≡ to + (c - (e + 1)) → p ≡ sets o to (take (c - (e + 1)) (drop (e + 1) t)) → size ≤ length out → n < length ends
       → Holds t 0 0 0 (n + 1) out ends p (set s n size) (c + 2) size
   quote-before c size p q k z w l r =
@@ -215,7 +216,7 @@ module _ (t : List ℕ) (e n : ℕ) (h : Opens t e n) (out ends o s : List ℕ) 
       let i = quoted q (gone-close g (c - (e + 1)) z (k .1)) in
       holds-before (holds-last i (n + 1) (c + 2) size refl (omega arith) z (k .2) (omega (arith, l, same-out)) (omega (arith, r, same-ends)))
 
--- ---- a row out of room of our own
+-- ---- a row out of a buffer of our own
 
 take-sets : (l v : List ℕ) (n : ℕ) → n ≡ length v → n ≤ length l → take n (sets l 0 v) ≡ v
 take-sets l v n e h = rw (sets-eq v l 0 (omega arith)) (take-at v (drop (0 + length v) l) n (sym e))
@@ -236,12 +237,12 @@ handed t width room marks r m out ends o s scan (Read next size) x h =
       marks = h .4 ∙ ap (sets ends 0) (ap (take width) (y .marks) ∙ take-sets marks (endsOf 0 (y .values)) width (omega (arith, length-ends 0 (y .values), y .many)) (y .slots));
     }
 
--- what was scanned stands in room
+-- what was scanned is in the buffer
 pub took-within : (t : List ℕ) (width : ℕ) (room marks r m : List ℕ) (scan : Scan) → TookRow t 0 0 0 width room marks r m scan → length r ≡ length room → Within (length r) scan
 took-within t width room marks r m Broken x e = tt
 took-within t width room marks r m (Whole next size) x e = omega (arith, x .fits, e)
 
--- a row of the first bytes is one of them all
+-- a row of the first bytes is a row of all of them
 pub longer : (n : ℕ) (t : List ℕ) (width : ℕ) (out ends o s : List ℕ) (q : Fast) → Quickly (take n t) width out ends o s q → Quickly t width out ends o s q
 longer n t width out ends o s Not x = x
 longer n t width out ends o s (Read next size) x =

@@ -1,4 +1,6 @@
--- Bytes taken together and bytes taken one by one leave the same.
+-- Appending several bytes by one call leaves what appending them one by one leaves, as long as the tail isn't full before the last: each
+-- byte then leaves nothing due, so the due calls between them change nothing. By induction on the bytes. A call that answers with a count
+-- shows by it that the state was in order.
 use mathlib.Core.Path.{_≡_, refl, sym, ap, _∙_}
 use mathlib.Core.Bool.{Bool, true, false, not, _&&_, _||_, false≢true}
 use mathlib.Core.List.{List, [], _∷_, _++_}
@@ -46,7 +48,7 @@ module _ (w : Writer) (m : mayAppend w ≡ true) where
   open-yet : w .taken .closed ≡ false
   open-yet = is-false (w .taken .closed) (and-right (inRange w) (not (w .taken .closed)) m)
 
--- a tail that is not full
+-- a tail that isn't full
 none-due : (t : Taken) → t .closed ≡ false → t .fill < tailSize → isDue t ≡ false
 unfolding isDue
 none-due t c h = rw (ne-eqb (t .fill) tailSize (λ e. omega arith), c)
@@ -124,7 +126,7 @@ module _ (w : Writer) (y : ℕ) (m : mayAppend w ≡ true) (h : w .taken .fill +
       let t = taken-more (w .taken) y (open-yet w m) h k (ranged w (in-range w m) .taken) in
       λ i. (a i && (t i && (next-tables i && next-ok i))) && not (open-yet w m i)
 
--- ---- two steps are one
+-- ---- two appends are one
 
 module _ (w : Writer) (y : ℕ) (xs : List ℕ) where
   both-taken : takenMore (takenMore (w .taken) (y ∷ [])) xs ≡ takenMore (w .taken) (y ∷ xs)
@@ -212,7 +214,7 @@ some-by fill n l e h k f = some-of (decLt fill tailSize)
     some-of (yes x) = (omega arith, omega arith, omega arith)
     some-of (no x) = absurd (f (omega arith))
 
--- a call that takes n of the bytes, then what is due
+-- a call that appends n of the bytes, then what is due
 module _ (region : List ℕ) (w : Writer) (bs : List ℕ) (m : mayAppend w ≡ true) (d : isDue (w .taken) ≡ false) (k : position (w .taken) + length bs ≤ capacity) (l : 1 ≤ length bs) where
   full-not : w .taken .fill ≡ tailSize → ⊥
   full-not e = false≢true (sym d ∙ due-full (w .taken) e)
@@ -242,7 +244,7 @@ chunk-parts region p bs m d k l n e s f q r g = (at [] .0, at [] .1, λ ss. (at 
     at : (ss : List Source) → (1 ≤ n) × (n ≤ length bs) × (ranWriter r (withSources q ss) (appends (drop n bs)) ≡ ranWriter region (withSources p ss) (appends bs)) × (ranRegion r (withSources q ss) (appends (drop n bs)) ≡ ranRegion region (withSources p ss) (appends bs))
     at ss = chunk-fed region (withSources p ss) bs (m ss) d k l n e (stepWith s ss) (f ss) (withSources q ss) r (g ss .0) (g ss .1)
 
--- ---- what a count of appended bytes says
+-- ---- what follows from the number of bytes appended
 
 pub counted : (w : Writer) (bs : List ℕ) → 1 ≤ countOf (bytesStep w bs .answer)
     → (mayAppend w ≡ true) × (isDue (w .taken) ≡ false) × (position (w .taken) + length bs ≤ capacity) × (countOf (bytesStep w bs .answer) ≡ min (length bs) (tailSize - w .taken .fill))
@@ -273,7 +275,7 @@ module _ (p : Parts) (bs : List ℕ) (s : PartsStep) (f : (ss : List Source) →
       let c = counted (withSources p ss) bs (omega (arith, h, its-count ss)) in
       (c .0, c .1, c .2, its-count ss ∙ c .3)
 
--- the same, known by its answer
+-- the same, known from the call's answer
 pub chunk-counted : (region : List ℕ) (p : Parts) (bs : List ℕ) (s : PartsStep) (f : (ss : List Source) → stepWith s ss ≡ bytesStep (withSources p ss) bs) (n : ℕ) → n ≡ countOf (s .answer) → (n ≡ 0 → ⊥)
     → (q : Parts) (r : List ℕ) → Ran region (s .parts) dues q r → Appended region p bs n q r
 chunk-counted region p bs s f n e h q r g =
@@ -281,7 +283,7 @@ chunk-counted region p bs s f n e h q r g =
     let c = parts-counted p bs s f k [] in
     chunk-parts region p bs (λ ss. parts-counted p bs s f k ss .0) (c .1) (c .2) (omega (arith, k, c .3)) n (e ∙ c .3) s f q r g
 
--- ---- bytes that leave room in the tail, and nothing is due
+-- ---- bytes that leave the tail short of full, with nothing due
 
 module _ (w : Writer) (d : isDue (w .taken) ≡ false) where
   quiet-by : (s : Stage) → stageOk (w .beginning .comparing) (w .taken) s ≡ true → quiet s ≡ true
@@ -317,7 +319,7 @@ module _ (region : List ℕ) (w : Writer) (bs : List ℕ) (m : mayAppend w ≡ t
           fed-all-region region (s .writer) bs (length bs) (omega arith) (ranRegion region w (appends bs)) (c .3) ∙ sym (quiet-dues-ran region w (dues ++ appends bs) quiet-before ∙ quiet-dues-ran region w (appends bs) quiet-before),
         )
 
--- the same on parts, known by the answer
+-- the same on parts, known from the answer
 pub line-counted : (region : List ℕ) (p : Parts) (bs : List ℕ) (s : PartsStep) (f : (ss : List Source) → stepWith s ss ≡ bytesStep (withSources p ss) bs) (n : ℕ) → n ≡ countOf (s .answer) → (n ≡ 0 → ⊥)
     → p .taken .fill + length bs < tailSize → (ss : List Source)
     → (withSources (s .parts) ss ≡ ranWriter region (withSources p ss) (dues ++ (dues ++ appends bs))) × (region ≡ ranRegion region (withSources p ss) (dues ++ (dues ++ appends bs)))

@@ -1,4 +1,5 @@
--- Runs of lower calls.
+-- Runs of lower calls: a run in two parts is one after the other; due calls change nothing in a stage with nothing due; and the loop that
+-- appends bytes chunk by chunk has, after i bytes, the rest of the run left.
 use mathlib.Core.Path.{_≡_, refl, sym, ap, _∙_}
 use mathlib.Core.Bool.{Bool, true, false, _&&_}
 use mathlib.Core.List.{List, [], _∷_, _++_}
@@ -129,7 +130,7 @@ one-fed region w (x ∷ xs) h s e v r a b = (
   then-region region (s .writer) dues (appends xs) v r a b (ranRegion r v (appends xs)) refl ∙ ap (λ (t : Step). ranRegion region (t .writer) (dues ++ appends xs)) e,
 )
 
--- ---- the loop of feed
+-- ---- the loop that appends all bytes
 
 pub rest-is : (bs : List ℕ) (i : ℕ) → i ≤ length bs → take (length bs - i) (drop i bs) ≡ drop i bs
 rest-is bs i h = take-all (length bs - i) (drop i bs) (omega (arith, length-drop i bs))

@@ -1,4 +1,5 @@
--- A walk through the sources comes to what the used ones say.
+-- The loop over the sources gives the time of the used ones: a source that gives a wanted day is counted and its days are dropped, so that
+-- after the last one the result is the definition's.
 use mathlib.Core.Path.{_≡_, refl, ap, _∙_, sym}
 use mathlib.Core.Bool.{Bool, true, false, _&&_, and-true, and-assoc}
 use mathlib.Core.List.{List, [], _∷_}
@@ -48,7 +49,7 @@ module _ (now : ℤ) where
   pub seen-all : (ss : List Source) (days : Days) → seen now (nothing days) ss ≡ updatedAt now (used (daysOf days) ss)
   seen-all ss days = walk ss (nothing days) ∙ ended-is now days (used (daysOf days) ss)
 
-  -- a turn of the walk through the records
+  -- a turn of the loop over the records
   pub one-more : (f : List ℕ → ℕ → Source) (step : ℕ) (l : List ℕ) (at n i : ℕ) (x : Seen) → i < n
       → seen now x (many f step l at (n - i)) ≡ seen now (see now x (f l at)) (many f step l (at + step) (n - (i + 1)))
   unfolding seen many

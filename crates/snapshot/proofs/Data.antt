@@ -1,4 +1,4 @@
--- A table of a source lies in the bank's data.
+-- A table of a source is inside the bank's data: the header passed test 6, which bounds every block of every source below the count.
 use mathlib.Core.Path.{_≡_, refl, ap, _∙_, sym}
 use mathlib.Core.Bool.{Bool, true, false, _&&_, _||_}
 use mathlib.Core.List.{List, [], _∷_}
@@ -26,7 +26,7 @@ use Rattle.snapshot.specs.Rows.{bytesOf}
 use Rattle.snapshot.specs.Claims.{InData}
 use Rattle.snapshot.proofs.RowsLaws.{its-number}
 
--- what holds of each holds of one
+-- what holds of each element holds of one
 each-nth : {A : Type 0} (p : A → Bool) (f : List ℕ → ℕ → A) (step : ℕ) (l : List ℕ) (at n i : ℕ) → each p (many f step l at n) ≡ true → i < n → p (f l (at + i * step)) ≡ true
 unfolding each many
 each-nth p f step l at zero i e h = absurd (omega (arith, h))

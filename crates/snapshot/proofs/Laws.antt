@@ -1,4 +1,4 @@
--- Calls on a loaded bank, case by case.
+-- Calls on a loaded bank, case by case, as the definitions nest them; and that a bank with a good header has at most three sources.
 use mathlib.Core.Path.{_≡_, refl, ap, _∙_, sym}
 use mathlib.Core.Bool.{Bool, true, false}
 use mathlib.Core.List.{List, _++_}

@@ -1,4 +1,4 @@
--- Key match, case by case.
+-- Key match, two cases: region, picks and header pass and the stored key is compared, or one of them is refused.
 use mathlib.Core.Path.{_≡_, ap, sym}
 use mathlib.Core.List.{List}
 use Prim.Native.Nat.{ℕ}

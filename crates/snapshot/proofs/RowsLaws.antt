@@ -1,4 +1,5 @@
--- The row of a bank, case by case.
+-- The row of a bank, case by case: table, region, bank and source in the order of the definition. If the source is there, the bytes read
+-- are the table's, and the answer is that of the reader.
 use mathlib.Core.Path.{_≡_, refl, ap, _∙_, sym}
 use mathlib.Core.Bool.{Bool, true, false}
 use mathlib.Core.List.{List}
@@ -90,7 +91,7 @@ module _ (region : List ℕ) (n i : ℕ) where
 its-table : (region : List ℕ) (n i t : ℕ) (s : There region n i) → bytesOf region n (getD (askedSource region n i .source .tables) t noBlock) ≡ tableIn region (s .bank) i t
 its-table region n i t s = rw (s .is-source, its-number region n (s .bank) (s .is-named))
 
--- where the source is there and the table's bytes are read, the answer and the values are those asked for
+-- if the source is there and the table's bytes are read, answer and values are those asked for
 pub record IsRow (region : List ℕ) (n i t place room slots : ℕ) (stored : List ℕ) (width : ℕ) : Type 0 where
   pub answer : readAnswer stored width place room slots ≡ askedRow region n i t place room slots
   pub values : valuesAt stored width place ≡ valuesIn region n i t place

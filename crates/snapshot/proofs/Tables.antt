@@ -1,4 +1,4 @@
--- A table of a bank reads row by row.
+-- A table of a bank reads row by row: its bytes are a names line and rows, and `rowread` proves it of any such bytes.
 use mathlib.Core.Path.{_≡_, ap, _∙_, sym}
 use mathlib.Core.Bool.{true}
 use mathlib.Core.List.{List, [], _∷_, _++_}
@@ -21,13 +21,13 @@ abbrev Text : Type 0
 Text = List ℕ
 
 module _ (region : Text) (n i t room slots : ℕ) (b : Bank) (e : named region n ≡ Good b) (l : ltb i (b .count) ≡ true) (h : leb t lastTable ≡ true) where
-  -- what the reader reads of the table's bytes is read of the bank
+  -- what is read of the table's bytes is read of the bank
   from-table : (place : ℕ) (rows : List (List Text)) → Reads (tableIn region b i t) (columnCount t) room slots place rows → BankReads region n i t room slots place rows
   from-table place [] (endOfTable q) = atEnd (sym (is-answer region n i t place room slots b h e l) ∙ q)
   from-table place (vs ∷ rows) (further {next = next} q v r) =
       onward (sym (is-answer region n i t place room slots b h e l) ∙ q) (sym (is-values region n i t place room slots b h e) ∙ v) (from-table next rows r)
 
--- the bytes of a names line and rows are a table of rows
+-- a names line and rows are the table of these rows
 is-table : (t : ℕ) (rows : List (List Text)) → namesLine t ++ tableOf rows ≡ tableOf (columnsOf t ∷ rows)
 unfolding tableOf
 is-table t rows = ap (λ (l : Text). l ++ tableOf rows) (names-are-a-row t)

@@ -1,4 +1,5 @@
--- The upper calls case by case.
+-- The upper calls, case by case, as the definitions nest their tests; that a run of due calls and a lower call is the call's run; and that
+-- the bytes made here (dates, names line, row, key) are the definition's, in whatever buffer.
 use mathlib.Core.Path.{_≡_, refl, sym, ap, _∙_}
 use mathlib.Core.Bool.{Bool, true, false, not, _&&_}
 use mathlib.Core.List.{List, [], _∷_, _++_}
@@ -46,7 +47,7 @@ use Rattle.csv.specs.Csv.{maxRow}
 use Rattle.base.specs.Table.{lastTable}
 use Rattle.upper.specs.Sizes.{namesSize, maxBody}
 
--- what is due, then a lower call that does no operation, then others
+-- what is due, then a lower call that does no operation, then other calls
 abbrev pub Still : Lower → Type 0
 Still c = (r : List ℕ) (x : Writer) → lowerRegion r x c ≡ r
 
@@ -171,13 +172,13 @@ module _ (t : ℕ) (out o : List ℕ) (a : RowAnswer) (h : t ≤ lastTable) (l :
 
 -- ---- a row
 
--- in room for the longest row: it is written, or it is none
+-- in a buffer for the longest row: it is written, or it is no row
 by-two : (p q : Bool) (m : ℕ) (x : Refusal) → pick p (pick q (pick q (Written m) (RowRefused Small)) (RowRefused Row)) (RowRefused Row) ≡ RowRefused x → (p && q) ≡ false
 by-two true true m x e = cc
 by-two true false m x e = refl
 by-two false q m x e = refl
 
--- in any room: what is written is one, and fits
+-- in any buffer: what is written is a row, and fits
 by-three : (p q r : Bool) (m n : ℕ) → pick p (pick q (pick r (Written m) (RowRefused Small)) (RowRefused Row)) (RowRefused Row) ≡ Written n → ((p && q) ≡ true) × (n ≡ m) × (r ≡ true)
 by-three true true true m n e = (refl, cc, refl)
 by-three true true false m n e = (cc, cc, cc)

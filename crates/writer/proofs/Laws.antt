@@ -1,4 +1,4 @@
--- What a state within its ranges has.
+-- What follows from a state's ranges: each part of the test, and the bounds on tail, position, count and open table that other proofs need.
 use mathlib.Core.Path.{_≡_, refl}
 use mathlib.Core.Bool.{Bool, true, false, not, _&&_, _||_, false≢true}
 use Prim.Native.Nat.{ℕ, _≤_}
@@ -13,7 +13,7 @@ use Rattle.region.specs.Region.{capacity}
 use Rattle.base.specs.Table.{lastTable}
 use Rattle.header.specs.Header.{maxSources}
 
--- what a state within its ranges has
+-- the four tests of a state within its ranges
 pub record Ranged (w : Writer) : Type 0 where
   pub active : activeOk (w .beginning .active) ≡ true
   pub taken : takenOk (w .taken) ≡ true

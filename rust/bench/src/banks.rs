@@ -9,7 +9,7 @@ use common::{
 };
 use std::cell::RefCell;
 
-/// What the calls are asked with, ready in the form that each takes.
+/// What the calls are asked with, ready in the form that each expects.
 struct Case {
     region: Vec<u8>,
     identity: Vec<u8>,
@@ -20,7 +20,8 @@ struct Case {
     simd: simd::Ready,
 }
 
-/// One build of the lifted Rust: each call as a number, to compare and to keep.
+/// One build of the lifted Rust: each call's answer as a number, to compare and to
+/// keep.
 macro_rules! rust {
     ($name:ident, $lifted:ident) => {
         mod $name {
@@ -97,7 +98,7 @@ impl Case {
     fn picks(&self) -> Picks<'_> {
         Picks { texts: &self.texts, lengths: &self.lengths }
     }
-    /// Two banks with so many data bytes, bank 1 newer; its key is that of the
+    /// Two banks with n data bytes each, bank 1 newer; its key is that of the
     /// identity and the picks. `spoilt`: its data have a wrong byte.
     fn new(data: usize, identity: usize, picks: &[[String; 5]], spoilt: bool) -> Self {
         let mut random = Random::new(1);
@@ -155,7 +156,7 @@ fn picks(count: usize) -> Vec<[String; 5]> {
         .collect()
 }
 
-/// Both must answer the same, and not nothing.
+/// Both must give the same answer, and it must not be empty.
 fn line(name: &str, mark: Option<f64>, runs: Runs, case: Case, rounds: usize) -> Line {
     let line = Line::new(name, "Rust", mark);
     let answers = runs.map(|run| run(&case));

@@ -1,5 +1,5 @@
 //! Single calls of an update and on a bank, the core alone. Each starts from the
-//! same state, so a call's time has a copy of the state in it.
+//! same state, so a call's time includes a copy of the state.
 use crate::{
     line::Line,
     updates::{self, DATES, NOW},
@@ -56,7 +56,7 @@ fn after(state: State, calls: impl FnOnce(&mut State)) -> State {
 }
 
 impl States {
-    /// On a region with a good bank; it is written over.
+    /// On a region with a good bank, which is overwritten.
     fn new(case: &updates::Case) -> Self {
         let region = &mut case.region.borrow().clone()[..];
         let begun = State::new(region, false, NOW).0;
@@ -137,7 +137,7 @@ const CALLS: [(&str, Before, Run); 24] = [
     ("update by rows: close", |s| s.ended, |c| c.on(|s, r| s.upper_close(r))),
 ];
 
-/// A call that is refused has no time.
+/// A refused call isn't timed.
 fn line(name: &str, run: Run, case: &Case, rounds: usize) -> Line {
     let line = Line::new(name, "", None);
     if run(case) == 0 { line.timed([run], case, rounds, 1) } else { line }

@@ -28,7 +28,7 @@ type Run = fn(&[u8]) -> u32;
 const RUNS: [Run; 3] = [core, table, simd];
 const NAMES: [&str; 4] = ["core", "table", "SIMD", "zlib"];
 const ALL: [Run; 4] = [core, table, simd, zlib];
-/// Bytes, and the mark to reach.
+/// Sizes, and the mark to reach.
 const SIZES: [(usize, Option<f64>); 6] = [
     (16, None),
     (64, Some(0.5)),
@@ -57,7 +57,7 @@ pub fn lines(rounds: usize) -> Vec<Line> {
     SIZES.map(line).into()
 }
 
-/// Draws the speeds, each size to its fastest.
+/// Draws the speeds, for each size relative to its fastest.
 pub fn draw(rounds: usize) {
     let version = unsafe { CStr::from_ptr(zlibVersion()) }.to_string_lossy();
     println!("CRC-32 in MB/s, one run on one machine, warm buffers. core: this library.");

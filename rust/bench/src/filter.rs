@@ -15,7 +15,7 @@ struct Case {
 }
 
 impl Case {
-    /// Ids of a length, half of them in the filter.
+    /// Ids of one length, half of them in the filter.
     fn new(length: usize) -> Self {
         let mut random = Random::new(1);
         let letter = |_| char::from(random.pick(b"0123456789abcdefghijklmnopqrstuvwxyz:-"));
@@ -29,7 +29,7 @@ impl Case {
         }
         case
     }
-    /// A run's answer and the filter after it, which is then put back: an
+    /// A run's answer and the filter after it, which is then restored: an
     /// insertion's first answers differ from all later ones.
     fn tried(&self, run: fn(&Case) -> u64) -> (u64, Vec<u8>) {
         let before = self.bits.borrow().clone();

@@ -61,11 +61,11 @@ Exit status: 0 all was timed, 1 answers differ, or with --judge a mark is missed
 /// Runs, and rounds in each.
 const WHOLE: (usize, usize) = (8, 800);
 const QUICK: (usize, usize) = (4, 150);
-/// The same program with its code in other places.
+/// The same program with its code at other addresses.
 const LINKED: [&str; 4] = ["bench", "bench-1", "bench-2", "bench-3"];
 
-/// The program, its code moved by so many bytes: they stand before all other
-/// code, since a program's own object is linked first.
+/// The program, its code moved by n bytes: they come before all other code, since a
+/// program's own object is linked first.
 #[macro_export]
 macro_rules! linked {
     ($skip:literal) => {
@@ -104,8 +104,8 @@ struct Options {
     judge: bool,
     svg: Option<String>,
     parts: Vec<String>,
-    /// Instead of all this: one run for the process that started it, a drawing,
-    /// sizes, help.
+    /// Other modes: one run for the process that started it, a drawing, sizes,
+    /// help.
     only: Option<String>,
 }
 
@@ -144,7 +144,7 @@ fn run(options: &Options) {
     }
 }
 
-/// All lines once, by a program of their own.
+/// All lines once, by a process of their own.
 fn started(options: &Options, linked: &str) -> std::io::Result<Vec<Line>> {
     let this = env::current_exe()?;
     let other = this.with_file_name(linked);
@@ -183,7 +183,7 @@ fn show(options: &Options) -> std::io::Result<bool> {
     Ok(!failed)
 }
 
-/// Why there is nothing to time.
+/// Why nothing can be timed.
 fn unfit() -> Option<&'static str> {
     if cfg!(debug_assertions) {
         return Some("not a release build; run it with cargo run --release");

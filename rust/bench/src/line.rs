@@ -1,8 +1,8 @@
 //! A line of the table: one call, timed in one run or put together from several.
 use crate::measure::measure;
 
-/// One call in one run. The times are nanoseconds a call: the core's, its peer's,
-/// the peer's with SIMD, as far as there are peers. None: the answers differ.
+/// One call in one run. The times are nanoseconds a call: the core's, its peer's
+/// and the peer's with SIMD, as far as there are peers. None: the answers differ.
 pub struct Line {
     pub name: String,
     pub peer: String,
@@ -25,7 +25,7 @@ impl Line {
         self.times = measure(runs, input, rounds.max(10)).map(|t| t / each as f64).into();
         self
     }
-    /// The line as a run writes it for the one that started it.
+    /// The line as a run writes it for the process that started it.
     pub fn written(&self) -> String {
         let mark = self.mark.map_or("-".into(), |m| m.to_string());
         let times: Vec<String> = self.times.iter().map(|t| t.to_string()).collect();
@@ -40,8 +40,8 @@ impl Line {
     }
 }
 
-/// One call over all runs: the medians of its times, and the ratios of its peer's
-/// time to the core's, in order.
+/// One call over all runs: the medians of its times, and the sorted ratios of its
+/// peer's time to the core's.
 pub struct Row {
     pub line: Line,
     pub ratios: Vec<f64>,
@@ -76,7 +76,7 @@ impl Row {
     pub fn differs(&self) -> bool {
         self.line.times.is_empty()
     }
-    /// The peer's time over the core's: above 1 the core is faster.
+    /// The peer's time divided by the core's: above 1 the core is faster.
     pub fn ratio(&self) -> Option<f64> {
         (!self.ratios.is_empty()).then(|| median(&self.ratios))
     }

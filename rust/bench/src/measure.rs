@@ -1,4 +1,4 @@
-//! Times of several functions on one input, taken in turns.
+//! Times of several functions on one input, measured in turns.
 use std::{hint::black_box, time::Instant};
 
 /// About how long a batch lasts, in nanoseconds.
@@ -12,7 +12,7 @@ fn batch<I: ?Sized, R>(run: fn(&I) -> R, input: &I, times: usize) -> f64 {
     start.elapsed().as_nanos() as f64 / times as f64
 }
 
-/// Nanoseconds a call of each, the lower decile of its batches.
+/// Nanoseconds a call of each function, the lower decile of its batches.
 pub fn measure<I: ?Sized, R, const N: usize>(
     runs: [fn(&I) -> R; N],
     input: &I,

@@ -2,12 +2,12 @@
 use crate::{line::Row, table};
 use std::fmt::Write;
 
-/// Where names and figures end and bars begin; the length of a ratio of 1.
+/// Where names and figures end and bars begin, and the length of a ratio of 1.
 const NAMES: f64 = 272.0;
 const FIGURES: f64 = 362.0;
 const LEFT: f64 = 372.0;
 const UNIT: f64 = 160.0;
-/// From a bar to the next, and the room between bars of different peers.
+/// From a bar to the next, and the gap between bars of different peers.
 const STEP: f64 = 17.0;
 const GAP: f64 = 10.0;
 const TOP: f64 = 80.0;
@@ -20,7 +20,7 @@ text{font:12px sans-serif;fill:#222}.h{font-size:15px;font-weight:bold}.n{fill:#
 .m{text-anchor:middle;fill:#555}.b{font-weight:bold}.yes{fill:#4a8f5c}.no{fill:#c8553d}.free{fill:#98a4b3}\
 .all{stroke:#222;opacity:.6}.one{stroke:#222;stroke-width:1.5}.grid{stroke:#ddd}.mark{stroke:#222;stroke-width:2}";
 
-/// What stands above the bars.
+/// What is above the bars.
 const HEADS: &str = r#"<text class="h" x="12" y="22">The core beside the Rust: the Rust's time over the core's</text>
 <text class="n" x="12" y="41">Right of 1 the core is faster. Upright stroke: the mark; thin line: all runs.</text>
 <rect class="yes" x="450" y="31" width="12" height="12"/><text x="467" y="41">reached</text>

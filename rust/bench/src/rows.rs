@@ -12,7 +12,7 @@ const LONGEST: usize = 8192;
 /// A row's texts, lengths and values.
 type Ready = (Vec<u8>, Vec<u32>, Vec<Vec<u8>>);
 
-/// Rows of a table, ready in the form that each takes.
+/// Rows of a table, ready in the form that each side expects.
 struct Case {
     number: u32,
     width: usize,
@@ -52,7 +52,7 @@ impl Case {
 mod core {
     use super::*;
 
-    /// All rows, one behind the other.
+    /// All rows, one after the other.
     pub fn write(case: &Case) -> u64 {
         let out = &mut case.out.borrow_mut()[..];
         let mut at = 0;
@@ -144,7 +144,7 @@ fn texts<const N: usize>(values: [&str; N]) -> Vec<String> {
     values.map(String::from).into()
 }
 
-/// A value of so many letters, with a byte every so often.
+/// A value of n letters, with a special byte at intervals.
 fn long(random: &mut Random, length: usize, with: char, every: usize) -> String {
     let letter = |i: usize| {
         let plain = char::from(b'a' + random.below(26) as u8);

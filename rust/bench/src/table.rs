@@ -1,4 +1,4 @@
-//! The one table, as text or in Markdown, and the machine that it was taken on.
+//! The table, as text or in Markdown, and the machine that it was measured on.
 use crate::line::Row;
 use std::{fs, thread::available_parallelism};
 

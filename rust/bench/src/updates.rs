@@ -15,7 +15,7 @@ const CAPACITY: usize = 487_424;
 pub const NOW: i64 = 1_790_000_000;
 pub const DATES: [u32; 2] = [20_260_101, 20_261_231];
 const PIECES: [usize; 3] = [256, 1500, 4096];
-/// About how many bytes the tables' rows have; the last takes what is left.
+/// About how many bytes the tables' rows have; the last gets what is left.
 const SHARES: [(u32, usize); 8] = [
     (0, 9_000),
     (1, 30_000),
@@ -90,7 +90,7 @@ fn values(random: &mut Random, table: u32, i: usize) -> Vec<String> {
 }
 
 impl Table {
-    /// Rows of so many bytes, if there is room for them.
+    /// Rows of n bytes, if there is capacity for them.
     fn new(random: &mut Random, number: u32, share: usize, room: usize) -> Self {
         let mut out = vec![0; 8192];
         let names = rows::names_line(number, &mut out).length;
@@ -142,7 +142,7 @@ fn fields() -> SourceFields {
 pub mod core {
     use super::*;
 
-    /// Offers a piece until all of it is taken.
+    /// Offers a piece until all of it is appended.
     fn offer(state: &mut State, region: &mut [u8], mut piece: &[u8]) {
         loop {
             let answer = state.append(piece);
@@ -153,13 +153,13 @@ pub mod core {
             state.due(region);
         }
     }
-    /// Begins, and feeds the key.
+    /// Begins, and appends the key.
     pub fn begin(case: &Case, region: &mut [u8], comparing: bool) -> State {
         let (mut state, _) = State::new(region, comparing, NOW);
         offer(&mut state, region, &case.key);
         state
     }
-    /// Feeds all by bytes, and closes.
+    /// Appends everything by bytes, and closes.
     pub fn fed(case: &Case, region: &mut [u8], comparing: bool) -> State {
         let mut state = begin(case, region, comparing);
         state.source(&case.record);
@@ -275,7 +275,7 @@ macro_rules! rust {
                 })
             }
             thread_local! {
-                /// The rows as the Rust takes them, made once.
+                /// The rows as the Rust expects them, made once.
                 static ROWS: RefCell<Vec<Vec<Values>>> = const { RefCell::new(Vec::new()) };
             }
             fn made(table: &super::Table) -> Vec<Values> {

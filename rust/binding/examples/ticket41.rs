@@ -1,5 +1,5 @@
 //! What a reading that trusts a bank's header alone shows of an image, and what
-//! load gives: the trips of the first source, by where they go. ticket41 IMAGE
+//! load gives: the trips of the first source, by destination. ticket41 IMAGE
 use bankcore::{
     Refusal,
     cache::{self, BANK_SIZE, Bank},
@@ -23,7 +23,7 @@ fn show_run(trips: usize, headsign: &str) {
     }
 }
 
-/// The trips in stored order; those in a row that go to one place are counted.
+/// The trips in stored order; consecutive trips to one destination are counted.
 fn show_trips(image: &[u8], bank: &Bank) {
     let (mut values, mut ends) = ([0; 8192], [0; 16]);
     let (mut place, mut trips) = (0, 0);

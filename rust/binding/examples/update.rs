@@ -12,12 +12,12 @@ const NOW: i64 = 1_790_000_000;
 const ROUTES: u32 = 0;
 const SECTOR: usize = 4096;
 const HEADER: usize = 1200;
-/// Where the commit word stands in a bank, and its size.
+/// The commit word's offset in a bank, and its size.
 const WORD: usize = 44;
 const WORD_SIZE: usize = 4;
 const COMMIT_WORD: &str = "commit word";
 
-/// What the host hands over next.
+/// What the host passes next.
 enum Next {
     Bytes(Vec<u8>),
     Source(Box<Source>),
@@ -100,8 +100,8 @@ fn turn(
     Ok(Some(usize::from(matches!(next, Next::Commit | Next::Word))))
 }
 
-/// An update that loses power once `power` operations are done: the writer is
-/// gone then. How many were done, and whether it came to its end.
+/// An update that loses power once `power` operations are done: the writer is gone
+/// then. How many were done, and whether it was finished.
 fn update(region: &mut [u8], power: usize) -> Result<(usize, bool), Refusal> {
     let mut writer = Writer::new(region, false, NOW)?;
     let mut rest = content()?;
@@ -122,8 +122,8 @@ struct Span {
     size: usize,
 }
 
-/// The flash operation of the next turn, if it does one. A writer tells the erase or
-/// write that is due; a commit writes the header, then the commit word.
+/// The flash operation of the next turn, if it does one. A writer says which erase
+/// or write is due; a commit writes the header, then the commit word.
 fn operation(writer: &Writer, rest: &[Next], bank: usize) -> Option<Span> {
     let span = |what, offset, size| Some(Span { what, offset, size });
     match (writer.operation(), rest.first()) {
@@ -135,8 +135,9 @@ fn operation(writer: &Writer, rest: &[Next], bank: usize) -> Option<Span> {
     }
 }
 
-/// The power fails inside an operation, after each of its bytes: those so far are as
-/// it leaves them, the others as they were. The commit word is shown byte by byte.
+/// The power fails inside an operation, after each of its bytes: those so far are
+/// as the operation leaves them, the others as they were. The commit word is shown
+/// byte by byte.
 fn cut_inside(number: usize, span: &Span, before: &[u8], after: &[u8]) -> Result<(), Refusal> {
     let Span { what, offset, size } = *span;
     let old = cache::load(before)?;

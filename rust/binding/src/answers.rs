@@ -1,12 +1,12 @@
-//! The answers of the calls on banks, as they cross the C interface. A refusal
-//! is document 01's number, 0 for none; beside it the other numbers are 0, times
-//! not known, and a state is the one that was given.
+//! The answers of the calls on banks, as they cross the C interface. A refusal is
+//! its number, 0 for none; beside one the other numbers are 0, times are unknown,
+//! and a state is the one that was passed.
 pub use crate::refusal::Refusal;
 
 /// A time that isn't known.
 pub const UNKNOWN: i64 = i64::MIN;
 
-/// What is in a bank: all numbers are 0 where none was found.
+/// What is in a bank: all numbers are 0 if none was found.
 #[repr(C)]
 #[derive(Clone, Copy, Debug, Default, PartialEq, Eq)]
 pub struct BankAnswer {
@@ -57,13 +57,13 @@ pub struct TurnAnswer {
     pub crc: u32,
 }
 
-/// A stored row: `found` is 1 where there is one, 0 at the table's end.
+/// A stored row: `found` is 1 if there is one, 0 at the table's end.
 #[repr(C)]
 #[derive(Clone, Copy, Debug, PartialEq, Eq)]
 pub struct BankRowAnswer {
     pub refusal: u32,
     pub found: u32,
-    /// Where the next row starts.
+    /// The offset of the next row.
     pub next: usize,
     /// How many bytes the values have, joined.
     pub size: usize,

@@ -1,8 +1,8 @@
-//! Keys and banks. A region of any length has an answer, as has every bank
+//! Keys and banks. A region of any length has an answer, and so has every bank
 //! number, pick and state; nothing needs a check beforehand.
 use crate::{answers::*, core_interface::*};
 
-/// Picks as they are handed over: all texts in a row, and five lengths to a
+/// Picks as they are passed: all texts one after the other, and five lengths to a
 /// pick (line, route, stop code, stop, stop name). A length past the texts' end
 /// means what is left, a missing one 0.
 #[derive(Clone, Copy, Debug)]
@@ -87,9 +87,8 @@ pub fn check_turn(region: &[u8], bank: u32, position: u32, crc: u32, n: u32) -> 
     unsafe { tt_check_turn(region.as_ptr(), region.len(), bank, position, crc, n) }
 }
 
-/// The row at a place of a table of a source, the names line being that at 0:
-/// its values, joined, into the first bytes of `out`, and where each ends into
-/// `ends`.
+/// The row at an offset of a source's table, the names line being the one at 0: its
+/// values, joined, into the first bytes of `out`, and where each ends into `ends`.
 pub fn bank_row(
     region: &[u8],
     bank: u32,

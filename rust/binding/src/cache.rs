@@ -1,7 +1,7 @@
 //! The calls under the names of the firmware's cache.rs, each with a result or a
-//! refusal. Nothing needs a check beforehand: a region of any length, any bank,
-//! pick, value and place has an answer, as has a checking state or a writer of any
-//! bytes.
+//! refusal. Nothing needs a check beforehand: a region of any length and any bank,
+//! pick, value and offset have an answer, and so has a checking state or a writer
+//! made of any bytes.
 use crate::{
     answers::UNKNOWN,
     banks::{self, Picks},
@@ -63,14 +63,14 @@ pub struct Source {
     pub validator: [u8; 66],
 }
 
-/// When a bank was checked and its sources were updated, where known.
+/// When a bank was checked and its sources were updated, if known.
 #[derive(Clone, Copy, Debug, Default, PartialEq, Eq)]
 pub struct Freshness {
     pub checked_at: Option<i64>,
     pub source_updated_at: Option<i64>,
 }
 
-/// A row that was read: the place of the next one, and how many bytes its values
+/// A row that was read: the offset of the next one, and how many bytes its values
 /// have.
 #[derive(Clone, Copy, Debug, PartialEq, Eq)]
 pub struct Stored {
@@ -125,7 +125,7 @@ impl Bank {
         answered(refusal, Source::decode(&bytes))
     }
 
-    /// How fresh the bank is at `now` for three days, those wanted.
+    /// How fresh the bank is at `now` for those of three days that are wanted.
     pub fn fresh(
         &self,
         region: &[u8],
@@ -147,7 +147,7 @@ impl Bank {
         answered(answer.refusal, answer.same == 1)
     }
 
-    /// The row at a place of a table of a source, none at the table's end: its
+    /// The row at an offset of a source's table, none at the table's end: its
     /// values joined into `out`, and where each ends into `ends`.
     pub fn row(
         &self,
@@ -227,7 +227,7 @@ pub fn row(table: u32, values: Values, out: &mut [u8]) -> Result<usize, Refusal>
     answered(answer.refusal, answer.length)
 }
 
-/// Whether a trip id may be in the filter; with `insert` it is put there.
+/// Whether a trip id may be in the filter; with `insert` it is added.
 pub fn bloom(bits: &mut [u8], id: &[u8], insert: bool) -> Result<bool, Refusal> {
     let answer = if insert { rows::insert(bits, id) } else { rows::query(bits, id) };
     answered(answer.refusal, answer.present == 1)
@@ -236,14 +236,14 @@ pub fn bloom(bits: &mut [u8], id: &[u8], insert: bool) -> Result<bool, Refusal> 
 /// What a turn of checking says.
 #[derive(Clone, Copy, Debug, PartialEq, Eq)]
 pub enum Turn {
-    /// So many bytes were hashed.
+    /// The number of bytes hashed in this turn.
     Hashed(u32),
-    /// All were, and their CRC is the header's.
+    /// All bytes were hashed, and their CRC is the header's.
     Good,
 }
 
 /// The state of checking a bank's data in turns. It may be kept as its bytes and
-/// made from any: one past its ranges meets 11.
+/// made from any: one out of its ranges is refused (11).
 #[derive(Clone, Copy, Debug, PartialEq, Eq)]
 pub struct Checking([u8; 12]);
 
@@ -280,9 +280,9 @@ impl Checking {
     }
 }
 
-/// An update. It may be kept as its bytes and made from any: one past its ranges
-/// meets 11. A refused call leaves it as it was. Calls of both layers may follow
-/// each other.
+/// An update. It may be kept as its bytes and made from any: one out of its ranges
+/// is refused (11). A refused call leaves it as it was. Calls of both layers may be
+/// mixed.
 #[derive(Clone, Copy, Debug, PartialEq, Eq)]
 pub struct Writer(State);
 
@@ -312,7 +312,7 @@ impl Writer {
         done(self.0.start(table))
     }
 
-    /// Takes bytes until the tail is full, and says how many; none while an
+    /// Appends bytes until the tail is full, and says how many; none while an
     /// operation is due.
     pub fn append(&mut self, bytes: &[u8]) -> Result<usize, Refusal> {
         let answer = self.0.append(bytes);
@@ -329,20 +329,20 @@ impl Writer {
         done(self.0.close())
     }
 
-    /// The flash operation that the next `due` does, on a writer that calls
-    /// reached: for a driver that brings it to the chip. None where nothing is
-    /// due, and in comparing mode.
+    /// The flash operation that the next `due` does, on a writer that calls have
+    /// reached: for a driver that does it on the chip. None if nothing is due, and
+    /// in comparing mode.
     pub fn operation(&self) -> Option<Operation> {
         self.0.operation()
     }
 
-    /// Does the operation that is due; whether there was one.
+    /// Does the operation that is due, and says whether there was one.
     pub fn due(&mut self, region: &mut [u8]) -> Result<bool, Refusal> {
         let answer = self.0.due(region);
         answered(answer.refusal, answer.answer != update::NONE_DUE)
     }
 
-    /// Whether the active bank is what was compared with it.
+    /// Whether the active bank equals what was compared with it.
     pub fn unchanged(&mut self, region: &[u8]) -> Result<bool, Refusal> {
         let answer = self.0.unchanged(region);
         answered(answer.refusal, answer.answer == update::SAME)
@@ -366,7 +366,7 @@ impl Writer {
 
 /// The upper layer: a call does all its flash operations, and leaves none due.
 impl Writer {
-    /// Begins an update, and feeds the key of an identity and picks.
+    /// Begins an update, and appends the key of an identity and picks.
     pub fn with_key(
         region: &mut [u8],
         comparing: bool,
@@ -379,17 +379,17 @@ impl Writer {
         answered(answer.refusal, Self(state))
     }
 
-    /// Begins a source, and feeds its dates.
+    /// Begins a source, and appends its dates.
     pub fn upper_source(&mut self, region: &mut [u8], source: &Source) -> Result<(), Refusal> {
         done(self.0.upper_source(region, &source.encode()))
     }
 
-    /// Begins a table of the last source, and feeds its names line.
+    /// Begins a table of the last source, and appends its names line.
     pub fn upper_start(&mut self, region: &mut [u8], table: u32) -> Result<(), Refusal> {
         done(self.0.upper_table(region, table))
     }
 
-    /// Feeds a row of the open table.
+    /// Appends a row of the open table.
     pub fn row(&mut self, region: &mut [u8], values: Values) -> Result<(), Refusal> {
         done(self.0.upper_row(region, values))
     }

@@ -1,14 +1,14 @@
 //! Safe functions over the proved core. No call needs a check beforehand: every
-//! index, number and length has an answer. `cache` has the calls under the names
-//! of the firmware's cache.rs, with results and refusals; the other modules have
-//! them with the numbers that cross the C interface.
+//! index, number and length has an answer. `cache` has the calls under the names of
+//! the firmware's cache.rs, with results and refusals; the other modules have them
+//! with the numbers of the C interface.
 #![no_std]
 
 pub mod cache;
 pub mod refusal;
 pub use refusal::Refusal;
 
-/// The core's C interface, in one place. A slice is a pointer and a length.
+/// The core's C interface, all declarations. A slice is a pointer and a length.
 mod core_interface {
     use crate::answers::*;
 
@@ -132,7 +132,7 @@ pub fn next(g: u32) -> u32 {
     tt_next(g)
 }
 
-/// The date's number, or none where there is no such date.
+/// The date's number, or none if there is no such date.
 pub fn date_new(year: u16, month: u8, day: u8) -> Option<u32> {
     match tt_date_new(year, month, day) {
         0 => None,

@@ -56,8 +56,7 @@ impl Refusal {
         Self::Table,
     ];
 
-    /// The refusal with a number, none for 0 and for a number that no refusal
-    /// has.
+    /// The refusal with a number; none for 0 and for a number without a refusal.
     pub fn of(number: u32) -> Option<Self> {
         Self::ALL.into_iter().find(|r| r.number() == number)
     }

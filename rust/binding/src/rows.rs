@@ -1,5 +1,5 @@
-//! Rows and the trip filter. Every table number, value, place, width and size
-//! has an answer; nothing needs a check beforehand.
+//! Rows and the trip filter. Every table number, value, offset, width and size has
+//! an answer; nothing needs a check beforehand.
 
 mod core_interface {
     use super::{FilterAnswer, ReadAnswer, RowAnswer};
@@ -42,8 +42,8 @@ mod core_interface {
 }
 use core_interface::*;
 
-/// A written line's length. A refusal is document 01's number, 0 for none;
-/// beside it the length is 0.
+/// A written line's length. A refusal is its number, 0 for none; beside one the
+/// length is 0.
 #[repr(C)]
 #[derive(Clone, Copy, Debug, Default, PartialEq, Eq)]
 pub struct RowAnswer {
@@ -51,7 +51,7 @@ pub struct RowAnswer {
     pub length: usize,
 }
 
-/// A row that was read: the place of the next one, and how many bytes its values
+/// A row that was read: the offset of the next one, and how many bytes its values
 /// have. All numbers are 0 at the table's end, and beside a refusal.
 #[repr(C)]
 #[derive(Clone, Copy, Debug, Default, PartialEq, Eq)]
@@ -70,8 +70,8 @@ pub struct FilterAnswer {
     pub present: u32,
 }
 
-/// A row's values as they are handed over: all texts in a row, and a length for
-/// each value. A length past the texts' end means what is left.
+/// A row's values as they are passed: all texts one after the other, and a length
+/// for each value. A length past the texts' end means what is left.
 #[derive(Clone, Copy, Debug)]
 pub struct Values<'a> {
     pub texts: &'a [u8],
@@ -103,8 +103,8 @@ pub fn row(table: u32, values: Values, out: &mut [u8]) -> RowAnswer {
     }
 }
 
-/// The row of `width` values at a place of a stored table: the values joined
-/// into the first bytes of `out`, and where each ends into `ends`.
+/// The row of `width` values at an offset of a stored table: the values joined into
+/// the first bytes of `out`, and where each ends into `ends`.
 pub fn read_row(
     table: &[u8],
     width: usize,
@@ -131,7 +131,7 @@ pub fn query(bits: &[u8], id: &[u8]) -> FilterAnswer {
     unsafe { tt_filter_query(bits.as_ptr(), bits.len(), id.as_ptr(), id.len()) }
 }
 
-/// Puts a trip id into the filter, and says whether it may have been there.
+/// Adds a trip id to the filter, and says whether it may have been there.
 pub fn insert(bits: &mut [u8], id: &[u8]) -> FilterAnswer {
     unsafe { tt_filter_insert(bits.as_mut_ptr(), bits.len(), id.as_ptr(), id.len()) }
 }

@@ -1,5 +1,5 @@
 //! An update, call by call: the lower layer, one flash operation a call, and the
-//! upper layer, whole rows and tables. Any state has an answer, as has every
+//! upper layer, whole rows and tables. Any state has an answer, and so has every
 //! region, table, record and row; nothing needs a check beforehand.
 use crate::{answers::Refusal, banks::Picks, rows::Values};
 
@@ -72,8 +72,8 @@ pub const NONE_DUE: u32 = 2;
 pub const SAME: u32 = 3;
 pub const DIFFERENT: u32 = 4;
 
-/// What a call says. A refusal is document 01's number, 0 for none; beside it
-/// the other numbers are 0. The count is of bytes taken.
+/// What a call answers. A refusal is its number, 0 for none; beside one the other
+/// numbers are 0. The count is that of the bytes appended.
 #[repr(C)]
 #[derive(Clone, Copy, Debug, Default, PartialEq, Eq)]
 pub struct Answer {
@@ -109,7 +109,8 @@ struct Source {
     /// Start, end, present.
     numbers: [u32; 3],
     updated: i64,
-    /// The original dates' pairs, then offset, length and CRC of each block.
+    /// The originals' pairs (CRC and length), then offset, length and CRC of each
+    /// block.
     tables: [u32; 40],
     stamp: [u8; 12],
     idlen: u8,
@@ -136,7 +137,7 @@ pub struct State {
 /// the other, little-endian.
 pub const SIZE: usize = 16 + 36 + 8 + 44 + 3 * 339 + 256;
 
-/// How many bytes an answer with its state has where it crosses.
+/// How many bytes an answer with its state has in the C interface.
 pub const STEP: usize = size_of::<Step>();
 
 const _: () = assert!(size_of::<State>() == 1400 && STEP == 1416);
@@ -144,15 +145,15 @@ const _: () = assert!(size_of::<State>() == 1400 && STEP == 1416);
 const BANK_SIZE: usize = 491_520;
 const SECTOR: usize = 4_096;
 
-/// A flash operation, by its place in the region: an erase of a sector of 4,096
-/// bytes, or a write of so many.
+/// A flash operation, by its offset in the region: an erase of a sector of 4,096
+/// bytes, or a write of a number of bytes.
 #[derive(Clone, Copy, Debug, PartialEq, Eq)]
 pub enum Operation {
     Erase { offset: usize },
     Write { offset: usize, length: usize },
 }
 
-/// Goes over a state's bytes in order, and copies them to or from the state.
+/// Goes through a state's bytes in order, and copies them to or from the state.
 struct Copier<'a> {
     bytes: &'a mut [u8; SIZE],
     at: usize,
@@ -221,7 +222,7 @@ impl State {
             tail: [0; 256],
         }
     }
-    /// The state that bytes are; any are allowed.
+    /// The state that these bytes are; any are allowed.
     pub fn from_bytes(mut bytes: [u8; SIZE]) -> Self {
         let mut state = Self::empty();
         state.copy(&mut bytes, true);
@@ -238,27 +239,27 @@ impl State {
         *self = step.state;
         step.answer
     }
-    /// Takes the other's numbers: all that `due` changes.
+    /// Copies the other's numbers: all that `due` changes.
     #[doc(hidden)]
     pub fn take_numbers(&mut self, other: &Self) {
         (self.stage, self.bank) = (other.stage, other.bank);
         (self.now, self.numbers) = (other.now, other.numbers);
     }
-    /// Takes the other's numbers and tail: all that `append` and `upper_row`
-    /// change. These calls and `due` leave the sources, three quarters of a
-    /// state (crates/writer/specs/Parts.antt).
+    /// Copies the other's numbers and tail: all that `append` and `upper_row`
+    /// change. These calls and `due` leave the sources, three quarters of a state
+    /// (crates/writer/specs/Parts.antt).
     #[doc(hidden)]
     pub fn take_parts(&mut self, other: &Self) {
         self.take_numbers(other);
         self.tail = other.tail;
     }
-    /// The bank that is written: the one that isn't active, 0 where none is.
+    /// The bank that is written: the one that isn't active, 0 if none is.
     fn target(&self) -> usize {
         usize::from(self.stage[3] == 1 && self.bank.numbers[0] == 0)
     }
-    /// The flash operation that the next due call does, on a state that calls
-    /// reached: for a driver that brings it to the chip. None where nothing is
-    /// due, and in comparing mode.
+    /// The flash operation that the next due call does, on a state that calls have
+    /// reached: for a driver that does it on the chip. None if nothing is due, and
+    /// in comparing mode.
     pub fn operation(&self) -> Option<Operation> {
         let [kind, first, second, _] = self.stage.map(|n| n as usize);
         let bank = self.target() * BANK_SIZE;
@@ -276,7 +277,8 @@ impl State {
     }
 }
 
-/// The calls that leave the sources, with the whole state as it crosses back.
+/// The calls that leave the sources, with the whole state as the C interface
+/// returns it.
 impl State {
     fn appended(&self, bytes: &[u8]) -> Step {
         unsafe { tt_update_bytes(*self, bytes.as_ptr(), bytes.len()) }
@@ -297,19 +299,19 @@ impl State {
             )
         }
     }
-    /// `append`, and all of the state taken back: for comparing.
+    /// `append`, with all of the returned state: for comparing.
     #[doc(hidden)]
     pub fn append_whole(&mut self, bytes: &[u8]) -> Answer {
         let step = self.appended(bytes);
         self.take(step)
     }
-    /// `due`, and all of the state taken back.
+    /// `due`, with all of the returned state.
     #[doc(hidden)]
     pub fn due_whole(&mut self, region: &mut [u8]) -> Answer {
         let step = self.operated(region);
         self.take(step)
     }
-    /// `upper_row`, and all of the state taken back.
+    /// `upper_row`, with all of the returned state.
     #[doc(hidden)]
     pub fn upper_row_whole(&mut self, region: &mut [u8], values: Values) -> Answer {
         let step = self.fed(region, values);
@@ -319,14 +321,14 @@ impl State {
 
 /// The lower layer: a call does at most one flash operation.
 impl State {
-    /// Begins an update on a region; where it is refused, every call on the
-    /// state is.
+    /// Begins an update on a region; if it is refused, so is every call on the
+    /// state.
     pub fn new(region: &[u8], comparing: bool, now: i64) -> (Self, Answer) {
         let mut state = Self::empty();
         let answer = state.begin(region, comparing, now);
         (state, answer)
     }
-    /// Begins an update in place of the one that was there.
+    /// Begins an update, which replaces the one that was there.
     pub fn begin(&mut self, region: &[u8], comparing: bool, now: i64) -> Answer {
         let (at, n) = (region.as_ptr(), region.len());
         let step = unsafe { tt_update_begin(at, n, comparing, now, *self) };
@@ -343,7 +345,7 @@ impl State {
         let step = tt_update_table(*self, table);
         self.take(step)
     }
-    /// Takes bytes until the tail is full, and says how many; none while an
+    /// Appends bytes until the tail is full, and says how many; none while an
     /// operation is due.
     pub fn append(&mut self, bytes: &[u8]) -> Answer {
         let step = self.appended(bytes);
@@ -366,7 +368,7 @@ impl State {
         self.take_numbers(&step.state);
         step.answer
     }
-    /// Whether the active bank is what was compared with it.
+    /// Whether the active bank equals what was compared with it.
     pub fn unchanged(&mut self, region: &[u8]) -> Answer {
         let step = unsafe { tt_update_unchanged(region.as_ptr(), region.len(), *self) };
         self.take(step)
@@ -387,7 +389,7 @@ impl State {
 
 /// The upper layer: a call does all its flash operations, and leaves none due.
 impl State {
-    /// Begins an update in place of the one that was there, and feeds the key
+    /// Begins an update, which replaces the one that was there, and appends the key
     /// of an identity and picks.
     pub fn upper_begin(
         &mut self,
@@ -414,19 +416,19 @@ impl State {
         };
         self.take(step)
     }
-    /// Begins a source, and feeds its dates; its record is version 3's, 384
+    /// Begins a source, and appends its dates; its record is version 3's, 384
     /// bytes. Missing bytes are 0.
     pub fn upper_source(&mut self, region: &mut [u8], record: &[u8]) -> Answer {
         let (at, n) = (region.as_mut_ptr(), region.len());
         let step = unsafe { tt_upper_source(at, n, *self, record.as_ptr(), record.len()) };
         self.take(step)
     }
-    /// Begins a table of the last source, and feeds its names line.
+    /// Begins a table of the last source, and appends its names line.
     pub fn upper_table(&mut self, region: &mut [u8], table: u32) -> Answer {
         let step = unsafe { tt_upper_table(region.as_mut_ptr(), region.len(), *self, table) };
         self.take(step)
     }
-    /// Feeds a row of the open table.
+    /// Appends a row of the open table.
     pub fn upper_row(&mut self, region: &mut [u8], values: Values) -> Answer {
         let step = self.fed(region, values);
         self.take_parts(&step.state);

@@ -1,4 +1,4 @@
-//! The calls of `cache` over the sample images, and on arguments that are wrong.
+//! The calls of `cache` on the sample images, and with wrong arguments.
 use bankcore::{
     Refusal, banks,
     banks::Picks,
@@ -163,8 +163,8 @@ fn a_refused_call_leaves_the_writer() {
     assert!((image, writer) == before);
 }
 
-/// States of an update and forged ones: the calls that leave the sources take
-/// back all that can be other than before.
+/// States of an update and forged ones: the calls that leave the sources copy back
+/// all that can have changed.
 #[test]
 fn what_a_call_leaves_is_not_taken_back() {
     let mut region = sample("two-good");

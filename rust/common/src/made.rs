@@ -1,4 +1,4 @@
-//! Banks made by document 01, whole or with something wrong in them.
+//! Banks made after document 01, whole or with something wrong in them.
 use crate::Random;
 
 pub const REGION: usize = 983_040;
@@ -7,7 +7,7 @@ pub const SECTOR: usize = 4096;
 pub const CAPACITY: usize = BANK - SECTOR;
 pub const UNKNOWN: i64 = i64::MIN;
 pub const COMMIT: u32 = 0x434f_4d54;
-/// Where the commit word stands in a bank, and how many bytes it has.
+/// The commit word's offset in a bank, and how many bytes it has.
 pub const WORD: usize = 44;
 pub const WORD_SIZE: usize = 4;
 const HEADER: usize = 1200;
@@ -37,7 +37,7 @@ pub struct Record {
     pub updated: i64,
     pub original: [[u32; 2]; 8],
     pub tables: [[u32; 3]; 8],
-    /// Stamp, id length, id, validator, and what stands after them.
+    /// Stamp, id length, id, validator, and what follows them.
     pub rest: Vec<u8>,
 }
 
@@ -65,13 +65,13 @@ pub struct Made {
     pub version: u32,
     pub generation: u32,
     pub length: u32,
-    /// The data's CRC, if it isn't to be the right one.
+    /// The data's CRC, if a wrong one is wanted.
     pub crc: Option<u32>,
     pub count: u32,
     pub key: u32,
     pub spare: u32,
     pub checked: i64,
-    /// The header's CRC, if it isn't to be the right one.
+    /// The header's CRC, if a wrong one is wanted.
     pub seal: Option<u32>,
     pub commit: u32,
     pub records: [Record; 3],

@@ -6,8 +6,8 @@ pub const SIZES: [usize; 5] = [8, 32, 16, 32, 64];
 /// The longest identity.
 pub const LONGEST: usize = 65_535;
 
-/// The picks that texts in a row and lengths, five to a pick, mean: a length past
-/// the end is what is left, a missing one 0.
+/// The picks that joined texts and lengths, five to a pick, mean: a length past the
+/// end is what is left, a missing one 0.
 pub fn fields<'a>(texts: &'a [u8], lengths: &[u32]) -> Vec<[&'a [u8]; 5]> {
     let mut rest = texts;
     let mut field = |k: usize| {
@@ -23,7 +23,7 @@ pub fn fields<'a>(texts: &'a [u8], lengths: &[u32]) -> Vec<[&'a [u8]; 5]> {
 const LETTERS: [&str; 12] =
     ["a", "b", "a", "b", "c", "7", "\u{0}", "\u{7f}", "\u{80}", "é", "€", "\u{10000}"];
 
-/// Bytes of text, as near to `length` as whole letters go.
+/// Bytes of text, as close to `length` as whole letters allow.
 pub fn text(random: &mut Random, length: usize) -> String {
     let mut text = String::new();
     while text.len() < length {

@@ -62,8 +62,8 @@ fn refused(refusal: u32) -> BankAnswer {
     BankAnswer { refusal, ..BankAnswer::default() }
 }
 
-/// The lifted `validate`, and where only the data's CRC is wrong, what it says
-/// with the right one in its place and the header sealed again.
+/// The lifted `validate`; and if only the data's CRC is wrong, what it says with
+/// the right CRC in the header, which is sealed again.
 fn header(region: &[u8], bank: usize) -> (Result<Bank, u32>, bool) {
     match numbered::validate(&View::new(region), bank as u32) {
         Ok(found) => (Ok(found), true),
@@ -232,7 +232,7 @@ fn written(region: &[u8], found: Bank, i: u32) -> Vec<u8> {
     out
 }
 
-/// Where the Rust finds stamp and id sensible: its own against those given.
+/// If the Rust finds stamp and id sensible: its own against those given.
 fn sensible(tally: &mut Tally, region: &[u8], found: Bank, i: u32, out: &[u8]) -> bool {
     let source = door::source(found, &View::new(region), i as usize).unwrap();
     let Some(snapshot) = source.snapshot else {
@@ -283,7 +283,7 @@ fn ask_sources(tally: &mut Tally, expected: &Expected, round: usize, random: &mu
 
 const STORED: [&str; 3] = ["stored rows read", "ends of a table", "stored rows refused"];
 
-/// A stored row that is asked for, and what its values and their ends go into.
+/// A stored row that is asked for, and the outputs for its values and their ends.
 struct Row {
     bank: usize,
     source: u32,
@@ -294,7 +294,7 @@ struct Row {
 }
 
 /// Stored rows: the bytes of the block that the lifted `Source` has, read as a
-/// table by the core's own reader, which the part stored-rows is about.
+/// table by the core's own reader, which the part stored-rows tests.
 fn ask_rows(tally: &mut Tally, expected: &Expected, round: usize, random: &mut Random) {
     for bank in 0..2 {
         let count = expected.header[bank].map_or(0, |b| BankFields::from(b).count);
@@ -310,7 +310,7 @@ fn ask_rows(tally: &mut Tally, expected: &Expected, round: usize, random: &mut R
     }
 }
 
-/// A row and those behind it, to the table's end or a refusal.
+/// A row and those after it, to the table's end or a refusal.
 fn ask_rows_from(tally: &mut Tally, expected: &Expected, round: usize, first: Row) {
     let Row { bank, source, table, mut place, mut out, mut ends } = first;
     let (mut after, mut places) = (out.clone(), ends.clone());
@@ -375,7 +375,7 @@ fn ask_fresh(tally: &mut Tally, expected: &Expected, round: usize, random: &mut 
     }
 }
 
-/// A selection near another: the same, with one pick more or less, or with
+/// A selection close to another: the same, with one pick more or less, or with
 /// something else changed.
 fn near(random: &mut Random, selection: &Selection) -> Selection {
     let mut other = selection.clone();
@@ -481,7 +481,7 @@ fn ask_turns_from(
     tally.same(last.verdict == 1, whole == 0, || input("the turns' yes"));
 }
 
-/// How many bytes a turn is to take, of data of a length with so many left.
+/// How many bytes a turn gets, of data of a length with n left.
 fn turn_size(random: &mut Random, length: u32, left: u32) -> u32 {
     match random.below(12) {
         0 => 0,
@@ -527,7 +527,7 @@ fn ask_states(
     }
 }
 
-/// What one bank is filled with.
+/// The content of one bank.
 fn store(random: &mut Random, pool: &[u8], bank: usize, other: u32) -> Store {
     let first = match random.below(60) {
         0 => First::Blank,
@@ -561,7 +561,7 @@ fn store(random: &mut Random, pool: &[u8], bank: usize, other: u32) -> Store {
     Store { bank, first, data, made: Some(made), flip, selection }
 }
 
-/// A header for a key and data of these lengths, in many with something wrong.
+/// A header for a key and data of these lengths, many with something wrong.
 fn header_for(random: &mut Random, (key, length): (usize, usize), other: u32) -> made::Made {
     let key_length = match random.below(12) {
         0 => 1 + random.below(length),
@@ -588,7 +588,7 @@ fn header_for(random: &mut Random, (key, length): (usize, usize), other: u32) ->
     made
 }
 
-/// What data are taken from: every other stretch is of bytes that make rows.
+/// What data are made from: every other stretch has bytes that make rows.
 fn pool() -> &'static [u8] {
     static POOL: OnceLock<Vec<u8>> = OnceLock::new();
     POOL.get_or_init(|| {
@@ -598,11 +598,11 @@ fn pool() -> &'static [u8] {
     })
 }
 
-/// Banks that are filled, and then all questions about the region.
+/// Banks are filled, then all questions are asked about the region.
 #[derive(Clone)]
 pub struct Round {
     stores: Vec<Store>,
-    /// What the questions are drawn from.
+    /// The seed of the questions.
     questions: u64,
 }
 
@@ -677,7 +677,7 @@ impl Input for Regions {
     }
 }
 
-/// Records with anything in them that passes, each byte given back held against
+/// Records with anything in them that passes; each byte returned is compared with
 /// the image's own.
 #[derive(Clone)]
 pub struct Records(Vec<Round>);

@@ -18,8 +18,8 @@ use common::{
 };
 use lifted::standins::flash::Operation;
 
-/// After how many operations: all where they are few, else the first ones, some,
-/// and the last ones.
+/// After how many operations: all if they are few, else the first ones, some, and
+/// the last ones.
 fn places(random: &mut Random, total: usize) -> Vec<usize> {
     if total <= 8 {
         return (0..=total).collect();
@@ -29,8 +29,8 @@ fn places(random: &mut Random, total: usize) -> Vec<usize> {
     places
 }
 
-/// A cut at each of these places, one more at the header erase and at the header
-/// write, and one after each byte of the commit word.
+/// A cut after each of these numbers of operations, one more at the header erase and
+/// at the header write, and one after each byte of the commit word.
 fn cuts(random: &mut Random, operations: &[Operation]) -> Vec<Cut> {
     let total = operations.len();
     let mut places = places(random, total);
@@ -41,8 +41,8 @@ fn cuts(random: &mut Random, operations: &[Operation]) -> Vec<Cut> {
     cuts
 }
 
-/// An update that is cut, and then another, whole. Bytes are offered in pieces drawn
-/// from a number.
+/// An update that is cut, and then another, whole. The pieces in which bytes are
+/// offered are drawn from a seed.
 #[derive(Clone)]
 struct Attempt {
     cut: Cut,
@@ -115,7 +115,7 @@ impl Attempt {
     }
 }
 
-/// An update that is cut, in one place after another.
+/// An update that is cut, at one operation after another.
 #[derive(Clone)]
 pub struct Cuts {
     found: Found,

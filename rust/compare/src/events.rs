@@ -30,13 +30,13 @@ use common::{
 };
 use lifted::standins::flash::Operation;
 
-/// What the calls so far allow, so that most updates come to their end.
+/// What the calls so far allow, so that most updates are finished.
 #[derive(Clone, Default)]
 struct Turn {
     comparing: bool,
-    /// Whether upper calls are made where they can be.
+    /// Whether upper calls are made if they can be.
     rows: bool,
-    /// How many bytes were taken, and how many more are to be.
+    /// How many bytes were appended, and how many more are wanted.
     taken: usize,
     left: usize,
     sources: usize,
@@ -224,9 +224,9 @@ struct Board {
     /// The held bank's bytes, as found or as the commit word left them.
     image: Vec<u8>,
     events: usize,
-    /// Whether a cut call did another operation than the ones of its run.
+    /// Whether a cut call did another operation than those of its run.
     strayed: bool,
-    /// The first upper call that wasn't its run.
+    /// The first upper call that differed from its run.
     apart: Option<String>,
 }
 
@@ -254,7 +254,7 @@ impl Board {
         let region = region.to_vec();
         Self { region, state: None, history, image, events: 0, strayed: false, apart: None }
     }
-    /// A beginning; how many bytes it took, where it is answered.
+    /// A beginning; how many bytes it appended, if it is answered.
     fn begin(&mut self, tally: &mut Tally, begin: &Begin) -> Option<usize> {
         let Begin { comparing, now, key, cut } = begin;
         if let Some(selection) = key {
@@ -331,7 +331,7 @@ impl Board {
         }
         Some(answer)
     }
-    /// What a call would come to.
+    /// What a call would do.
     fn whole(&self, call: &Call) -> Option<Upper> {
         let mut upper = Upper::of(self.state?, &self.region);
         upper.call(call);
@@ -349,7 +349,7 @@ impl Board {
         let operations = self.whole(call).map_or(Vec::new(), |upper| upper.run.operations);
         Cut::random(random, &operations)
     }
-    /// A cut of a beginning, drawn likewise.
+    /// A cut of a beginning, drawn in the same way.
     fn any_begin_cut(&self, random: &mut Random, begin: &Begin) -> Cut {
         let mode = (begin.comparing, begin.now);
         let whole = |key| Upper::begin(&self.region, mode, key, None).0.run.operations;
@@ -393,13 +393,13 @@ impl Board {
     }
 }
 
-/// What an event came to: a beginning that took so many bytes, or a call's answer.
+/// The result of an event: a beginning that appended n bytes, or a call's answer.
 enum After {
     Begun(Option<usize>),
     Answered(Option<Answer>),
 }
 
-/// Once in how many times a call is cut: more often where it does an operation.
+/// Once in how many times a call is cut: more often if it does an operation.
 fn cut_once_in(board: &Board, call: &Call) -> usize {
     let stage = board.state.map_or(IDLE, |state| Fields::of(&state).numbers[STAGE]);
     match (call, stage) {
@@ -436,7 +436,7 @@ fn draw(random: &mut Random, board: &Board, turn: &Turn) -> Event {
 /// How many calls a case has.
 const CALLS: usize = 500;
 
-/// A list of calls and cuts, on a region that is found.
+/// A list of calls and cuts, on some region.
 #[derive(Clone)]
 pub struct Events {
     found: Found,

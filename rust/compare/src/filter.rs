@@ -11,7 +11,7 @@ use lifted::cache::door;
 
 const SIZES: [usize; 13] = [0, 1, 2, 3, 7, 8, 100, 16_384, 65_535, 65_536, 65_537, 70_000, 1 << 20];
 
-/// The lifted `bloom`, or by document 01's sentences where an id isn't UTF-8.
+/// The lifted `bloom`, or document 01's sentences if an id isn't UTF-8.
 fn reference(bits: &mut [u8], id: &[u8], insert: bool) -> FilterAnswer {
     if bits.is_empty() || bits.len() > 65_536 {
         return FilterAnswer { refusal: 2, present: 0 };

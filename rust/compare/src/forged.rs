@@ -22,14 +22,14 @@ use common::{
     made::{self, BANK, CAPACITY, REGION, SECTOR},
 };
 
-/// Numbers at and around the ranges' ends, and large ones.
+/// Numbers at and around the ends of the ranges, and large ones.
 const EDGES: [u32; 34] = [
     0, 1, 2, 3, 4, 5, 6, 7, 8, 9, 118, 119, 120, 127, 128, 254, 255, 256, 257, 258, 512, 4092,
     4095, 4096, 4097, 487168, 487169, 487420, 487423, 487424, 487425, 487680, 491520, 983040,
 ];
 const LARGE: [u32; 6] = [!0 >> 1, 1 << 31, !255, !3, !1, !0];
 
-/// One of the edges, or near to what was there.
+/// One of the edges, or a number close to what was there.
 fn edge(random: &mut Random, old: u32) -> u32 {
     match random.below(10) {
         0 => old.wrapping_add(1),
@@ -119,8 +119,8 @@ fn fit(random: &mut Random, f: &mut Fields) {
     f.now = f.now.max(0);
 }
 
-/// Compared and closed, with a bank's own numbers, dates and blocks, whether or
-/// not that bank is good.
+/// Compared and closed, with a bank's own numbers, dates and blocks, whether or not
+/// that bank is good.
 fn matching(random: &mut Random, f: &mut Fields, region: &[u8]) {
     let get = lifted::cache::door::get;
     f.stage(IDLE, 0, 0);
@@ -150,10 +150,10 @@ const ANSWERS: [&str; 5] =
 enum Step {
     /// A beginning, comparing or not.
     Begin(bool),
-    /// The state is made this one.
+    /// The state is replaced by this one.
     Put(Box<Fields>),
     Call(Call),
-    /// Calls on the state and a region of so many bytes.
+    /// Calls on the state and a region of n bytes.
     Short(usize, Vec<Call>),
 }
 
@@ -238,7 +238,8 @@ impl Forged {
         self.state = fields.state();
         self.model.fields = fields;
     }
-    /// The region's length is wrong: 1 before all, and nothing changes.
+    /// The region's length is wrong: refusal 1 before all others, and nothing
+    /// changes.
     fn short_region(&self, tally: &mut Tally, size: usize, calls: &[Call]) {
         let (mut begun, mut region) = (self.state, vec![85; size]);
         let picks = Picks { texts: &[], lengths: &[] };

@@ -1,4 +1,4 @@
-//! Updates that fill the bank, and what doesn't fit any more.
+//! Updates that fill the bank, and what no longer fits.
 use crate::{
     run::Tally,
     update::{
@@ -21,7 +21,7 @@ fn one_table(random: &mut Random, rows: bool) -> Content {
 }
 
 /// An update that doesn't fit. The Rust writes what fits, and fails; the core
-/// refuses the bytes offered, all together, and then the first too many.
+/// refuses the bytes offered, all together, and then the first one too many.
 pub fn bytes(tally: &mut Tally, random: &mut Random, region: &[u8]) {
     let over = random.pick(&[1, 2, 255, 256, 4096]);
     let mut content = one_table(random, false);

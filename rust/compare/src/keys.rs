@@ -13,7 +13,7 @@ use lifted::{cache::door, gtfs::Error, standins::settings};
 
 pub const LONGEST_KEY: usize = 67_795;
 
-/// A selection as it is handed over.
+/// A selection as it is passed.
 #[derive(Clone, Debug, Default)]
 pub struct Selection {
     pub identity: Vec<u8>,
@@ -34,7 +34,7 @@ impl Selection {
         let lengths = picks.iter().flatten().map(|f| f.len() as u32).collect();
         Self { identity: identity.into(), texts, lengths }
     }
-    /// The lifted settings; refusal 2 where they can't be made.
+    /// The lifted settings; refusal 2 if they can't be made.
     pub fn config(&self) -> Result<lifted::timetable_display::Config, u32> {
         let fields = self.fields();
         let texts: Vec<[&str; 5]> =
@@ -73,7 +73,8 @@ impl Selection {
     fn is_text(&self) -> bool {
         self.fields().iter().flatten().all(|f| str::from_utf8(f).is_ok())
     }
-    /// Fewer picks and shorter fields; first the lengths are made the texts'.
+    /// Fewer picks and shorter fields; first the lengths are made those of the
+    /// texts.
     fn smaller_picks(&self) -> Moves<'_, Self> {
         let identity = &self.identity;
         if self.plain() {
@@ -92,7 +93,7 @@ impl Selection {
     }
 }
 
-/// A pick with letters left out, or with a field of as many bytes, all a.
+/// A pick with letters left out, or with a field of as many bytes, all of them a.
 fn smaller_pick(pick: &[String; 5]) -> Moves<'_, [String; 5]> {
     Box::new((0..5).flat_map(move |k| {
         let letters: Vec<char> = pick[k].chars().collect();
@@ -136,7 +137,7 @@ fn selection(random: &mut Random) -> Selection {
     made
 }
 
-/// Makes lengths and texts not fit each other, every other time.
+/// Every other time, makes lengths and texts that don't match.
 fn change_lengths(random: &mut Random, made: &mut Selection) {
     match random.below(8) {
         // missing lengths, which are 0
@@ -177,7 +178,7 @@ fn any_length(random: &mut Random) -> u32 {
     }
 }
 
-/// A selection, an output of so many bytes, and what is in it before.
+/// A selection, an output of n bytes, and its content before the call.
 #[derive(Clone)]
 pub struct Asked {
     selection: Selection,

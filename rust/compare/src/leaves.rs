@@ -12,7 +12,7 @@ const CAPACITY: usize = 487_424;
 /// Bytes before and after a lent buffer, to see whether they stay.
 const GUARD: usize = 16;
 
-/// Numbers at which 32-bit arithmetic turns.
+/// Numbers at which 32-bit arithmetic wraps or changes sign.
 fn corners() -> Vec<u32> {
     let mut list = vec![7, 0x434f_4d54, 0xedb8_8320, 0x1234_5678];
     for bit in [0, 8, 16, 24, 28, 30, 31] {
@@ -58,7 +58,7 @@ impl<C: Call> Question for Numbers<C> {
     }
 }
 
-/// The numbers of an input, to order by, and as text.
+/// The numbers of an input, for sorting, and as text.
 fn about<C: Call>(numbers: [u32; 3]) -> (Vec<u64>, String) {
     (numbers.map(u64::from).to_vec(), C::text(numbers))
 }
@@ -324,7 +324,7 @@ pub fn crc(plan: &Plan, tally: &mut Tally) {
 #[derive(Clone)]
 pub struct Long {
     bytes: Vec<u8>,
-    /// What the random pieces are drawn from.
+    /// The seed of the random pieces.
     pieces: u64,
 }
 
@@ -375,13 +375,13 @@ pub fn long_crc(_: &Plan, tally: &mut Tally) {
     }
 }
 
-/// A call at a place of a buffer.
+/// A call at an offset of a buffer.
 pub trait Access: Clone {
     const WIDTH: usize;
     fn ask(place: &Place<Self>, tally: &mut Tally);
 }
 
-/// The bytes stand between guards, so that a byte changed outside is seen.
+/// The bytes are between guards, so that a byte changed outside is seen.
 #[derive(Clone)]
 pub struct Place<A> {
     guarded: Vec<u8>,
@@ -395,7 +395,7 @@ impl<A> Place<A> {
     fn bytes(&self) -> &[u8] {
         &self.guarded[GUARD..GUARD + self.length]
     }
-    /// After a call on the bytes between the guards.
+    /// All bytes after a call on those between the guards.
     fn after(&self, call: impl FnOnce(&mut [u8])) -> Vec<u8> {
         let mut guarded = self.guarded.clone();
         call(&mut guarded[GUARD..GUARD + self.length]);
@@ -423,8 +423,8 @@ const VALUES: [i64; 9] =
     [0, 1, -1, i64::MIN, i64::MAX, i64::MIN + 1, 1 << 32, -(1 << 32), 1_790_000_000];
 
 impl<A: Access> Question for Place<A> {
-    /// Every length to 24 with every offset in it, near its end and near the last
-    /// number.
+    /// Every length to 24 with every offset in it, near its end and near the
+    /// largest number.
     fn list(case: &Case) -> Vec<Self> {
         let (mut random, mut list) = (case.random(), Vec::new());
         let corners = corners();

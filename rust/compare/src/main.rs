@@ -1,4 +1,4 @@
-//! Runs the core beside the lifted Rust and counts where they differ.
+//! Runs the core beside the lifted Rust and counts the differences.
 mod banks;
 mod cuts;
 mod events;
@@ -81,8 +81,7 @@ fn option(plan: &mut Plan, name: &str, value: Option<String>) -> Result<(), Exit
     Ok(())
 }
 
-/// The plan and the parts asked for; none where the program is to end with a
-/// status.
+/// The plan and the parts asked for; none if the program is to end with a status.
 fn asked() -> Result<(Plan, Vec<&'static Part>), ExitCode> {
     let mut plan = Plan { seed: 1, ..Plan::default() };
     let mut wanted = Vec::new();
@@ -114,7 +113,7 @@ fn numbers(plan: &Plan, random: Random, part: &'static str, end: Option<Instant>
     Run { part, seed: plan.seed, numbers, end }
 }
 
-/// What is left of the time, in shares for the parts to come.
+/// The time left, shared among the parts to come.
 fn end(until: Option<Instant>, share: u32, to_come: u32) -> Option<Instant> {
     let now = Instant::now();
     until.map(|until| now + until.saturating_duration_since(now) * share / to_come)
@@ -145,7 +144,7 @@ fn run(plan: &Plan, parts: &[&'static Part]) -> Vec<Tally> {
     tallies
 }
 
-/// What a part's inputs were, and where they differ.
+/// What a part's inputs were, and which differ.
 fn report(part: &Part, tally: &Tally) {
     let (name, note) = (part.name, tally.note());
     if !note.is_empty() || tally.differ > 0 {

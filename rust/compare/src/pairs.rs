@@ -1,6 +1,6 @@
-//! Refusals that are true at once: for each call every set of causes that can
-//! stand together, so every pair; the earliest is the answer, and what was lent
-//! stays as it was.
+//! Refusals that are true at once: for each call every set of causes that can occur
+//! together, so every pair; the earliest is the answer, and what was lent stays as
+//! it was.
 use crate::{
     keys::Selection,
     run::{Plan, Tally},
@@ -39,17 +39,17 @@ enum Cause {
     StateLate,
     Data,
     Identity,
-    /// A place past the table's end.
+    /// An offset past the table's end.
     Row,
     Small,
 }
 use Cause::*;
 
-/// A stored row of two values, and the table that it stands in.
+/// A stored row of two values, and the table that it is in.
 const STORED: &[u8] = b"a,b\n";
 const FEED_INFO: usize = 6;
 
-/// In the order of the tests, so the first of a set is the one answered.
+/// In the order of the tests, so the first of a set is the answer.
 const ORDER: [(Cause, u32); 18] = [
     (Region, 1),
     (Bank, 2),
@@ -100,7 +100,7 @@ fn number(set: &[Cause]) -> u32 {
     ORDER.iter().find(|(cause, _)| set.contains(cause)).map_or(0, |(_, number)| *number)
 }
 
-/// One set of causes, in one of three ways each.
+/// One set of causes, each in one of three ways.
 struct Case<'a> {
     set: &'a [Cause],
     way: usize,
@@ -158,7 +158,7 @@ fn header(random: &mut Random, set: &[Cause], way: usize) -> Made {
     made
 }
 
-/// A refusal, or -1 where the rest of its answer is wrong.
+/// A refusal, or -1 if the rest of its answer is wrong.
 fn refused(refusal: u32, rest: bool) -> i64 {
     if refusal == 0 || rest { i64::from(refusal) } else { -1 }
 }
@@ -194,7 +194,7 @@ impl<'a> Case<'a> {
     fn index(&self) -> u32 {
         if self.has(Index) { [4, 10, u32::MAX][self.way] } else { 0 }
     }
-    /// The refusal that a call gives; -1 where anything beside it is wrong.
+    /// The refusal that a call gives; -1 if anything beside it is wrong.
     fn ask(&self, call: &str) -> i64 {
         match call {
             "validate" => of_bank(banks::validate(self.region(), self.bank())),

@@ -17,7 +17,7 @@ pub struct Part {
 /// A part's random cases.
 #[derive(Clone, Copy)]
 pub struct Random {
-    /// How many are run where nothing else is asked for.
+    /// How many are run if nothing else is asked for.
     pub usual: u64,
     /// Its share of the time that is asked for.
     pub share: u32,

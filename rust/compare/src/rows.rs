@@ -19,7 +19,7 @@ use std::cell::RefCell;
 /// The longest row, with its LF.
 pub const LONGEST: usize = 8192;
 
-/// A flash that keeps what is written behind bank 0's header sector.
+/// A flash that keeps what is written after bank 0's header sector.
 #[derive(Default)]
 struct Sink(RefCell<Vec<u8>>);
 
@@ -68,7 +68,7 @@ impl Lifted {
     fn names_line(&mut self, table: usize) -> Vec<u8> {
         self.written(|update| update.start(Table::ALL[table]))
     }
-    /// `Writer::row`, where the values are UTF-8.
+    /// `Writer::row`, if the values are UTF-8.
     fn row(&mut self, table: usize, values: &[&[u8]]) -> Option<Vec<u8>> {
         let table = Table::ALL[table];
         let texts: Vec<&str> =
@@ -102,7 +102,7 @@ fn csv_row(_: &[&[u8]]) -> Option<Vec<u8>> {
     None
 }
 
-/// The values as they are handed over.
+/// The values as they are passed.
 fn cut<'a>(mut texts: &'a [u8], lengths: &[u32]) -> Vec<&'a [u8]> {
     let one = |n: &u32| {
         let (value, rest) = texts.split_at(texts.len().min(*n as usize));
@@ -116,12 +116,12 @@ pub fn columns(table: usize) -> usize {
     door::columns(Table::ALL[table]).len()
 }
 
-/// The row by the lifted writer where the values are UTF-8, else by csv-core's.
+/// The row by the lifted writer if the values are UTF-8, else by csv-core's.
 fn reference(lifted: &mut Lifted, table: usize, values: &[&[u8]]) -> Option<Vec<u8>> {
     lifted.row(table, values).or_else(|| csv_row(values))
 }
 
-/// The answer and the output, which the row's bytes decide.
+/// The answer and the output, which the row's bytes determine.
 fn answered(bytes: &[u8], before: &[u8]) -> (RowAnswer, Vec<u8>) {
     let mut after = before.to_vec();
     let refused = |refusal| RowAnswer { refusal, length: 0 };
@@ -232,7 +232,7 @@ impl Written {
     }
 }
 
-/// A row at a place, by the core, with its values.
+/// A row at an offset, by the core, with its values.
 fn values_at(table: &[u8], width: usize, place: usize) -> (rows::ReadAnswer, Vec<Vec<u8>>) {
     let (mut out, mut ends) = ([0; LONGEST], [0; 16]);
     let answer = rows::read_row(table, width, place, &mut out, &mut ends);
@@ -369,8 +369,8 @@ fn value(random: &mut Random, any: bool) -> Vec<u8> {
     out
 }
 
-/// A row's texts and their lengths, and two outputs: one that just fits, and one
-/// of so many bytes.
+/// A row's texts and their lengths, and two outputs: one that just fits, and one of
+/// n bytes.
 #[derive(Clone)]
 struct Row {
     texts: Vec<u8>,
@@ -408,7 +408,7 @@ impl Row {
     fn values(&self) -> Vec<&[u8]> {
         cut(&self.texts, &self.lengths)
     }
-    /// Asks for it twice; the line and its values, where it is written.
+    /// Asks for it twice; the line and its values, if it is written.
     fn ask(&self, tally: &mut Tally, lifted: &mut Lifted, table: usize, written: &mut Written) {
         let Self { texts, lengths, room, with } = self;
         let values = self.values();
@@ -432,7 +432,7 @@ impl Row {
             written.push(&out[..core.length], &values);
         }
     }
-    /// Shorter values; first the lengths are made the texts'.
+    /// Shorter values; first the lengths are made those of the texts.
     fn smaller(&self) -> Moves<'_, Self> {
         let Self { room, with, .. } = *self;
         let values: Vec<Vec<u8>> = self.values().iter().map(|v| v.to_vec()).collect();
@@ -453,7 +453,7 @@ impl Row {
     }
 }
 
-/// Bytes as text: letters where they are few, else how many and their CRC.
+/// Bytes as text: letters if they are few, else how many and their CRC.
 pub fn text(bytes: &[u8]) -> String {
     if bytes.len() > 64 { hex(bytes) } else { bytes.escape_ascii().to_string() }
 }

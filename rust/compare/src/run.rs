@@ -13,7 +13,8 @@ use std::{
 
 /// How many differing inputs are shown, smallest first.
 const SHOWN: usize = 5;
-/// How long the smallest form of a part's case is looked for; a test waits for it.
+/// How long the smallest form of a part's case is searched for; a test waits for
+/// it.
 const SEARCH: Duration = Duration::from_secs(if cfg!(test) { 600 } else { 20 });
 
 /// What is asked for.
@@ -26,8 +27,8 @@ pub struct Plan {
     pub minutes: Option<f64>,
 }
 
-/// One of a part's cases. Its random numbers are its own, so that it can be run
-/// alone.
+/// One of a part's cases. Its random numbers depend on nothing else, so that it can
+/// be run alone.
 pub struct Case {
     pub seed: u64,
     pub number: u64,
@@ -52,18 +53,18 @@ pub struct Tally {
     pub cases: u64,
     pub compared: u64,
     pub differ: u64,
-    /// The case that is run.
+    /// The case that is running.
     case: Option<u64>,
     smallest: BTreeMap<(Vec<u64>, u64), String>,
-    /// What the inputs were, where the number of answers doesn't say it.
+    /// What the inputs were, if the number of answers doesn't say it.
     counts: Vec<(&'static str, u64)>,
     /// The first differing case in its smallest form.
     pub form: Vec<String>,
 }
 
 impl Tally {
-    /// Compares two answers. `input` is the input as numbers, to order by, and
-    /// as text; it is asked for only where the answers differ.
+    /// Compares two answers. `input` is the input as numbers, for sorting, and as
+    /// text; it is made only if the answers differ.
     #[inline]
     pub fn same<T: PartialEq + Debug>(
         &mut self,
@@ -91,7 +92,7 @@ impl Tally {
             self.smallest.pop_last();
         }
     }
-    /// The comparison itself came to an end before its time.
+    /// The comparison itself stopped early.
     pub fn stopped(&mut self, text: &str) {
         self.compared += 1;
         self.different(Vec::new(), format!("stopped: {text}"));
@@ -102,7 +103,7 @@ impl Tally {
             None => self.counts.push((what, more as u64)),
         }
     }
-    /// One more refusal by its number.
+    /// One more refusal with this number.
     pub fn refused(&mut self, refusal: u32) {
         self.count(REFUSED[(refusal as usize).min(15)], 1);
     }
@@ -148,7 +149,7 @@ thread_local! {
     static SAID: RefCell<String> = const { RefCell::new(String::new()) };
 }
 
-/// Lets `quietly` keep what a panic says.
+/// Lets `quietly` keep a panic's message.
 pub fn listen() {
     let usual = panic::take_hook();
     panic::set_hook(Box::new(move |said| match QUIET.get() {
@@ -157,7 +158,7 @@ pub fn listen() {
     }));
 }
 
-/// Runs what may panic, saying nothing; what the panic said if it did.
+/// Runs what may panic, printing nothing; the panic's message if it did.
 pub fn quietly<T>(run: impl FnOnce() -> T) -> Result<T, String> {
     let before = QUIET.replace(true);
     let done = panic::catch_unwind(panic::AssertUnwindSafe(run));
@@ -165,7 +166,7 @@ pub fn quietly<T>(run: impl FnOnce() -> T) -> Result<T, String> {
     done.map_err(|_| SAID.take())
 }
 
-/// Says on a terminal how far the program is; in a pipe nothing.
+/// Shows the progress on a terminal; nothing in a pipe.
 pub fn progress(text: &str) {
     if stderr().is_terminal() {
         eprint!("\r\x1b[K{text}");
@@ -233,7 +234,7 @@ pub fn cases<I: Input>(run: &Run, tally: &mut Tally) {
     }
 }
 
-/// Bytes as text: in hex where they are few, else how many and their CRC.
+/// Bytes as text: in hex if they are few, else how many and their CRC.
 pub fn hex(bytes: &[u8]) -> String {
     if bytes.is_empty() {
         return "no bytes".into();

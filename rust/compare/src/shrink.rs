@@ -1,4 +1,4 @@
-//! The inputs of a case as a value, and how they are made as small as they go
+//! The inputs of a case as a value, and how they are made as small as possible
 //! while the case still differs.
 use crate::run::{Case, Tally, quietly};
 use std::{
@@ -15,10 +15,9 @@ pub trait Input: Clone {
     fn make(case: &Case) -> Self;
     /// Asks both sides.
     fn compare(&self, tally: &mut Tally);
-    /// Each move leaves something out or makes it simpler, so that moves come to
-    /// an end.
+    /// Each move leaves something out or makes it simpler, so moves come to an end.
     fn smaller(&self) -> Moves<'_, Self>;
-    /// In words, a thing a line.
+    /// In words, one item a line.
     fn show(&self) -> Vec<String>;
     /// Made and compared.
     fn tried(case: &Case, tally: &mut Tally) -> Self {
@@ -28,7 +27,7 @@ pub trait Input: Clone {
     }
 }
 
-/// One of a list of questions that have nothing to do with each other.
+/// One of a list of independent questions.
 pub trait Question: Clone {
     fn list(case: &Case) -> Vec<Self>;
     fn ask(&self, tally: &mut Tally);
@@ -51,7 +50,7 @@ impl<Q: Question> Input for Vec<Q> {
     }
 }
 
-/// In how many stretches a list is cut at most.
+/// Into how many stretches a list is cut at most.
 const STRETCHES: usize = 256;
 
 /// All of a list, its halves, its quarters and so on.
@@ -82,12 +81,12 @@ pub fn each<'a, T: Clone>(
     }))
 }
 
-/// Bytes with a stretch left out or made zeros.
+/// Bytes with a stretch left out or set to zero.
 pub fn bytes(list: &[u8]) -> Moves<'_, Vec<u8>> {
     Box::new(fewer(list).chain(zeros(list)))
 }
 
-/// Bytes with a stretch made zeros.
+/// Bytes with a stretch set to zero.
 pub fn zeros(list: &[u8]) -> Moves<'_, Vec<u8>> {
     let others = |span: &Range<usize>| list[span.clone()].iter().any(|b| *b != 0);
     Box::new(stretches(list.len()).filter(others).map(|span| {
@@ -102,7 +101,7 @@ pub fn number(n: u64) -> Moves<'static, u64> {
     Box::new(successors(Some(n), |less| Some(less / 2)).take_while(|l| *l > 0).map(move |l| n - l))
 }
 
-/// The differences of an input; what stopped the comparison is one too.
+/// The differences of an input; a comparison that stops is one too.
 fn differences<I: Input>(input: &I) -> (Tally, bool) {
     let mut tally = Tally::default();
     let stopped = quietly(|| input.compare(&mut tally)).err();
@@ -112,7 +111,7 @@ fn differences<I: Input>(input: &I) -> (Tally, bool) {
     (tally, stopped.is_some())
 }
 
-/// What a search for the smallest form came to.
+/// The result of a search for the smallest form.
 pub struct Smallest<I> {
     pub input: I,
     pub steps: usize,
@@ -121,9 +120,9 @@ pub struct Smallest<I> {
     pub differences: Vec<String>,
 }
 
-/// Goes on with the first move that still differs, until none does or the time
-/// is over. An input that stops the comparison stays one that does, and one that
-/// doesn't stays one that doesn't.
+/// Goes on with the first move that still differs, until none does or the time is
+/// over. An input that makes the comparison stop is only replaced by one that does
+/// too, and one that doesn't by one that doesn't.
 pub fn smallest<I: Input>(mut input: I, limit: Duration) -> Option<Smallest<I>> {
     let end = Instant::now() + limit;
     let (tally, stops) = differences(&input);

@@ -8,8 +8,8 @@ use crate::{
 use bankcore::rows::{self, ReadAnswer, Values};
 use common::Random;
 
-/// The row at the front, and where it ends, by document 01's sentences; none
-/// where it is malformed. Nothing here is the core's or the Rust's.
+/// The row at the front and its end, by document 01's sentences; none if it is
+/// malformed. Nothing here is the core's or the Rust's.
 fn row_at(bytes: &[u8]) -> Option<(Vec<Vec<u8>>, usize)> {
     enum At {
         Begin,
@@ -121,7 +121,7 @@ mod judges {
         }
     }
 
-    /// The rows behind the names line by the lifted `csv::Reader`, up to the first
+    /// The rows after the names line by the lifted `csv::Reader`, up to the first
     /// that it refuses.
     pub fn lifted_records(bytes: &[u8], table: Table) -> Vec<Vec<Vec<u8>>> {
         let mut reader = gtfs::csv::Reader::<_>::new(Bytes(bytes), table);
@@ -134,7 +134,7 @@ mod judges {
     }
 }
 
-/// The answer, and what stands in the outputs.
+/// The answer, and the content of the outputs.
 type Outcome = (ReadAnswer, Vec<u8>, Vec<usize>);
 
 struct Question<'a> {
@@ -209,8 +209,8 @@ impl Question<'_> {
     }
 }
 
-/// What csv-core can say: of a row that is read, its values and its end. It
-/// skips lines without a byte, and a byte order mark.
+/// What csv-core can say of a row that is read: its values and its end. It skips
+/// lines without a byte, and a byte order mark.
 fn beside_csv(tally: &mut Tally, question: &Question, answer: ReadAnswer) {
     #[cfg(feature = "reader")]
     if answer.found == 1 {
@@ -232,7 +232,7 @@ fn beside_csv(tally: &mut Tally, question: &Question, answer: ReadAnswer) {
     let _ = (tally, question, answer);
 }
 
-/// Every table of up to so many bytes, read at its start with widths 0 to 5.
+/// Every table of up to n bytes, read at its start with widths 0 to 5.
 fn short_tables(plan: &Plan, tally: &mut Tally) {
     const BYTES: [u8; 5] = *b"a\",\n\r";
     let longest = if plan.quick { 5 } else { 8 };
@@ -309,7 +309,7 @@ fn table(random: &mut Random, number: usize) -> Vec<u8> {
     table
 }
 
-/// One read: its place and width, and the outputs' lengths.
+/// One read: its offset and width, and the outputs' lengths.
 #[derive(Clone, Copy)]
 struct Read {
     place: usize,
@@ -341,7 +341,7 @@ impl Read {
     }
 }
 
-/// A table as it is stored, damaged or not, read row by row and elsewhere.
+/// A table as it is stored, damaged or not, read row by row and at other offsets.
 #[derive(Clone)]
 pub struct Stored {
     table: Vec<u8>,

@@ -1,4 +1,4 @@
-//! What regions are filled with, as values: banks, and whole regions.
+//! The content of regions, as values: banks, and whole regions.
 use crate::{
     keys::Selection,
     run::{hex, hex_then_zeros},
@@ -10,7 +10,7 @@ use common::{
 };
 use std::rc::Rc;
 
-/// What stands in a header sector before a header is written.
+/// What is in a header sector before a header is written.
 #[derive(Clone, Default, PartialEq, Eq)]
 pub enum First {
     #[default]
@@ -19,16 +19,16 @@ pub enum First {
     Bytes(Vec<u8>),
 }
 
-/// What a bank is filled with.
+/// The content of a bank.
 #[derive(Clone, Default)]
 pub struct Store {
     pub bank: usize,
     pub first: First,
     pub data: Vec<u8>,
     pub made: Option<Made>,
-    /// What a flipped bit is drawn from.
+    /// The seed of a flipped bit.
     pub flip: Option<u64>,
-    /// What its key may be of.
+    /// The selection whose key it may have.
     pub selection: Selection,
 }
 
@@ -58,7 +58,7 @@ fn plain_record() -> Record {
     Record { start, end, present: 0, updated: UNKNOWN, original, tables, rest: vec![0; 224] }
 }
 
-/// A header with one thing as it is in the plainest good one.
+/// A header with one field as it is in the plainest good one.
 fn plainer(made: &Made) -> Vec<Made> {
     let with = |change: &dyn Fn(&mut Made)| {
         let mut made = made.clone();
@@ -145,7 +145,7 @@ fn show_header(bank: usize, made: &Made) -> Vec<String> {
     lines
 }
 
-/// A region that an update finds.
+/// A region before an update.
 #[derive(Clone)]
 pub struct Found(pub Rc<Vec<u8>>);
 
@@ -153,7 +153,7 @@ impl Found {
     pub fn new(region: Vec<u8>) -> Self {
         Self(Rc::new(region))
     }
-    /// Blank, both banks or one, whole or behind its header or first data.
+    /// Blank, both banks or one, whole or after its header or first data.
     pub fn smaller(&self) -> Moves<'_, Self> {
         let spans = [
             0..REGION,

@@ -160,7 +160,7 @@ fn history() {
     assert!([4, 7].iter().all(|i| form[*i].starts_with("source ")), "{form:?}");
 }
 
-/// The smallest form of a wrong core that a commit word cut inside shows.
+/// The smallest form for a wrong core that a cut inside the commit word shows.
 fn cut_inside_the_commit_word(wrong: Wrong, count: u64) -> String {
     let mut form = smallest::<events::Events>(wrong, count);
     let word = form.pop().expect("a call");
@@ -177,7 +177,7 @@ fn history_counts_a_begun_operation() {
     assert_eq!(word, "Word, cut after 0 operations and 1 bytes of the next");
 }
 
-/// With one byte fewer, and between two operations, nothing is to be seen.
+/// With one byte fewer, and between two operations, nothing is visible.
 #[test]
 fn three_bytes_make_the_commit_word() {
     let word = cut_inside_the_commit_word(Wrong::Header, 12);

@@ -67,7 +67,7 @@ fn compare(
     rust
 }
 
-/// What is other in the stored bank, and whether it is the same for `unchanged`.
+/// What is different in the stored bank, and whether `unchanged` ignores it.
 const OTHERS: [(&str, bool); 12] = [
     ("nothing", true),
     ("present bits, times, originals, texts", true),
@@ -83,7 +83,7 @@ const OTHERS: [(&str, bool); 12] = [
     ("a block's CRC", false),
 ];
 
-/// A content that a bank of this version can hold, or can't for one table.
+/// A content that a bank of this version can hold, or can't because of one table.
 fn content_for(random: &mut Random, version: u32, other: usize) -> Content {
     let rows = other != 2 && random.once_in(3);
     let mut content = Content::random(random, rows);
@@ -103,8 +103,8 @@ fn content_for(random: &mut Random, version: u32, other: usize) -> Content {
     content
 }
 
-/// A bank of this version with the content's data, dates and blocks. All else
-/// is random.
+/// A bank of this version with the content's data, dates and blocks. All else is
+/// random.
 fn stored(random: &mut Random, content: &Content, version: u32) -> (Made, Vec<u8>) {
     let (data, blocks) = content.data();
     let key = content.key.bytes().len();
@@ -117,7 +117,7 @@ fn stored(random: &mut Random, content: &Content, version: u32) -> (Made, Vec<u8
     (bank, data)
 }
 
-/// Makes one thing other.
+/// Changes one thing.
 fn alter(random: &mut Random, bank: &mut Made, data: &mut [u8], other: usize) {
     let source = random.below(bank.count as usize);
     let tables = layout(bank.version).1;
@@ -150,7 +150,7 @@ fn alter(random: &mut Random, bank: &mut Made, data: &mut [u8], other: usize) {
     }
 }
 
-/// Whether altering left more than one thing other, or none.
+/// Whether altering changed more than one thing, or none.
 fn spoiled(content: &Content, other: usize, bank: &Made) -> bool {
     let late = content.sources.iter().any(|s| s.fields.start == 99991231);
     let eighth = content.sources.iter().flat_map(|s| &s.tables).any(|t| t.0 == 7);
@@ -186,13 +186,13 @@ fn varied(random: &mut Random, content: &Content) -> Content {
 /// The bank that a content is compared with.
 #[derive(Clone, Copy)]
 enum Beside {
-    /// One of this version with something other.
+    /// One of this version with something changed.
     Stored(u32, usize),
     /// One that an update made, or none.
     Updated,
 }
 
-/// A content compared with the active bank; all else is drawn from a number.
+/// A content compared with the active bank; all else is drawn from a seed.
 #[derive(Clone)]
 struct Comparison {
     beside: Beside,
@@ -263,7 +263,7 @@ impl Comparison {
     }
 }
 
-/// Comparisons that have nothing to do with each other.
+/// Independent comparisons.
 #[derive(Clone)]
 pub struct Comparisons(Vec<Comparison>);
 

@@ -42,7 +42,7 @@ pub fn count(tally: &mut Tally, outcome: Outcome, upper: bool, operations: usize
     tally.count("flash operations", operations);
 }
 
-/// An update on both sides: how long it is, to say where they differ.
+/// An update on both sides, and its length, to say where they differ.
 pub struct Beside {
     pub length: usize,
 }
@@ -84,7 +84,7 @@ impl Beside {
     }
 }
 
-/// How many operations an update of so many bytes makes.
+/// How many operations an update of n bytes makes.
 pub fn operations_of(length: usize) -> usize {
     1 + length.div_ceil(4096) + length.div_ceil(256) + 2
 }
@@ -112,7 +112,7 @@ fn by_lower(random: &mut Random, region: &[u8], content: &Content, how: How) -> 
     core
 }
 
-/// By the upper calls, each beside its run, whose operations they are.
+/// By the upper calls, each beside its run, which does the same operations.
 fn by_upper(
     tally: &mut Tally,
     beside: &Beside,
@@ -200,7 +200,7 @@ pub fn found(random: &mut Random) -> Vec<u8> {
     region
 }
 
-/// Short enough for this length, with a key and a table to stretch.
+/// Short enough for this length, with a key and a table that can be made longer.
 fn of_length(random: &mut Random, length: usize, rows: bool) -> Content {
     let mut content = Content::random(random, rows);
     if content.length() > length {
@@ -213,7 +213,7 @@ fn of_length(random: &mut Random, length: usize, rows: bool) -> Content {
     content
 }
 
-/// The update of a case's turn: in some the length is one of the above.
+/// The update of a case's turn: some have one of the lengths above.
 fn next(random: &mut Random, case: &Case, turn: usize) -> Update {
     let rows = random.once_in(3);
     let special = case.number as usize % 16;
@@ -228,7 +228,7 @@ fn next(random: &mut Random, case: &Case, turn: usize) -> Update {
     Update { content, how, pieces: random.u64() }
 }
 
-/// One update, and what the pieces in which bytes are offered are drawn from.
+/// One update, and the seed of the pieces in which bytes are offered.
 #[derive(Clone)]
 struct Update {
     content: Content,
@@ -252,7 +252,7 @@ impl Update {
 }
 
 /// An update that fills the bank, by the upper calls or the lower ones, drawn from
-/// a number.
+/// a seed.
 #[derive(Clone, Copy)]
 struct Filling {
     rows: bool,

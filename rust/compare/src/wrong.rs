@@ -1,12 +1,12 @@
-//! Wrong cores for this program's own tests: each stands in a wrong answer for one
-//! call. Outside of the tests none is ever tried.
+//! Wrong cores for this program's own tests: each replaces the answer of one call
+//! by a wrong one. Outside of the tests none is used.
 
 #[derive(Clone, Copy, Debug, PartialEq, Eq)]
 #[cfg_attr(not(test), allow(dead_code))]
 pub enum Wrong {
     /// `newer` is wrong for numbers that are 1,000 or more apart.
     Newer,
-    /// `next` stops at 5,000 and above.
+    /// `next` doesn't go on at 5,000 and above.
     Next,
     /// The CRC of bytes with 0x77 among them is off.
     Crc,
@@ -18,9 +18,9 @@ pub enum Wrong {
     Row,
     /// A stored row with three commas isn't found.
     Stored,
-    /// Insertion of an id that ends in Z leaves a bit.
+    /// Insertion of an id that ends in Z leaves out a bit.
     Filter,
-    /// The commit word isn't written where an update had two sources.
+    /// The commit word isn't written if an update had two sources.
     Word,
     /// A header is written with 255 255 255 67 in the commit word, whose last byte
     /// is 67.

@@ -120,8 +120,8 @@ fn fresh(flash: &View, bank: Bank, days: [u32; 3], wanted: [bool; 3], now: i64) 
     }
 }
 
-/// The settings, or none where document 01 has refusal 2: they hold no more
-/// picks and no longer fields.
+/// The settings, or none if document 01 has refusal 2: they hold no more picks and
+/// no longer fields.
 fn config(selection: &Selection) -> Option<Config> {
     let fields: Vec<[&str; 5]> =
         selection.picks.iter().map(|p| p.each_ref().map(String::as_str)).collect();

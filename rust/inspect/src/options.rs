@@ -91,7 +91,7 @@ fn pick(mut value: impl FnMut(&str) -> Result<OsString, String>) -> Result<[Stri
     Ok(pick)
 }
 
-/// The rows asked for; none where the words mean none.
+/// The rows asked for; none if the words mean none.
 fn asked(source: &OsStr, table: &OsStr) -> Option<Asked> {
     let source = match source.to_str()? {
         "all" => None,
@@ -106,7 +106,7 @@ fn asked(source: &OsStr, table: &OsStr) -> Option<Asked> {
 }
 
 impl Options {
-    /// Sets what an option says; `value` gives the arguments behind it.
+    /// Sets what an option says; `value` gives the arguments after it.
     fn set(
         &mut self,
         option: &str,
@@ -144,7 +144,7 @@ impl Options {
     }
 }
 
-/// The arguments as options; none where help is asked for.
+/// The arguments as options; none if help is asked for.
 pub fn read(mut arguments: impl Iterator<Item = OsString>) -> Result<Option<Options>, String> {
     let mut options = Options { wanted: [true; 3], ..Options::default() };
     while let Some(argument) = arguments.next() {

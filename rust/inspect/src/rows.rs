@@ -24,8 +24,8 @@ pub struct Asked {
     pub table: Option<usize>,
 }
 
-/// Bytes, handed out one at a time and counted, so that the reader takes no
-/// more than the row that it gives.
+/// Bytes, given one at a time and counted, so that the reader reads no more than
+/// the row that it gives.
 struct Bytes<'a> {
     bytes: &'a [u8],
     taken: &'a Cell<usize>,
@@ -63,7 +63,7 @@ fn spell(values: &[String]) -> String {
     line
 }
 
-/// What the reader says: 14 where it means the row's width or length.
+/// What the reader says: 14 if it means the row's width or length.
 fn error(error: Error) -> String {
     match error {
         Error::InvalidField("CSV record width") | Error::RecordTooLong | Error::TooManyFields => {
@@ -73,7 +73,7 @@ fn error(error: Error) -> String {
     }
 }
 
-/// A row: where it starts, and its values or the reader's error.
+/// A row: its offset, and its values or the reader's error.
 type Row = (usize, Result<Vec<String>, Error>);
 
 /// The reader over a table's bytes.
@@ -87,7 +87,7 @@ impl<'a> Rows<'a> {
     fn new(bytes: &'a [u8], taken: &'a Cell<usize>, t: Table) -> Self {
         Self { reader: Reader::new(Bytes { bytes, taken }, t), taken, columns: door::columns(t) }
     }
-    /// The next row's values, and where it ends.
+    /// The next row's values, and its end.
     fn next(&mut self) -> Option<(Result<Vec<String>, Error>, usize)> {
         let values = match block_on(self.reader.next()) {
             Ok(None) => return None,
@@ -101,9 +101,9 @@ impl<'a> Rows<'a> {
     }
 }
 
-/// The stored names line, which the reader takes for itself: it is given the
-/// table's own names before it, and reads it as a row. With where it ends; none
-/// where all lines are empty.
+/// The stored names line, which the reader keeps for itself: it is given the
+/// table's own names before it, and so reads it as a row. With its end; none if all
+/// lines are empty.
 fn names(bytes: &[u8], t: Table) -> Option<(Result<Vec<String>, Error>, usize)> {
     let own: Vec<&str> = door::columns(t).iter().map(|c| c.name()).collect();
     let own = own.join(",") + "\n";
@@ -113,8 +113,8 @@ fn names(bytes: &[u8], t: Table) -> Option<(Result<Vec<String>, Error>, usize)> 
     Some((values, end - own.len()))
 }
 
-/// The rows that the reader gives of a table's bytes, the names line first; the
-/// error alone where it refuses the names.
+/// The rows that the reader gives of a table's bytes, the names line first; only
+/// the error if it refuses the names.
 fn rows(bytes: &[u8], t: Table) -> Vec<Row> {
     let first = names(bytes, t);
     let mut place = first.as_ref().map_or(bytes.len(), |(_, end)| *end);

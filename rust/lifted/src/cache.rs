@@ -1,4 +1,4 @@
-//! The lifted cache.rs, and a door to its private items.
+//! The lifted cache.rs, with access to its private items.
 use crate::{
     embassy_futures,
     embedded_io_async::{ErrorType, Read},

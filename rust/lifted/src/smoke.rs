@@ -1,5 +1,5 @@
-//! Runs the lifted functions alone through an update, to show that they stand
-//! on their stand-ins: nothing of the core is called here.
+//! Runs the lifted functions alone through an update, to show that they work with
+//! their stand-ins: nothing of the core is called here.
 use crate::{
     cache::{
         BANK_SIZE, Bank, Metadata, OFFSET, Storage,

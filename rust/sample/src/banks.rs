@@ -16,9 +16,9 @@ use lifted::{
 };
 use std::fmt::{Result, Write as _};
 
-/// The lifted `validate`, and where only the data's CRC is wrong, what it says
-/// with the right one in its place and the header sealed again. Whether that was
-/// so comes with it.
+/// The lifted `validate`; and if only the data's CRC is wrong, what it says with
+/// the right CRC in the header, which is sealed again. Whether that was so is
+/// returned too.
 fn header(region: &[u8], bank: usize) -> (std::result::Result<Bank, u32>, bool) {
     match numbered::validate(&View::new(region), bank as u32) {
         Ok(found) => (Ok(found), true),
@@ -226,8 +226,8 @@ impl Questions<'_> {
         Ok((refusal == 0 && verdict == 0).then_some(next))
     }
 
-    /// A bank's data checked in turns of these sizes, the last one again and
-    /// again. The verdict is that of `validate`.
+    /// A bank's data checked in turns of these sizes, the last one repeated. The
+    /// verdict is that of `validate`.
     fn turns(&mut self, bank: usize, sizes: &[u32]) -> Result {
         let (found, whole) = header(&self.region.bytes, bank);
         if let Err(number) = found {
@@ -425,7 +425,7 @@ fn changes(asked: &mut Questions, made: &Made, selection: &Selection) -> Result 
     Ok(())
 }
 
-/// Days that there aren't, and some that there are.
+/// Days that don't exist, and some that do.
 fn days(asked: &mut Questions) -> Result {
     for days in [
         [0, 20260101, 20260102],
@@ -469,8 +469,8 @@ fn refusals(out: &mut String, random: &mut Random) -> Result {
     bits(&mut asked)
 }
 
-/// Which bank is tried first: generations near each other, half way round, and
-/// over the end; both banks good, then one, then none.
+/// Which bank is tried first: generations next to each other, half of the range
+/// apart, and past the end; both banks good, then one, then none.
 fn generations(out: &mut String, random: &mut Random) -> Result {
     let mut asked = Questions { region: Region::new(out, 255)?, out };
     let half = 1 << 31;
@@ -516,7 +516,7 @@ fn blank(out: &mut String, selection: &Selection) -> Result {
     Ok(())
 }
 
-/// Writes bank 0 with a table of rows behind its key.
+/// Writes bank 0 with a table of rows after its key.
 fn with_table(random: &mut Random, region: &mut [u8], key: &[u8]) -> Result {
     let mut rows = String::from("route_id,route_short_name,route_type\n");
     for i in 0..400 {

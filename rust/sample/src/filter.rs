@@ -1,4 +1,4 @@
-//! The trip filter, which stands at the region's start.
+//! The trip filter, which is at the region's start.
 use crate::{hex, region::Region};
 use common::Random;
 use lifted::cache::door;
@@ -15,7 +15,7 @@ impl Filter<'_> {
         writeln!(self.out, "query {} {} {answer}", self.bits.len(), hex(id.as_bytes()))
     }
 
-    /// Inserts, and says which bytes were changed to what, and the CRC of all.
+    /// Inserts, and says which bytes changed and to what, and the CRC of all.
     fn insert(&mut self, id: &str) -> Result {
         let before = self.bits.clone();
         let answer = u8::from(door::bloom(&mut self.bits, id, true));

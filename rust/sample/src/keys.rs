@@ -16,7 +16,7 @@ use std::{
     slice,
 };
 
-/// Identity, texts in a row, lengths (five to a pick).
+/// Identity, joined texts, lengths (five to a pick).
 #[derive(Clone)]
 pub struct Selection {
     pub identity: Vec<u8>,

@@ -129,7 +129,7 @@ fn next(out: &mut String, random: &mut Random) -> Result {
     Ok(())
 }
 
-/// One CRC, which is given back.
+/// One CRC, which is returned.
 fn crc(out: &mut String, start: u32, bytes: &[u8]) -> std::result::Result<u32, Error> {
     let mut hash = crc32fast::Hasher::new_with_initial(start);
     hash.update(bytes);

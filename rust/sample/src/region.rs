@@ -1,10 +1,10 @@
-//! A region as lines, those that make the one before into it.
+//! A region as lines that change the one before into it.
 use common::made::REGION;
 use std::fmt::{Result, Write as _};
 
-/// As many equal bytes are a line of their own.
+/// This many equal bytes are a line of their own.
 const RUN: usize = 24;
-/// As many unchanged bytes end a line.
+/// This many unchanged bytes end a line.
 const GAP: usize = 8;
 const LONGEST: usize = 4096;
 
@@ -26,12 +26,12 @@ impl Region {
         self.bytes[i] != self.written[i]
     }
 
-    /// How many bytes from a place on are equal.
+    /// How many bytes from an offset on are equal.
     fn run(&self, from: usize) -> usize {
         self.bytes[from..].iter().take_while(|b| **b == self.bytes[from]).count()
     }
 
-    /// Where the line ends that begins at a place.
+    /// The end of the line that begins at an offset.
     fn end(&self, from: usize) -> usize {
         let ends = |&i: &usize| {
             i - from == LONGEST

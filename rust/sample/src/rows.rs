@@ -12,7 +12,7 @@ use lifted::{
 use std::fmt::{Result, Write as _};
 
 const CHECKED: i64 = 1_790_000_000;
-/// The longest row that document 01 takes, with its LF.
+/// The longest row that document 01 allows, with its LF.
 const LONGEST: usize = 8192;
 
 /// Numbers of 16 bits in hexadecimal.
@@ -96,9 +96,9 @@ fn stored(random: &mut Random, table: Table) -> Vec<Vec<String>> {
 struct Placed {
     table: Table,
     rows: Vec<Vec<String>>,
-    /// Where it begins in the data.
+    /// Its offset in the data.
     from: u32,
-    /// Where its rows begin in it, and its length.
+    /// The offset of its rows in it, and its length.
     places: Vec<u32>,
 }
 
@@ -117,7 +117,7 @@ fn place(update: &mut Update<'_, Flash>, table: Table, rows: Vec<Vec<String>>) -
     Placed { table, rows, from, places }
 }
 
-/// The lifted reader gives these rows, where it is at hand.
+/// The lifted reader gives these rows, if it is available.
 fn read_back(flash: &Flash, bank: Bank, table: Table, rows: &[Vec<String>]) {
     #[cfg(feature = "reader")]
     assert_eq!(door::rows(flash, bank, 0, table).expect("rows"), rows);
@@ -143,7 +143,7 @@ fn reads(out: &mut String, placed: &Placed) -> Result {
 }
 
 /// An update of every table, as the lifted `Writer` writes it; then each row as it
-/// was given, by the place where the writer began it.
+/// was given, by the offset at which the writer began it.
 fn tables(out: &mut String, random: &mut Random) -> Result {
     let flash = Flash { identity: b"mdb-1078".to_vec(), ..Flash::default() };
     let config = settings::config(&[["7", "r", "c", "s", "n"]]).expect("one pick");

@@ -1,3 +1,4 @@
+-- The code's comparison of the two generations is the definition's; the answer is 0 or 1.
 use native.Mathlib.Omega.{arith}
 use Rattle.bank.specs.Bank.{generation, firstTried}
 use mathlib.Core.Path.{sym}

@@ -1,3 +1,5 @@
+-- By cases: no region, the first bank passes, the second does, neither does. `validate` answers for each bank, and the bank tried first is
+-- the definition's.
 use Rattle.bank.specs.Bank.{validated, firstTried}
 use Prim.Native.Nat.{ℕ, _-_}
 use Rattle.bank.proofs.Laws.{load-no-region, load-first, load-second, load-none}

@@ -1,3 +1,4 @@
+-- The header's answer, and for a good one the data's CRC: three cases of Laws.antt.
 use Rattle.bank.proofs.Laws.{data-good, data-bad, header-bad}
 use mathlib.Core.Path.{sym, _∙_}
 use borrow.Author.Needs.{needs}

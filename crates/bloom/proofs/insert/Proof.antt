@@ -1,3 +1,4 @@
+-- A filter of another size is refused and unchanged; else the four positions of the id's CRC are read and set (`insert-is`, `insert-left`).
 use mathlib.Core.Path.{_∙_, sym}
 use borrow.Author.Tests.{not-true, not-false}
 use Rattle.bloom.proofs.Calls.{insert-refused, insert-kept, insert-is, insert-left}

@@ -1,3 +1,4 @@
+-- Adding the step three times, wrapping, gives the positions of the definition (`summed`), and each is inside the filter.
 use Rattle.bloom.proofs.Sums.{summed}
 use borrow.Author.Needs.{needs}
 use Rattle.bloom.proofs.positions.Statement.{statement}

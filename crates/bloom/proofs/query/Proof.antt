@@ -1,3 +1,4 @@
+-- A filter of another size is refused; else the answer is whether the four positions of the id's CRC are all set (`query-is`).
 use mathlib.Core.Path.{_∙_, sym}
 use borrow.Author.Tests.{not-true, not-false}
 use Rattle.bloom.proofs.Calls.{query-refused, query-is}

@@ -1,3 +1,4 @@
+-- Four calls of `visit`, one after the other, are `seen` and `setAll` of the four positions (`visited`, `all-visited`).
 use Rattle.bloom.proofs.Calls.{visited, all-visited}
 use borrow.Author.Needs.{needs}
 use Rattle.bloom.proofs.set_all.Statement.{statement}

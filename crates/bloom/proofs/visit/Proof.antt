@@ -1,3 +1,4 @@
+-- The byte is read before it is stored, and what is stored is the byte with the bit (`stored`).
 use mathlib.Core.Path.{refl}
 use Rattle.bloom.specs.Bloom.{isSet}
 use Rattle.bloom.proofs.Bits.{stored}

@@ -1,3 +1,4 @@
+-- The bank's fields are the definition's, each by its function's contract.
 use mathlib.Core.Path.{ap, _∙_}
 use mir.ValLaws.{toZ-ofZ}
 use mir.Syntax.{w64}

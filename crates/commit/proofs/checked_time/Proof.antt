@@ -1,3 +1,4 @@
+-- With a stamp the later of both times, without one the time of the beginning; both are held as they are, since they fit an i64.
 use mathlib.Core.Path.{sym, ap, _∙_}
 use mir.ValLaws.{toZ-ofZ}
 use mir.Syntax.{w64}

@@ -1,3 +1,5 @@
+-- One case for each guard: region, order, current, fit; then the header is written. The number of the bank to be committed is 0 or 1, so
+-- the write is inside.
 use mathlib.Core.Path.{sym, _∙_}
 use native.Mathlib.Omega.{arith}
 use Rattle.commit.proofs.Laws.{number-fits, fit-is, header-is, commit-done, commit-written, commit-unfit, kept-unfit, commit-obsolete, kept-obsolete, commit-turn, kept-turn, commit-region, kept-region}

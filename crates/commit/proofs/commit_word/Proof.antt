@@ -1,3 +1,4 @@
+-- One case for each guard: region and order; then the commit word is written.
 use mathlib.Core.Path.{sym, _∙_}
 use native.Mathlib.Omega.{arith}
 use Rattle.commit.proofs.Laws.{word-done, word-turn, word-region, word-written, word-kept, word-other}

@@ -1,3 +1,4 @@
+-- One case for each answer of load: the next generation of the bank found, else 0.
 use mathlib.Core.Path.{sym, ap, _∙_}
 use Rattle.writer.specs.State.{nextGeneration}
 use borrow.Author.Needs.{needs}

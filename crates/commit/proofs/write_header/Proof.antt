@@ -1,3 +1,4 @@
+-- One write of 1,200 bytes at offset 0 of the bank, which is inside (`one-op`).
 use mathlib.Core.Path.{_≡_, ap, _∙_}
 use mathlib.Core.List.{List}
 use Prim.Native.Nat.{ℕ}

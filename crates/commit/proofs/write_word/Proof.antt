@@ -1,3 +1,4 @@
+-- One write of 4 bytes at offset 44 of the bank that isn't active, which is inside (`one-op`).
 use mathlib.Core.Path.{_≡_, ap, _∙_}
 use native.Mathlib.Omega.{arith}
 use lib.ListN.{length}

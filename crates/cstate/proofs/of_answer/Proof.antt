@@ -1,3 +1,4 @@
+-- One case for each answer: the arm's numbers are the definition's, which computes once the answer is known.
 use mathlib.Core.Path.{sym, ap, _∙_}
 use Rattle.cstate.specs.Answers.{refused, ofAnswer}
 use borrow.Author.Needs.{needs}

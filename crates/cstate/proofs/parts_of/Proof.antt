@@ -1,3 +1,4 @@
+-- Each part of the state is read from its numbers, by the functions' contracts; the time is held as it is, since it fits an i64.
 use mir.Syntax.{w64}
 use mir.ValLaws.{toZ-ofZ}
 use Rattle.cstate.specs.State.{writerOf}

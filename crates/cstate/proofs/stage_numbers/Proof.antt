@@ -1,3 +1,4 @@
+-- One case for each stage: the arm's numbers are the definition's, which computes once the stage is known.
 use mathlib.Core.Path.{sym, ap, _∙_}
 use Rattle.cstate.specs.State.{stageNumbers}
 use borrow.Author.Needs.{needs}

@@ -1,3 +1,4 @@
+-- One case for each number; any other number is the stage Idle, as in the definition.
 use borrow.Author.Tests.{eq-eqb, ne-eqb}
 use Rattle.cstate.specs.State.{stageOf}
 use Rattle.cstate.proofs.stage_of.Statement.{statement}

@@ -1,3 +1,4 @@
+-- Each field of the C state is that of the definition, by the functions' contracts; the time is held as it is, since it fits an i64.
 use mir.Syntax.{w64}
 use mir.ValLaws.{toZ-ofZ}
 use Rattle.cstate.specs.State.{savedOf}

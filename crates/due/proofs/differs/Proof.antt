@@ -1,3 +1,4 @@
+-- With a bank found the bytes are compared; without one everything differs.
 use mathlib.Core.Path.{sym, ap, _∙_}
 use Rattle.bank.specs.declared.Loaded.{Loaded}
 use Rattle.due.specs.Due.{differs}

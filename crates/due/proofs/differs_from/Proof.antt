@@ -1,3 +1,5 @@
+-- The stored bytes at the offset are a part of the bank after its header sector; past the bank's length, or if a byte is different, it
+-- differs.
 use mathlib.Core.Path.{ap, _∙_}
 use mathlib.Core.Bool.{Bool, not, _||_}
 use mathlib.Core.List.{List}

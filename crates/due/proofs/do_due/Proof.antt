@@ -1,3 +1,5 @@
+-- One case for each guard: the region's length, the state's ranges; then what the stage has due. It holds of whatever sources the state
+-- has.
 use mathlib.Core.Path.{sym, ap, _∙_}
 use native.Mathlib.Omega.{arith}
 use Rattle.writer.specs.declared.PartsStep.{PartsStep}

@@ -1,3 +1,4 @@
+-- One erase on the bank that isn't active (`one-op`), whose sector is inside; the state after it is `erased`.
 use Rattle.writer.specs.Parts.{withSources, stepWith}
 use Rattle.writer.specs.declared.PartsStep.{PartsStep}
 use mathlib.Core.Path.{ap, _∙_}

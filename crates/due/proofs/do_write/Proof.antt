@@ -1,3 +1,4 @@
+-- One write of the padded tail on the bank that isn't active (`one-op`), which is inside; the state after it is `written-tail`.
 use Rattle.writer.specs.Parts.{withSources, stepWith}
 use Rattle.writer.specs.declared.PartsStep.{PartsStep}
 use mathlib.Core.Path.{ap, _∙_}

@@ -1,3 +1,4 @@
+-- The invariant: the first i bytes of the tail are stored over 255s (`bytes-more`, `filled-end`).
 use borrow.Author.Needs.{needs}
 use mathlib.Core.Path.{_≡_, refl, ap, _∙_}
 use Prim.Native.Nat.{ℕ, _-_, _≤_}

@@ -1,3 +1,4 @@
+-- Only the stage Due has an operation; in the other three the answer is that none is due, and no operation is done.
 use Rattle.writer.specs.Parts.{withSources, stepWith}
 use Rattle.writer.specs.declared.PartsStep.{PartsStep}
 use mathlib.Core.Path.{sym, ap, _∙_}

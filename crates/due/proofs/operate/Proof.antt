@@ -1,3 +1,5 @@
+-- One case for each operation. The ranges say that sector, offset and length are inside the bank (`erase-ranged`, `write-ranged`); a
+-- comparison does no flash operation.
 use mathlib.Core.List.{[]}
 use Rattle.writer.specs.Parts.{withSources}
 use mathlib.Core.Path.{sym, ap, _∙_}

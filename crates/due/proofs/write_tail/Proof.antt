@@ -1,3 +1,4 @@
+-- A length that is a multiple of 4 needs no padding (`padded-whole`); any other is filled up with 255 first (`padded-is`).
 use mathlib.Core.Path.{_≡_, ap, _∙_}
 use mathlib.Core.List.{List}
 use Prim.Native.Nat.{ℕ, _+_, _-_}

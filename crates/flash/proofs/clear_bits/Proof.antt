@@ -1,3 +1,4 @@
+-- The invariant: the first i bytes of ws have cleared bits of s (`clear-more`).
 use mathlib.Core.Path.{_≡_, refl, ap, _∙_}
 use Prim.Native.Nat.{_≤_, _-_}
 use native.Mathlib.Omega.{arith}

@@ -1,3 +1,4 @@
+-- Three guards, then the comparison without overflow, are the definition's test; and where it holds the three bounds follow.
 use mathlib.Core.Bool.{false≢true}
 use Prim.Native.Nat.{_-_}
 use native.Mathlib.Omega.{arith}

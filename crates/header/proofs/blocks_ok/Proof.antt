@@ -1,3 +1,4 @@
+-- The invariant: ok says whether the first j blocks are good (`each-take`). All eight are tested, without leaving early.
 use borrow.Author.Needs.{needs}
 use Rattle.record.specs.Record.{noBlock}
 use Rattle.base.specs.Lists.{each}

@@ -1,3 +1,5 @@
+-- The CRC of the first 40 bytes, of eight zeros and of the records, each continued from the one before, is that of the three joined
+-- (`crc32-append`).
 use Rattle.base.specs.Lists.{fill}
 use Rattle.leaf.proofs.Checksum.{crc32-append}
 use Rattle.leaf.specs.Crc.{crc32}

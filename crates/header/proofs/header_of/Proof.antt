@@ -1,3 +1,5 @@
+-- One case for each guard, in the order of the definition: mark, seal, span, source; and good if all pass. Test 5 bounds the count, which
+-- the loop over the records needs.
 use Rattle.header.proofs.Laws.{span-count, not-marked, not-sealed, not-spanned, bad-source, all-good}
 use Rattle.header.specs.declared.Validated.the-variants.{Good}
 use Rattle.base.specs.Lists.{each}

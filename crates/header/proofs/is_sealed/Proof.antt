@@ -1,3 +1,4 @@
+-- The stored CRC is compared with that of the header, whose size follows from the version.
 use Rattle.record.specs.Record.{sourceSize}
 use Rattle.leaf.specs.Bytes.{word}
 use Rattle.header.specs.Header.{headerCrc, sealed}

@@ -1,3 +1,4 @@
+-- Each number is read at its offset; the time fits an i64, so it is held as it is.
 use Rattle.header.specs.Header.{numbersOf}
 use mir.ValLaws.{toZ-ofZ}
 use mir.Syntax.{w64}

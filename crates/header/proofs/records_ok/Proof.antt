@@ -1,3 +1,4 @@
+-- The invariant: ok says whether the first i records are good, and `at` is the offset of record i (`each-many`).
 use borrow.Author.Needs.{needs}
 use Rattle.record.specs.Record.{sourceSize}
 use Rattle.base.specs.Lists.{many, each}

@@ -1,3 +1,4 @@
+-- The five tests of a source are those of the definition; the times are held as they are, since they fit an i64.
 use Rattle.header.specs.Header.{updatedOk, sourceOk}
 use mir.ValLaws.{toZ-ofZ}
 use mir.Syntax.{w64}

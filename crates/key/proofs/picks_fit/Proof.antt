@@ -1,4 +1,4 @@
--- Preparation with no identity: the picks are ready exactly when they fit.
+-- Preparation with an empty identity: the picks are ready exactly if they fit.
 use mathlib.Core.Path.{refl, subst}
 use mathlib.Core.List.{[]}
 use Rattle.key.specs.Steps.{Prepares}

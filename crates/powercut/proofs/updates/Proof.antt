@@ -1,3 +1,4 @@
+-- Only safety: region, copy and data keep their lengths; each turn leaves one update fewer.
 use borrow.Author.Needs.{needs}
 use mathlib.Core.Path.{_≡_}
 use Prim.Native.Nat.{_-_}

@@ -1,3 +1,4 @@
+-- Three 32-bit numbers, one after the other, are the block.
 use borrow.Author.Needs.{needs}
 use Rattle.record.proofs.block_at.Statement.{statement}
 use Rattle.record.proofs.block_at.Tie as tie

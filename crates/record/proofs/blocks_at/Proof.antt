@@ -1,3 +1,4 @@
+-- The invariant: the first j blocks are read, the others are as in the new array, that is zero (`many-set`).
 use Rattle.record.proofs.blocks_at.Statement.{statement}
 use Rattle.record.proofs.blocks_at.Tie as tie
 use borrow.Author.Needs.{needs}

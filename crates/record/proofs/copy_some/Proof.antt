@@ -1,3 +1,4 @@
+-- The invariant: the first j bytes of out are those of s from `at` on, 0 past the end; the others are unchanged.
 use Rattle.record.proofs.copy_some.Statement.{statement}
 use Rattle.record.proofs.copy_some.Tie as tie
 use borrow.Author.Needs.{needs}

@@ -1,3 +1,4 @@
+-- The invariant: the first j bytes of out are those of s from `at` on; the others are unchanged.
 use borrow.Author.Needs.{needs}
 use Rattle.base.proofs.Lists.{many-set, many-length}
 use Rattle.base.specs.Lists.{many, byte}

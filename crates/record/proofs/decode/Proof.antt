@@ -1,3 +1,4 @@
+-- Size and number of tables follow from the version; the first bytes are cut to that size and read.
 use mathlib.Core.Path.{ap, _∙_}
 use lib.ListN.{take}
 use Rattle.record.specs.Record.{tableCount, sourceOf, decoded}

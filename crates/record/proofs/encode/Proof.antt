@@ -1,3 +1,4 @@
+-- If 384 bytes fit at `at`, `put_source` stores them; else `written` changes nothing.
 use mathlib.Core.Path.{_≡_, sym, _∙_}
 use mathlib.Core.Bool.{false}
 use Prim.Native.Nat.{_+_}

@@ -1,3 +1,4 @@
+-- The first n bytes, or all of them, are `take n`.
 use mathlib.Core.Path.{sym, _∙_}
 use native.Mathlib.Omega.{arith}
 use native.Mathlib.Nat.{sub-zero}

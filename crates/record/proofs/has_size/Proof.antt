@@ -1,3 +1,4 @@
+-- The parts have their lengths by their types, so the bytes are 384 (`length-source`).
 use Rattle.record.proofs.Laws.{length-source}
 use Rattle.record.specs.Types.{Sized}
 use borrow.Author.Needs.{needs}

@@ -1,3 +1,4 @@
+-- Three numbers stored one after the other are the block (`block-is`).
 use borrow.Author.Needs.{needs}
 use Rattle.record.proofs.put_block.Statement.{statement}
 use Rattle.record.proofs.put_block.Tie as tie

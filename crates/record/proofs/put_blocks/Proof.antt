@@ -1,3 +1,4 @@
+-- The invariant: the first j blocks are stored at `at` (`puts-more`).
 use Rattle.record.proofs.put_blocks.Statement.{statement}
 use Rattle.record.proofs.put_blocks.Tie as tie
 use borrow.Author.Needs.{needs}

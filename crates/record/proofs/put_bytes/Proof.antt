@@ -1,3 +1,4 @@
+-- The invariant: the first j bytes of s are stored at `at` (`bytes-more`).
 use Rattle.record.proofs.put_bytes.Statement.{statement}
 use Rattle.record.proofs.put_bytes.Tie as tie
 use borrow.Author.Needs.{needs}

@@ -1,3 +1,4 @@
+-- Four numbers stored one after the other are the first 20 bytes (`head-is`).
 use borrow.Author.Needs.{needs}
 use Rattle.record.proofs.put_head.Statement.{statement}
 use Rattle.record.proofs.put_head.Tie as tie

@@ -1,3 +1,4 @@
+-- First part, tables, last part and zeros, stored one after the other, are the record (`source-is`).
 use mathlib.Core.Path.{_∙_}
 use lib.ListN.{length}
 use Rattle.base.specs.Lists.{fill}
@@ -8,43 +9,33 @@ use borrow.Author.Needs.{needs}
 use Rattle.record.proofs.put_source.Statement.{statement}
 use Rattle.record.proofs.put_source.Tie as tie
 
--- src/lib.rt:193:5
 put-head-requires : tie.Need-put-head-requires
 put-head-requires c κs = search needs
 
--- src/lib.rt:194:21
 add-put-tables : tie.Need-add-put-tables
 add-put-tables c = search needs
 
--- src/lib.rt:194:5
 put-tables-requires : tie.Need-put-tables-requires
 put-tables-requires c κs = search needs
 
--- src/lib.rt:195:19
 add-put-tail : tie.Need-add-put-tail
 add-put-tail c = search needs
 
--- src/lib.rt:195:5
 put-tail-requires : tie.Need-put-tail-requires
 put-tail-requires c κs = search needs
 
--- src/lib.rt:197:20
 add-put-bytes : tie.Need-add-put-bytes
 add-put-bytes c = search needs
 
--- src/lib.rt:197:30
 slice-aggregate-put-bytes : tie.Need-slice-aggregate-put-bytes
 slice-aggregate-put-bytes c = search needs
 
--- src/lib.rt:197:5
 put-bytes-requires : tie.Need-put-bytes-requires
 put-bytes-requires c κs = search needs
 
--- src/lib.rt:189:1
 same-length : tie.Need-same-length
 same-length c = search needs
 
--- src/lib.rt:189:1
 returns : tie.Need-returns
 unfolding fill
 returns c =

@@ -1,3 +1,4 @@
+-- The original CRCs and lengths, then the blocks after them, are the tables' bytes (`tables-are`).
 use mathlib.Core.Path.{_∙_}
 use lib.ListN.{length}
 use Rattle.record.proofs.Laws.{tables-are}
@@ -5,23 +6,18 @@ use borrow.Author.Needs.{needs}
 use Rattle.record.proofs.put_tables.Statement.{statement}
 use Rattle.record.proofs.put_tables.Tie as tie
 
--- src/lib.rt:149:5
 put-words-requires : tie.Need-put-words-requires
 put-words-requires c κs = search needs
 
--- src/lib.rt:151:21
 add-put-blocks : tie.Need-add-put-blocks
 add-put-blocks c = search needs
 
--- src/lib.rt:151:5
 put-blocks-requires : tie.Need-put-blocks-requires
 put-blocks-requires c κs = search needs
 
--- src/lib.rt:144:1
 same-length : tie.Need-same-length
 same-length c = search needs
 
--- src/lib.rt:144:1
 returns : tie.Need-returns
 returns c =
     let a = c .before .before .before .before .before .before .before .before .before .before .before .args in

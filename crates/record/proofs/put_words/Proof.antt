@@ -1,3 +1,4 @@
+-- The invariant: the first j numbers are stored at `at` (`puts-more`).
 use Rattle.record.proofs.put_words.Statement.{statement}
 use Rattle.record.proofs.put_words.Tie as tie
 use borrow.Author.Needs.{needs}

@@ -1,3 +1,4 @@
+-- Each field is read at its offset, which follows from the number of tables; together they are `sourceOf`.
 use mathlib.Core.Path.{_∙_}
 use mathlib.Core.List.{append-nil}
 use Prim.Native.Nat.{_+_, _*_}
@@ -10,103 +11,78 @@ use borrow.Author.Needs.{needs}
 use Rattle.record.proofs.read.Statement.{statement}
 use Rattle.record.proofs.read.Tie as tie
 
--- src/lib.rt:80:36
 mul-words-at : tie.Need-mul-words-at
 mul-words-at c = search needs
 
--- src/lib.rt:80:9
 words-at-requires : tie.Need-words-at-requires
 words-at-requires c κs = search needs
 
--- src/lib.rt:81:31
 mul-blocks-at : tie.Need-mul-blocks-at
 mul-blocks-at c = search needs
 
--- src/lib.rt:81:31
 add-blocks-at : tie.Need-add-blocks-at
 add-blocks-at c = search needs
 
--- src/lib.rt:81:9
 blocks-at-requires : tie.Need-blocks-at-requires
 blocks-at-requires c κs = search needs
 
--- src/lib.rt:83:13
 slice-aggregate-copy-in : tie.Need-slice-aggregate-copy-in
 slice-aggregate-copy-in c = search needs
 
--- src/lib.rt:83:28
 mul-copy-in : tie.Need-mul-copy-in
 mul-copy-in c = search needs
 
--- src/lib.rt:83:28
 add-copy-in : tie.Need-add-copy-in
 add-copy-in c = search needs
 
--- src/lib.rt:83:5
 copy-in-requires : tie.Need-copy-in-requires
 copy-in-requires c κs = search needs
 
--- src/lib.rt:85:13
 slice-aggregate-copy-in-2 : tie.Need-slice-aggregate-copy-in-2
 slice-aggregate-copy-in-2 c = search needs
 
--- src/lib.rt:85:25
 mul-copy-in-2 : tie.Need-mul-copy-in-2
 mul-copy-in-2 c = search needs
 
--- src/lib.rt:85:25
 add-copy-in-2 : tie.Need-add-copy-in-2
 add-copy-in-2 c = search needs
 
--- src/lib.rt:85:5
 copy-in-requires-2 : tie.Need-copy-in-requires-2
 copy-in-requires-2 c κs = search needs
 
--- src/lib.rt:87:13
 slice-aggregate-copy-in-3 : tie.Need-slice-aggregate-copy-in-3
 slice-aggregate-copy-in-3 c = search needs
 
--- src/lib.rt:87:32
 mul-copy-in-3 : tie.Need-mul-copy-in-3
 mul-copy-in-3 c = search needs
 
--- src/lib.rt:87:32
 add-copy-in-3 : tie.Need-add-copy-in-3
 add-copy-in-3 c = search needs
 
--- src/lib.rt:87:5
 copy-in-requires-3 : tie.Need-copy-in-requires-3
 copy-in-requires-3 c κs = search needs
 
--- src/lib.rt:89:16
 word-at-requires : tie.Need-word-at-requires
 word-at-requires c κs = search needs
 
--- src/lib.rt:90:14
 word-at-requires-2 : tie.Need-word-at-requires-2
 word-at-requires-2 c κs = search needs
 
--- src/lib.rt:91:18
 word-at-requires-3 : tie.Need-word-at-requires-3
 word-at-requires-3 c κs = search needs
 
--- src/lib.rt:92:18
 get-time-requires : tie.Need-get-time-requires
 get-time-requires c κs = search needs
 
--- src/lib.rt:96:24
 mul-get8 : tie.Need-mul-get8
 mul-get8 c = search needs
 
--- src/lib.rt:96:24
 add-get8 : tie.Need-add-get8
 add-get8 c = search needs
 
--- src/lib.rt:96:16
 get8-requires : tie.Need-get8-requires
 get8-requires c κs = search needs
 
--- src/lib.rt:76:1
 returns : tie.Need-returns
 unfolding sourceOf
 returns c =

@@ -1,3 +1,4 @@
+-- If all four bytes are there, their sum is the number; else `get` reads it, with 0 past the end.
 use Rattle.leaf.specs.Bytes.{word}
 use borrow.Author.Needs.{needs}
 use Rattle.record.proofs.word_at.Statement.{statement}

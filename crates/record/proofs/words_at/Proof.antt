@@ -1,3 +1,4 @@
+-- The invariant: the first j numbers are read, the others are as in the new array, that is zero (`many-set`).
 use Rattle.record.proofs.words_at.Statement.{statement}
 use Rattle.record.proofs.words_at.Tie as tie
 use borrow.Author.Needs.{needs}

@@ -1,4 +1,5 @@
--- Case by case: the refusal is the one that the match was told, and its number is the definition's.
+-- Each arm's number is the definition's. One case for each refusal: the match says which one r is, and `numberOf` of that computes to the
+-- arm's number.
 use mathlib.Core.Path.{sym, ap}
 use borrow.Author.Needs.{needs}
 use Rattle.refusal.specs.Refusal.{numberOf}

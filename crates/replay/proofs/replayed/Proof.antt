@@ -1,3 +1,4 @@
+-- Only safety and an end: the memory's length stays, and each turn goes on by a byte or more, past the next LF.
 use borrow.Author.Needs.{needs}
 use mathlib.Core.Path.{_≡_}
 use Prim.Native.Nat.{_-_}

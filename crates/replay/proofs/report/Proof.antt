@@ -1,3 +1,4 @@
+-- Only safety: k is at most 28, the number of kinds counted.
 use borrow.Author.Needs.{needs}
 use Prim.Native.Nat.{_≤_, _-_}
 use Rattle.replay.proofs.report.Statement.{statement}

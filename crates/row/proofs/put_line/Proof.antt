@@ -1,3 +1,5 @@
+-- The slice between two offsets of the constant is the table's names line (`stands`). An output that is too small is refused and unchanged
+-- (`no-room`), else the line is copied (`put-there`).
 use mathlib.Core.Path.{_≡_, ap, _∙_}
 use Prim.Native.Nat.{_+_, _-_}
 use native.Mathlib.Omega.{arith}

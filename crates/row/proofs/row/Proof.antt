@@ -1,3 +1,5 @@
+-- One case for each guard (`row-past`, `row-count`, `row-long`, `row-room`), and `row-fits` if all pass. `row_size` gives at most 8,193, so
+-- the comparison with 8,192 is exact.
 use mathlib.Core.Path.{sym, _∙_}
 use native.Mathlib.Omega.{arith}
 use Rattle.row.proofs.Names.{count-most}

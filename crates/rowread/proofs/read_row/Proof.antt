@@ -1,3 +1,5 @@
+-- One case for each path: past the end, at the end, read by a fast path, no row, an output too small (either one), a row. In each the
+-- answer and both outputs are those of Calls.antt.
 use mathlib.Core.Path.{_≡_, sym, ap, _∙_}
 use Prim.Native.Nat.{_≤_, _-_}
 use native.Mathlib.Omega.{arith}

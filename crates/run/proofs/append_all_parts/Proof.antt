@@ -1,3 +1,5 @@
+-- The invariant: running the appends of the bytes from i on, from the state and region so far, ends as running all of them from the start
+-- does. Each chunk keeps it (`fed-more`).
 use Rattle.record.specs.declared.Source.{Source}
 use Rattle.writer.specs.Parts.{withSources}
 use mathlib.Core.Path.{_≡_, refl, ap, _∙_}

@@ -1,5 +1,5 @@
--- One call appends the line if it leaves the tail short of full and the lower layer takes it; else what is due is done first, as the
--- definition has it.
+-- If the line leaves the tail short of full and the lower call appends it, that one call does what the run does (`line-counted`); else the
+-- due calls come first, as in the definition.
 use mathlib.Core.List.{_++_}
 use Rattle.writer.specs.Parts.{withSources}
 use Rattle.run.specs.Appends.{dues, appends}

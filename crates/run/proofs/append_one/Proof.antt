@@ -1,3 +1,4 @@
+-- One byte, then what is due, is the first part of the run (`one-fed`).
 use Rattle.writer.specs.Parts.{withSources, stepWith}
 use native.Mathlib.Omega.{arith}
 use Rattle.run.proofs.Laws.{one-fed}

@@ -1,4 +1,5 @@
--- The lower call says how many bytes it appended: then the state was in order and they fit, and a chunk is as good as its bytes one by one.
+-- The lower call answers how many bytes it appended. If any, the state was in order and they fit, so the chunk leaves what its bytes one by
+-- one leave (`chunk-counted`); else one byte is appended, which the run may refuse as well.
 use Rattle.run.proofs.Chunk.{chunk-counted}
 use borrow.Author.Needs.{needs}
 use Rattle.run.proofs.append_some.Statement.{statement}

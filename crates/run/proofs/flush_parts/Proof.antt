@@ -1,3 +1,4 @@
+-- With an operation due it is done, and two more at most; in the other stages three due calls change nothing (`quiet-settled`).
 use Rattle.writer.specs.Parts.{withSources}
 use mathlib.Core.Path.{refl}
 use Rattle.writer.specs.declared.Stage.the-variants.{Idle, HeaderWritten, Committed}

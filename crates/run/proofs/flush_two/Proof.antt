@@ -1,3 +1,4 @@
+-- With an operation due two calls are made; in the other stages they change nothing (`quiet-two`).
 use Rattle.writer.specs.Parts.{withSources}
 use mathlib.Core.Path.{refl}
 use Rattle.writer.specs.declared.Stage.the-variants.{Idle, HeaderWritten, Committed}

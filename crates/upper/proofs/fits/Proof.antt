@@ -1,3 +1,4 @@
+-- The sum can't overflow 64 bits, since n is at most the capacity there; a larger n never fits.
 use mathlib.Core.Path.{sym}
 use Prim.Native.Nat.{_+_}
 use native.Mathlib.Omega.{arith}

@@ -1,3 +1,4 @@
+-- One case for each operation: the arm's test is the definition's, which computes once the operation is known.
 use mathlib.Core.Path.{sym, ap}
 use Rattle.writer.specs.State.{operationOk}
 use borrow.Author.Needs.{needs}

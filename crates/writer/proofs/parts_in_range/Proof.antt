@@ -1,3 +1,4 @@
+-- The four tests of the parts are the definition's, each by its function's contract.
 use borrow.Author.Needs.{needs}
 use Rattle.writer.proofs.parts_in_range.Statement.{statement}
 use Rattle.writer.proofs.parts_in_range.Tie as tie

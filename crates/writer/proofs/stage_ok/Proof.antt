@@ -1,3 +1,4 @@
+-- One case for each stage: the arm's test is the definition's, which computes once the stage is known.
 use mathlib.Core.Path.{sym, ap, _∙_}
 use mathlib.Core.Bool.{not}
 use Rattle.writer.specs.State.{stageOk}

@@ -1,3 +1,4 @@
+-- One case for each answer of load, and two for a bank found: bank 0 gives 1, bank 1 gives 0.
 use mathlib.Core.Path.{sym, ap}
 use native.Mathlib.Omega.{arith}
 use Rattle.writer.specs.State.{target}

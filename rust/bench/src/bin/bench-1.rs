@@ -1,2 +1,2 @@
-//! bench, linked with its code 1,040 bytes further on.
+//! bench, linked with its code moved by 1,040 bytes.
 bench::linked!(1040);

@@ -1,2 +1,2 @@
-//! bench, linked with its code 2,080 bytes further on.
+//! bench, linked with its code moved by 2,080 bytes.
 bench::linked!(2080);

@@ -1,2 +1,2 @@
-//! bench, linked with its code 3,120 bytes further on.
+//! bench, linked with its code moved by 3,120 bytes.
 bench::linked!(3120);

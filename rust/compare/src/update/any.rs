@@ -30,7 +30,7 @@ fn any_record(random: &mut Random) -> Vec<u8> {
     record
 }
 
-/// A row with so many values, mostly.
+/// A row, mostly with n values.
 pub fn row(random: &mut Random, columns: usize) -> Call {
     let columns = if random.once_in(12) { random.below(12) } else { columns };
     let mut lengths: Vec<u32> = (0..columns).map(|_| random.below(20) as u32).collect();

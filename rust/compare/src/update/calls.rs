@@ -45,8 +45,8 @@ impl Call {
         let answer = self.ask(state, region);
         wrong::instead(self, answer, &before, region)
     }
-    /// The call, with the whole state as it crosses back. What the binding
-    /// takes of it must be all that is other than before.
+    /// The call, with the whole state as the C interface returns it. What the
+    /// binding copies of it must be all that has changed.
     fn ask(&self, state: &mut State, region: &mut [u8]) -> Answer {
         let mut taken = *state;
         let answer = self.ask_whole(state, region);
@@ -115,7 +115,7 @@ impl Call {
         use Call::*;
         matches!(self, SourceWithDates(_) | TableWithNames(_) | Row(..) | TableEnd | Closing)
     }
-    /// The bytes that an upper call takes.
+    /// The bytes that an upper call appends.
     pub fn taken(&self) -> Vec<u8> {
         match self {
             Self::SourceWithDates(record) => (0..8).map(|i| byte(record, i)).collect(),
@@ -124,8 +124,8 @@ impl Call {
             _ => Vec::new(),
         }
     }
-    /// An upper call's run: what is due, the lower call, what is due, and then
-    /// byte by byte.
+    /// An upper call's run: what is due, the lower call, what is due, and then the
+    /// bytes one by one.
     pub fn run(&self) -> Vec<Self> {
         let mut run = vec![Self::Due; 3];
         run.extend(match self {
@@ -150,7 +150,7 @@ pub fn byte(bytes: &[u8], i: usize) -> u8 {
     bytes.get(i).copied().unwrap_or(0)
 }
 
-/// The values that texts in a row and their lengths mean.
+/// The values that joined texts and their lengths mean.
 pub fn handed<'a>(mut texts: &'a [u8], lengths: &[u32]) -> Vec<&'a [u8]> {
     let one = |n: &u32| {
         let (value, rest) = texts.split_at(texts.len().min(*n as usize));

@@ -1,4 +1,4 @@
-//! What updates write: random contents, and the regions that they find.
+//! What updates write: random contents, and the regions before them.
 use crate::{
     keys::Selection,
     rows::text,
@@ -37,7 +37,7 @@ pub enum Piece {
 #[derive(Clone)]
 pub struct Source {
     pub fields: SourceFields,
-    /// Tables by number, with what stands behind their names.
+    /// Tables by number, with what follows their names.
     pub tables: Vec<(usize, Vec<Piece>)>,
 }
 
@@ -93,7 +93,7 @@ impl Key {
             Self::Picked(selection) => format!("key of {}", selection.show()),
         }
     }
-    /// The selection that it is of.
+    /// The selection that its key is of.
     pub fn selection(&self) -> Selection {
         match self {
             Self::Bytes(_) => Selection::default(),
@@ -219,7 +219,7 @@ impl Content {
         }
         content
     }
-    /// Fewer and shorter things; Routes stays the first table of the first source.
+    /// Fewer and shorter parts; Routes stays the first table of the first source.
     pub fn smaller(&self) -> Moves<'_, Self> {
         let sources = fewer(&self.sources).chain(each(&self.sources, Source::smaller));
         let routes_first = |sources: &Vec<Source>| {

@@ -15,8 +15,8 @@ pub struct Core {
     pub region: Vec<u8>,
     /// The operations that were begun.
     pub operations: Vec<Operation>,
-    /// The region that these operations leave where each is whole, and the first one
-    /// after which the core's was another where it was done.
+    /// The region that these operations leave if each is whole, and the first one
+    /// after which the core's bytes there were different.
     pub shadow: Vec<u8>,
     pub strayed: Option<usize>,
     /// The first refusal.
@@ -71,8 +71,8 @@ impl Core {
         }
         answer
     }
-    /// Where the supply fails inside the last operation, the bytes after its first
-    /// j are again what they were before it.
+    /// If the supply fails inside the last operation, the bytes after its first j
+    /// are what they were before it.
     fn tear(&mut self, span: Range<usize>, before: &[u8]) {
         let begun = self.operations.len();
         if let Some(Cut { j, .. }) = self.cut.filter(|cut| begun > cut.k) {
@@ -84,7 +84,7 @@ impl Core {
     pub fn settle(&mut self) {
         while self.call(&Call::Due) == (Answer { answer: DONE, ..Answer::default() }) {}
     }
-    /// Offers bytes in pieces until all are taken.
+    /// Offers bytes in pieces until all are appended.
     pub fn append(&mut self, random: &mut Random, mut bytes: &[u8]) {
         while !bytes.is_empty() && !self.stopped() {
             let some = random.pick(&[1, 7, 100, 255, 256, 257, 1000, usize::MAX]).min(bytes.len());

@@ -20,8 +20,8 @@ pub struct Cut {
 /// The ends of the magic, the version and the generation in a header.
 const FIELDS: [usize; 3] = [4, 8, 12];
 
-/// Numbers of bytes at which something of an operation has just begun or is
-/// nearly done.
+/// Numbers of bytes at which a field of an operation has just begun or is nearly
+/// done.
 fn boundaries(operation: &Operation) -> Vec<usize> {
     let size = size(operation);
     let mut all = vec![1, 2, 3, size - 1, size];
@@ -57,7 +57,7 @@ impl Cut {
         let j = operations.get(k).map_or(0, |next| bytes(random, next));
         Self { k, j }
     }
-    /// The operation that it is inside of, begun and not done.
+    /// The operation that it is inside of: begun and not done.
     pub fn inside(self, operations: &[Operation]) -> Option<&Operation> {
         operations.get(self.k).filter(|next| (1..size(next)).contains(&self.j))
     }
@@ -71,7 +71,7 @@ impl Cut {
     pub fn show(self) -> String {
         format!("cut after {} operations and {} bytes of the next", self.k, self.j)
     }
-    /// Counts it, by where among the operations it is.
+    /// Counts it, by its position among the operations.
     pub fn count(self, tally: &mut Tally, operations: &[Operation]) {
         let done = done_at(self.k, self.j, operations);
         let inside = self.inside(operations);

@@ -1,4 +1,4 @@
-//! A state's numbers, read and put: the one place here that knows its form.
+//! A state's numbers, read and written: the only module here that knows its form.
 use crate::{
     run::hex_then_zeros,
     shrink::{Moves, each, number, zeros},
@@ -6,7 +6,7 @@ use crate::{
 use bankcore::update::State;
 use common::Random;
 
-/// The numbers' places in `Fields::numbers`.
+/// The indexes of the numbers in `Fields::numbers`.
 pub const STAGE: usize = 0;
 pub const FIRST: usize = 1;
 pub const SECOND: usize = 2;
@@ -37,7 +37,7 @@ pub const COMPARE: u32 = 3;
 pub const HEADED: u32 = 4;
 pub const COMMITTED: u32 = 5;
 
-/// How many bytes of a record a state has; those behind them are 0.
+/// How many bytes of a record a state has; those after them are 0.
 const RECORD: usize = 339;
 
 /// What a state holds. A stage is one of the six above, with its operation's

@@ -15,7 +15,7 @@ pub enum Kind {
     Word,
 }
 
-/// What an operation is, by its place in its bank.
+/// What an operation is, by its offset in its bank.
 pub fn kind(operation: &Operation) -> Kind {
     match (operation, span(operation).start % BANK) {
         (Operation::Erase { .. }, 0) => Kind::HeaderErase,
@@ -53,14 +53,14 @@ pub fn torn(j: usize, operation: &Operation, region: &mut [u8]) {
     }
 }
 
-/// One operation on a region; where it was done.
+/// One operation on a region; the range of its bytes.
 pub fn perform(region: &mut [u8], operation: &Operation) -> Range<usize> {
     torn(size(operation), operation, region);
     span(operation)
 }
 
-/// What the region is where the supply fails: the first k operations whole, of the
-/// next the first j bytes, the rest not at all.
+/// The region if the supply fails: the first k operations whole, of the next the
+/// first j bytes, the rest not at all.
 pub fn cut_at(k: usize, j: usize, operations: &[Operation], mut region: Vec<u8>) -> Vec<u8> {
     match (k, operations) {
         (_, []) => region,
@@ -85,7 +85,7 @@ pub fn done_at(k: usize, j: usize, operations: &[Operation]) -> usize {
     }
 }
 
-/// An operation's place and length, without its bytes.
+/// An operation's offset and length, without its bytes.
 pub fn place(o: &Operation) -> String {
     match o {
         Operation::Erase { start, end } => format!("erase {start:#x}..{end:#x}"),
@@ -93,7 +93,7 @@ pub fn place(o: &Operation) -> String {
     }
 }
 
-/// The first place where two lists aren't the same.
+/// The first index at which two lists differ.
 pub fn first_other<T: PartialEq>(a: &[T], b: &[T]) -> Option<usize> {
     if a == b {
         return None;

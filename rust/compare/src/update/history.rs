@@ -1,13 +1,14 @@
-//! Demand 3's history as it can be run: fed the calls' arguments, their answers
-//! and how many operations were done at each cut. It reads no state and no flash.
+//! Demand 3's history in executable form: it is given the calls' arguments, their
+//! answers and how many operations were done at each cut. It reads no state and no
+//! flash.
 use super::calls::{Call, byte};
 use bankcore::{
     answers::BankAnswer,
     update::{Answer, DONE, TOOK},
 };
 
-/// What source, table and table end calls note, with the count of bytes before
-/// any of their own.
+/// What source, table and table end calls note, with the number of bytes before any
+/// of their own.
 #[derive(Clone)]
 enum Note {
     Source(Vec<u8>),
@@ -30,7 +31,7 @@ pub struct Open {
 pub struct History {
     pub held: BankAnswer,
     pub records: Vec<[u8; 384]>,
-    /// The bytes that the update of G took, if it was committed here.
+    /// The bytes that the update of G appended, if it was committed here.
     pub given: Option<Vec<u8>>,
     pub open: Option<Open>,
 }
@@ -42,7 +43,7 @@ fn emptied(record: &[u8]) -> [u8; 384] {
 }
 
 impl Open {
-    /// The records that the notes come to, over the bytes taken.
+    /// The records that the notes give, over the bytes appended.
     fn records(&self) -> Vec<[u8; 384]> {
         let mut records: Vec<[u8; 384]> = Vec::new();
         let (mut table, mut from) = (0, 0);
@@ -102,11 +103,11 @@ impl Open {
 }
 
 impl History {
-    /// At first: load's answer on the region found, its records, no update.
+    /// At the start: load's answer on the region found, its records, no update.
     pub fn new(held: BankAnswer, records: Vec<[u8; 384]>) -> Self {
         Self { held, records, given: None, open: None }
     }
-    /// A beginning, with the key that it takes.
+    /// A beginning, with the key that it appends.
     pub fn begin(&mut self, now: i64, key: &[u8], answer: Answer) {
         if answer.refusal != 0 || answer.answer != DONE {
             return;

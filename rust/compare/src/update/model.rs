@@ -26,8 +26,8 @@ impl Fields {
     pub fn stage(&mut self, stage: u32, first: usize, second: usize) {
         self.numbers[..3].copy_from_slice(&[stage, first as u32, second as u32]);
     }
-    /// As it is once a call was answered: numbers without a meaning are 0, flags
-    /// 0 or 1.
+    /// As it is after an answered call: numbers without a meaning are 0, flags 0 or
+    /// 1.
     pub fn settled(&self) -> Self {
         let mut fields = self.clone();
         let used = match self.numbers[STAGE] {
@@ -62,7 +62,7 @@ impl Fields {
             _ => false,
         }
     }
-    /// 11, by range.
+    /// Refusal 11, by range.
     pub fn in_range(&self) -> bool {
         let active = self.n(KIND) == 0 || (self.n(KIND) == 1 && self.n(NUMBER) <= 1);
         let aligned = self.n(WRITTEN).is_multiple_of(256) || (self.is(CLOSED) && self.n(FILL) == 0);
@@ -82,7 +82,7 @@ impl Fields {
         let first = self.n(SOURCES) == 1 && begun == 0;
         !self.open() && self.n(SOURCES) >= 1 && begun >> table & 1 == 0 && (table == 0 || !first)
     }
-    /// What is due first, where nothing was before.
+    /// What is due first, if nothing was before.
     pub fn begin_due(&mut self) {
         let (written, fill) = (self.n(WRITTEN), self.n(FILL));
         match (self.is_due(), self.is(COMPARING)) {
@@ -130,7 +130,7 @@ impl Fields {
         let texts = self.sources[i][192] <= 80 && self.sources[i][273] <= 64;
         dates && self.word(i, 8) <= 255 && time && (0..8).all(block) && texts
     }
-    /// 13
+    /// Refusal 13
     pub fn fit(&self, stamp: Option<i64>) -> bool {
         let (length, key) = (self.numbers[WRITTEN], self.key_length());
         let checked = self.checked_at(stamp);

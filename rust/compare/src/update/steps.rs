@@ -96,8 +96,8 @@ impl Fields {
 }
 
 impl Model {
-    /// The call's answer. What it leaves is in the fields and the region, which
-    /// a refused one doesn't change.
+    /// The call's answer. What it leaves is in the fields and the region, which a
+    /// refused call doesn't change.
     pub fn call(&mut self, call: &Call) -> Answer {
         let mut next = self.fields.settled();
         let outcome = match call {
@@ -153,7 +153,7 @@ impl Model {
         next.stage(IDLE, 0, 0);
         said(DONE)
     }
-    /// Whether the tail is other than the active bank's bytes there.
+    /// Whether the tail differs from the active bank's bytes there.
     fn differs(&self) -> bool {
         let f = &self.fields;
         let at = f.n(NUMBER) * BANK + SECTOR + f.n(WRITTEN);

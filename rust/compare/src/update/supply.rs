@@ -14,7 +14,7 @@ pub struct Supply {
     pub flash: Flash,
     /// Where it fails.
     pub cut: Option<Cut>,
-    /// The operations that were begun, as they were asked for.
+    /// The operations that were begun, as they were requested.
     pub begun: RefCell<Vec<Operation>>,
 }
 

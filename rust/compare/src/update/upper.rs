@@ -1,5 +1,4 @@
-//! An update by the upper calls, and beside it by the runs of lower calls that
-//! they are.
+//! An update by the upper calls, and beside it by their runs of lower calls.
 use super::{
     calls::{Call, feed},
     content::{Content, Piece, Source},
@@ -14,7 +13,7 @@ pub struct Upper {
     pub region: Vec<u8>,
     /// The lower calls' side; it can be cut.
     pub run: Core,
-    /// The first call after which the two weren't the same.
+    /// The first call after which the two differed.
     pub apart: Option<String>,
 }
 

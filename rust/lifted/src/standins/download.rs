@@ -1,6 +1,6 @@
-//! Stands in for the firmware's download.rs, which isn't at hand. `Source`
-//! keeps a validator and only encodes and decodes it: here it is its 66 stored
-//! bytes (length, kind, 64 bytes of text), carried raw.
+//! Stands in for the firmware's download.rs, which isn't available. `Source` keeps
+//! a validator and only encodes and decodes it: here it is its 66 stored bytes
+//! (length, kind, 64 bytes of text), unchanged.
 
 #[derive(Clone, Copy, Debug, PartialEq, Eq)]
 pub struct Validator(pub [u8; 66]);

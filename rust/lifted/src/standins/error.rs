@@ -1,4 +1,4 @@
-//! Stands in for the `Error` of gtfs/src/lib.rs, which isn't at hand: the
+//! Stands in for the `Error` of gtfs/src/lib.rs, which isn't available: the
 //! variants that lifted code names.
 use crate::embedded_io_async;
 

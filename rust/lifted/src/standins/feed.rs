@@ -1,6 +1,6 @@
-//! Stands in for `Builder` of display/src/feed.rs, which needs a timezone. Only
-//! its three dates and its mask of wanted days are asked for, by `Bank::fresh`;
-//! here the mask is given, not computed.
+//! Stands in for `Builder` of display/src/feed.rs, which needs a timezone. Only its
+//! three dates and its mask of wanted days are used, by `Bank::fresh`; here the
+//! mask is given, not computed.
 use crate::gtfs::Date;
 
 pub struct Builder {

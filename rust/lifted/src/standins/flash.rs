@@ -1,6 +1,6 @@
-//! Stands in for the board's flash: the cache's region in memory, by document
-//! 01's model (an erase sets a sector to 255, a write clears bits only). It
-//! keeps a list of the operations, and can stop after a number of them.
+//! Stands in for the board's flash: the cache's region in memory, by document 01's
+//! model (an erase sets a sector to 255, a write clears bits only). It keeps a list
+//! of the operations, and can fail after a number of them.
 use crate::{
     cache::{OFFSET, SIZE, Storage},
     embedded_io_async::ErrorKind,

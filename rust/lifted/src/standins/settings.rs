@@ -1,5 +1,5 @@
-//! Stands in for the settings' JSON, which `Config` is read from: makes a
-//! `Config` with given picks. Only its picks are asked for, by `key`.
+//! Stands in for the settings' JSON, from which `Config` is read: makes a `Config`
+//! with given picks. Only its picks are used, by `key`.
 use crate::{
     heapless,
     timetable_display::{
@@ -23,8 +23,8 @@ fn pick([line, route, code, stop, name]: [&str; 5]) -> Option<Pick> {
     })
 }
 
-/// Settings with these picks (line, route, stop code, stop, stop name), four to
-/// a group; none where there are over 16 or a field is over its size.
+/// Settings with these picks (line, route, stop code, stop, stop name), four to a
+/// group; none if there are over 16 or a field is over its size.
 pub fn config(picks: &[[&str; 5]]) -> Option<Config> {
     let mut config = Config::default();
     for four in picks.chunks(MAX_PICKS) {

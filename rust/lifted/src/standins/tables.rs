@@ -1,5 +1,5 @@
-//! Stands in for crc32fast in the package lifted-tables: its own table path,
-//! which it takes where there is no SIMD.
+//! Stands in for crc32fast in the package lifted-tables: its own table path, which
+//! it uses without SIMD.
 
 #[derive(Clone)]
 pub struct Hasher(crc32fast::Hasher);

@@ -1,5 +1,5 @@
-//! Stands in for the board's flash where it is only read: a region lent by the
-//! caller. A few words can be read as others than they are.
+//! Stands in for the board's flash if it is only read: a region lent by the caller.
+//! A few words can be read with other values.
 use crate::{
     cache::{OFFSET, SIZE, Storage},
     embedded_io_async::ErrorKind,
@@ -10,7 +10,7 @@ use crate::{
 pub struct View<'a> {
     pub region: &'a [u8],
     pub identity: &'a [u8],
-    /// Places in the region and the words that are read there instead.
+    /// Offsets in the region and the words that are read there instead.
     pub instead: &'a [(usize, u32)],
 }
 

@@ -1,4 +1,4 @@
-//! Stands in for gtfs/src/zip.rs, which isn't at hand. `Source::matches` and
+//! Stands in for gtfs/src/zip.rs, which isn't available. `Source::matches` and
 //! `Source::manifest` name a manifest; here it is one fingerprint a table.
 use crate::gtfs::{Error, Table};
 

@@ -1,3 +1,4 @@
+-- A good header gives a state with no byte hashed, a refused one the refusal and a state of no bank.
 use Rattle.bank.proofs.Cases.{start-good, start-bad}
 use mathlib.Core.Path.{sym, _∙_}
 use borrow.Author.Needs.{needs}

@@ -1,3 +1,4 @@
+-- One case for each guard: the region's length, the state's ranges, the header; then the turn on the bank.
 use Rattle.header.specs.Header.{headerOf}
 use borrow.Author.Tests.{not-true, not-false}
 use borrow.Author.Tests.{eq-eqb, ne-eqb}

@@ -1,3 +1,4 @@
+-- The next bytes, at most n, are a part of the data; hashing them continues the CRC, and the position goes on by as many.
 use Rattle.bank.specs.Turns.{countOf, hashed}
 use Rattle.bank.specs.Bank.{dataIn}
 use Rattle.bank.specs.declared.turns.Progress.the-variants.{Hashed}

@@ -1,3 +1,4 @@
+-- By the position: past the data it is refused, at their end the CRCs decide, before it bytes are hashed.
 use borrow.Author.Tests.{eq-eqb, ne-eqb, lt-leb, le-leb}
 use Rattle.bank.proofs.Cases.{past-data, verdict-yes, verdict-no, some-left}
 use mathlib.Core.Path.{_∙_}

@@ -1,3 +1,4 @@
+-- Two cases; the times are held as they are, since they fit an i64, and a refusal has its number.
 use Rattle.snapshot.specs.Freshness.{unknown}
 use Prim.Native.Nat.{ℕ}
 use Rattle.bankcore.specs.BankAnswers.{ofFresh}

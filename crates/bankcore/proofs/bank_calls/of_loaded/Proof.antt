@@ -1,3 +1,4 @@
+-- One case for each answer of load: the arm's numbers are the definition's.
 use Rattle.bankcore.specs.BankAnswers.{noBank, ofLoaded}
 use mathlib.Core.Path.{sym, ap, _∙_}
 use borrow.Author.Needs.{needs}

@@ -1,3 +1,4 @@
+-- One case for each progress: the arm's numbers are the definition's.
 use Prim.Native.Nat.{ℕ}
 use Rattle.bank.specs.declared.turns.Progress.{Progress}
 use Rattle.bankcore.specs.BankAnswers.{ofTurn}

@@ -1,3 +1,4 @@
+-- Two cases: a bank's numbers, or those of none with the refusal's number.
 use Rattle.bankcore.specs.BankAnswers.{noBank, ofValidated}
 use mathlib.Core.Path.{sym, ap, _∙_}
 use borrow.Author.Needs.{needs}

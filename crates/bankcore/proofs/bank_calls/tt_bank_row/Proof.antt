@@ -1,3 +1,4 @@
+-- The answer as numbers, and both outputs, by the contract of `bank_row`.
 use Rattle.rowread.specs.Stored.{joined, endsOf, after}
 use Rattle.rowread.specs.declared.ReadAnswer.{ReadAnswer}
 use Rattle.snapshot.specs.Rows.{valuesIn}

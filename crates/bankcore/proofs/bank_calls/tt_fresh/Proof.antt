@@ -1,3 +1,4 @@
+-- The three days as a struct, then the contract of `fresh`; the time is held as it is, since it fits an i64.
 use Rattle.snapshot.specs.Freshness.{askedFresh}
 use Rattle.bankcore.specs.BankAnswers.{ofFresh}
 use mir.ValLaws.{toZ-ofZ}

@@ -1,3 +1,5 @@
+-- Two cases: the record is written if the output holds 384 bytes, and is refused as too small else; or the refusal of `source`, with the
+-- output unchanged.
 use Rattle.snapshot.specs.Source.{askedSource}
 use Rattle.snapshot.specs.declared.source.Asked.{Asked}
 use Rattle.record.specs.Record.{sourceBytes}

@@ -1,3 +1,4 @@
+-- The call on the state's parts is the call on the state; the tail is that of the parts even if the bytes are refused (`bytes-tail`).
 use mathlib.Core.Path.{ap, _∙_}
 use Rattle.writer.specs.declared.Parts.{Parts}
 use Rattle.writer.specs.declared.Step.{Step}

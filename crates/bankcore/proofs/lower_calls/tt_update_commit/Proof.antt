@@ -1,3 +1,4 @@
+-- The stamp as an enum, then the contract of `commit`, on the writer that the state means.
 use mathlib.Core.Path.{ap, _∙_}
 use mir.Syntax.{w64}
 use mir.ValLaws.{toZ-ofZ}

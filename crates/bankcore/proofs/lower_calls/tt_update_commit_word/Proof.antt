@@ -1,3 +1,4 @@
+-- The contract of `commit_word`, on the writer that the state means.
 use mathlib.Core.Path.{ap, _∙_}
 use Rattle.writer.specs.declared.Step.{Step}
 use Rattle.commit.specs.Commit.{wordStep, wordRegion}

@@ -1,3 +1,4 @@
+-- One case for each answer: the arm's numbers are the definition's.
 use Rattle.bankcore.specs.RowAnswers.{noRow, ofRead}
 use mathlib.Core.Path.{sym, ap, _∙_}
 use borrow.Author.Needs.{needs}

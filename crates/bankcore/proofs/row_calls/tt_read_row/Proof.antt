@@ -1,3 +1,4 @@
+-- The answer as numbers, and both outputs, by the contract of `read_row`.
 use Rattle.rowread.specs.Stored.{valuesAt, joined, endsOf, after}
 use Rattle.rowread.specs.declared.ReadAnswer.{ReadAnswer}
 use Rattle.bankcore.specs.RowAnswers.{ofRead}

@@ -1,3 +1,4 @@
+-- The contract of `begin`; the time is held as it is, since it fits an i64.
 use mathlib.Core.Path.{ap, _∙_}
 use mir.Syntax.{w64}
 use mir.ValLaws.{toZ-ofZ}

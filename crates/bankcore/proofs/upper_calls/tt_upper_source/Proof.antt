@@ -1,3 +1,4 @@
+-- The record is decoded, then the contract of `source`, on the writer that the state means.
 use mathlib.Core.Path.{ap, _∙_}
 use Rattle.writer.specs.declared.Step.{Step}
 use Rattle.upper.specs.Upper.{upperStep, upperRegion, sourceWithDates}

@@ -1,3 +1,5 @@
+-- The part is `take n (drop from b)`, by the code's three cases: from the end on both are empty; a part that ends before the end is exactly
+-- that; one that reaches further is all that is left.
 use mathlib.Core.Path.{_≡_, ap}
 use Prim.Native.Nat.{ℕ, _+_, _-_}
 use native.Mathlib.Omega.{arith}

@@ -1,3 +1,5 @@
+-- Whether two slices are equal. The invariant: they are the same exactly if nothing differed before i and the rests from i on are the same.
+-- Slices of another length differ at once.
 use mathlib.Core.Path.{_≡_, refl, sym}
 use mathlib.Core.Bool.{false}
 use Prim.Native.Nat.{_-_, _≤_}

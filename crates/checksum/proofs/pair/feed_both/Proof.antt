@@ -1,3 +1,5 @@
+-- Both registers after some bytes. Equal registers stay equal; after 256 bytes the second is the first and the 2048 steps of their
+-- difference, by linearity (`second`); else each is run by itself.
 use mathlib.Core.Path.{refl, ap, ap₂, _∙_}
 use Prim.Native.Nat.{ℕ}
 use native.Mathlib.Omega.{arith}

@@ -1,3 +1,4 @@
+-- Eight lookups, one a nibble, add up to 2048 steps: the law `shift` of PairTable.antt, with each lookup's contract.
 use Rattle.checksum.proofs.PairTable.{shift}
 use borrow.Author.Needs.{needs}
 use Rattle.checksum.proofs.pair.shift.Statement.{statement}

@@ -1,3 +1,4 @@
+-- Each arm is 4 steps of its nibble, computed. In the last arm the nibble is 15, since it is below 16 and none of the others.
 use mathlib.Core.Path.{ap, sym}
 use Prim.Native.Nat.{_%_}
 use native.Mathlib.Nat.{mod-lt}

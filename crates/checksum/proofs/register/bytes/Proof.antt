@@ -1,3 +1,5 @@
+-- The invariant: the register so far, run over the bytes from i on, gives what crc gives on all bytes from `from` on. One turn is
+-- `byte-at`.
 use mathlib.Core.Path.{_≡_, refl, ap, _∙_}
 use Prim.Native.Nat.{ℕ, _+_, _-_, _≤_}
 use native.Mathlib.Omega.{arith}

@@ -1,3 +1,5 @@
+-- Two near folds use up the words at `at` and `at + 8` while the fourth and fifth pending words are added above (`near-under`);
+-- `close_near` does the three words that are left.
 use mathlib.Core.Path.{_≡_, sym, ap, _∙_}
 use Prim.Native.Nat.{ℕ, _+_, _*_, _^_}
 use native.Mathlib.Omega.{arith}

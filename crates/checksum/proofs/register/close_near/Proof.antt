@@ -1,3 +1,5 @@
+-- The first of three pending words is folded into the other two (`fold-at`), then each of these is run by the table (`next-after`,
+-- `last-of`).
 use mathlib.Core.Path.{_∙_}
 use native.Mathlib.Omega.{arith}
 use lib.Bits.{bitXor}

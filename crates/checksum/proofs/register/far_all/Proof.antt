@@ -1,3 +1,5 @@
+-- The invariant: the five pending words, run from offset i on, give what crc gives on all bytes. Each far fold keeps it by `fold-at`; two
+-- are done a turn.
 use mathlib.Core.Path.{_≡_, sym, ap, _∙_}
 use Prim.Native.Nat.{ℕ, _+_, _-_, _≤_}
 use native.Mathlib.Nat.{zero-add}

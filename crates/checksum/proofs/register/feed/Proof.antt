@@ -1,3 +1,4 @@
+-- Three cases by length, each proved by its own function; what is shown here is that the constant table has the rule `Nibbles`.
 use mathlib.Core.Path.{refl}
 use Rattle.checksum.specs.Register.{step, steps}
 use Rattle.checksum.proofs.Table.{nibbles, follows, table}

@@ -1,3 +1,5 @@
+-- Folds by five words, then the last five, then the bytes left: the contracts of the three calls joined. At the end no bytes are left, or
+-- `rest` runs over them.
 use mathlib.Core.Path.{sym, ap, _∙_}
 use Prim.Native.Nat.{_+_}
 use native.Mathlib.Omega.{arith}

@@ -1,3 +1,5 @@
+-- Folds by three words, then the last three, then the bytes left: the contracts of the three calls joined. At the end no bytes are left, or
+-- `rest` runs over them.
 use mathlib.Core.Path.{sym, ap, _∙_}
 use Prim.Native.Nat.{_+_}
 use native.Mathlib.Omega.{arith}

@@ -1,3 +1,4 @@
+-- The sum of four bytes is the number `little` gives (`four-bytes`), and nothing overflows since each byte is below 256.
 use native.Mathlib.Omega.{arith}
 use Rattle.checksum.proofs.Little.{four-bytes}
 use borrow.Author.Needs.{needs}

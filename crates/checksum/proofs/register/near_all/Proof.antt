@@ -1,3 +1,4 @@
+-- The invariant: the three pending words, run from offset i on, give what crc gives on all bytes. Each near fold keeps it by `fold-at`.
 use mathlib.Core.Path.{_≡_, ap, _∙_}
 use Prim.Native.Nat.{ℕ, _+_, _-_, _≤_}
 use native.Mathlib.Nat.{zero-add}

@@ -1,3 +1,4 @@
+-- The invariant: the register so far, run over the bytes from k on, gives what crc gives on all bytes. One turn is `byte-at`.
 use mathlib.Core.Path.{_≡_, refl, ap, _∙_}
 use Prim.Native.Nat.{ℕ, _+_, _-_, _≤_}
 use native.Mathlib.Omega.{arith}

@@ -1,3 +1,4 @@
+-- Eight lookups, one a nibble, add up to 32 steps: the law `word` of Table.antt, with each lookup's contract.
 use Rattle.checksum.proofs.Table.{word}
 use borrow.Author.Needs.{needs}
 use Rattle.checksum.proofs.register.word.Statement.{statement}

@@ -1,3 +1,4 @@
+-- With a bank found it is compared; without one the update isn't what the bank has.
 use mathlib.Core.Path.{sym, ap, _∙_}
 use Rattle.commit.specs.Unchanged.{isUnchanged}
 use borrow.Author.Needs.{needs}

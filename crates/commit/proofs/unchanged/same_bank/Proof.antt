@@ -1,3 +1,4 @@
+-- The five comparisons are the definition's, each by its function's contract.
 use mathlib.Core.Path.{ap, _∙_}
 use mathlib.Core.Bool.{not, _&&_}
 use lib.Dec.{eqb}

@@ -1,3 +1,4 @@
+-- The invariant: `same` says whether the first j blocks are equal (`same-take`). All eight are compared, without leaving early.
 use borrow.Author.Needs.{needs}
 use mathlib.Core.Path.{_≡_, refl, _∙_}
 use Prim.Native.Nat.{_-_, _≤_, _<_}

@@ -1,3 +1,4 @@
+-- The invariant: `same` says whether the first i sources equal the first i records (`same-many`).
 use borrow.Author.Needs.{needs}
 use mathlib.Core.Path.{_≡_, refl, ap, _∙_}
 use Prim.Native.Nat.{ℕ, _-_, _≤_, _<_}

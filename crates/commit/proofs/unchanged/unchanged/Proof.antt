@@ -1,3 +1,4 @@
+-- One case for each guard: region and order; then the comparison. The state stays in every case.
 use mathlib.Core.Path.{sym, _∙_}
 use mathlib.Core.Bool.{_&&_}
 use native.Mathlib.Omega.{arith}

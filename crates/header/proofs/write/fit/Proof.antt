@@ -1,3 +1,5 @@
+-- The invariant: the two flags say whether the first i records pass 6 and have texts of allowed length. Only records below the count are
+-- looked at (`below-count`).
 use borrow.Author.Needs.{needs}
 use mathlib.Core.Path.{_≡_, refl, ap, _∙_}
 use Prim.Native.Nat.{ℕ, _-_, _≤_, _<_, min}

@@ -1,3 +1,4 @@
+-- Four numbers written one after the other are the first 16 bytes (`first-written`).
 use mathlib.Core.Path.{_∙_}
 use Rattle.header.proofs.Writing.{first-written}
 use borrow.Author.Needs.{needs}

@@ -1,3 +1,5 @@
+-- Numbers, records, CRC and blank word, written into zeros, are the header (`header-written`). The CRC is computed while both words are
+-- still 0, as the definition has it.
 use mathlib.Core.Path.{_∙_}
 use Rattle.header.proofs.Writing.{header-written}
 use borrow.Author.Needs.{needs}

@@ -1,3 +1,4 @@
+-- The invariant: the first i records are written from 48 on, 384 bytes each (`puts-next`).
 use borrow.Author.Needs.{needs}
 use mathlib.Core.Path.{_≡_, refl, ap, _∙_}
 use Prim.Native.Nat.{_+_, _*_, _-_, _≤_, _<_}

@@ -1,3 +1,4 @@
+-- Five numbers written one after the other are bytes 16 to 39 (`second-written`).
 use mathlib.Core.Path.{_≡_, _∙_}
 use mir.Syntax.{w64}
 use mir.Val.{toZ, ofZ}

@@ -1,3 +1,4 @@
+-- Only safety and an end: each turn leaves 32 bytes fewer, or is the last.
 use borrow.Author.Needs.{needs}
 use mathlib.Core.Path.{_≡_}
 use Prim.Native.Nat.{_-_}

@@ -1,3 +1,4 @@
+-- Only safety: t is at most 8, so indexes t, 2 t and 2 t + 1 are inside their arrays.
 use borrow.Author.Needs.{needs}
 use Prim.Native.Nat.{_≤_, _-_}
 use Rattle.inspect.proofs.lines.table_lines.Statement.{statement}

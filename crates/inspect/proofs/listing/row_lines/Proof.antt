@@ -1,3 +1,4 @@
+-- Only safety and an end: both buffers keep their lengths, and the number of turns goes down.
 use borrow.Author.Needs.{needs}
 use mathlib.Core.Path.{_≡_}
 use lib.ListN.{length}

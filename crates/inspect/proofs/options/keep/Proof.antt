@@ -1,3 +1,4 @@
+-- Only safety: k is at most 5, and the three buffers keep their lengths.
 use borrow.Author.Needs.{needs}
 use mathlib.Core.Path.{_≡_}
 use Prim.Native.Nat.{_≤_, _-_}

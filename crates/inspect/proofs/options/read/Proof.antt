@@ -1,3 +1,4 @@
+-- Only safety and an end: the three buffers keep their lengths, and the number of arguments left goes down.
 use borrow.Author.Needs.{needs}
 use mathlib.Core.Path.{_≡_}
 use lib.ListN.{length}

@@ -1,3 +1,4 @@
+-- Only safety: after i bytes `at` is 3 i, and i is at most 32, so no sum overflows; the line's length stays.
 use borrow.Author.Needs.{needs}
 use mathlib.Core.Path.{_≡_}
 use Prim.Native.Nat.{_≤_, _-_, _*_}

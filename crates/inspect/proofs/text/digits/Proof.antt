@@ -1,3 +1,4 @@
+-- Only safety: v is at most a tenth of the bound before it is multiplied, so nothing overflows.
 use borrow.Author.Needs.{needs}
 use mathlib.Core.Path.{_≡_}
 use Prim.Native.Nat.{_-_}

@@ -1,3 +1,4 @@
+-- By cases: no bytes always match, a stored key that ends too soon differs, else the bytes there are compared.
 use mathlib.Core.Path.{_≡_, refl, _∙_, sym}
 use Prim.Native.Nat.{_+_, _-_}
 use native.Mathlib.Omega.{arith}

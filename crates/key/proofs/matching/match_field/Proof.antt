@@ -1,3 +1,4 @@
+-- The length byte, then the text: `then-to` where the byte matches, `then-not` where it differs.
 use mathlib.Core.Path.{_∙_, sym}
 use mathlib.Core.List.{[], _∷_}
 use Prim.Native.Nat.{_%_}

@@ -1,3 +1,5 @@
+-- The stored key is compared by length, prefix, count byte and picks, in this order. The first that differs shows that the keys differ; if
+-- all match and the lengths are equal, the keys are the same (`all-match`).
 use mathlib.Core.Path.{_∙_, sym}
 use native.Mathlib.Omega.{arith}
 use Rattle.key.specs.Picks.{pickOf, firsts}

@@ -1,3 +1,4 @@
+-- The invariant: the first f fields match, up to offset `to`. A field more is `goes-on`, one that differs `stops`.
 use mathlib.Core.Path.{_≡_, ap, _∙_, sym}
 use mathlib.Core.List.{[]}
 use Prim.Native.Nat.{_≤_, _-_}

@@ -1,3 +1,4 @@
+-- The invariant: the first k sorted picks match, up to offset `to`. A pick more is `goes-on`, one that differs `stops`.
 use mathlib.Core.Path.{_≡_, ap, _∙_, sym}
 use mathlib.Core.List.{[], map}
 use Prim.Native.Nat.{_-_, _≤_, _<_}

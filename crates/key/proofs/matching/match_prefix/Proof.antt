@@ -1,3 +1,4 @@
+-- No identity, no prefix. Else 255, the two length bytes and the identity are compared in turn (`then-to`, `then-not`).
 use mathlib.Core.Path.{ap, _∙_, sym}
 use mathlib.Core.List.{[], _∷_}
 use Prim.Native.Nat.{_%_, _/_}

@@ -1,3 +1,4 @@
+-- Fields 0 to 3 are texts as they are; the fifth, the name, is empty if there is a code.
 use mathlib.Core.Path.{_≡_, _∙_}
 use native.Mathlib.Omega.{arith}
 use Rattle.key.specs.Steps.{between}

@@ -1,3 +1,4 @@
+-- `place_of` says that the pick is there already, and nothing changes, or its index, and `put_in` inserts it there.
 use mathlib.Core.Path.{_≡_}
 use mathlib.Core.List.{map}
 use Prim.Native.Nat.{_-_}

@@ -1,3 +1,4 @@
+-- The invariant: the bytes before i are equal, so the order is that of the rests. The first different byte, or the shorter text, decides.
 use mathlib.Core.Path.{_≡_, refl, ap, _∙_, sym}
 use Prim.Native.Nat.{_≤_, _-_, compare}
 use native.Mathlib.Omega.{arith}

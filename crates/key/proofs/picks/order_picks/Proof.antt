@@ -1,3 +1,4 @@
+-- The invariant: the fields before f are equal, so the order is that of the rests. The first different field decides (`found`).
 use mathlib.Core.Path.{_≡_, refl}
 use Prim.Native.Nat.{_≤_, _-_}
 use borrow.Author.Needs.{needs}

@@ -1,3 +1,5 @@
+-- The invariant: inserting the pick leaves the first k as they are and inserts it among the rest. It goes before the first one that is
+-- larger, nowhere if it is there, else to the end.
 use mathlib.Core.Path.{_≡_, refl}
 use mathlib.Core.List.{_++_, map}
 use Prim.Native.Nat.{_-_, _≤_, _<_}

@@ -1,3 +1,4 @@
+-- The invariant: the offsets before i are stored, and `at` is offset i. A length that reaches past the end gives the end.
 use mathlib.Core.Path.{_≡_, refl, _∙_}
 use mathlib.Core.Logic.{⊎-elim}
 use mathlib.Core.List.{List}
@@ -16,7 +17,7 @@ Inv-loop texts lengths m starts₀ at₀ i₀ starts at i = (i ≤ m + 1) × (le
 abbrev μ-loop : tie.MeasureT-loop
 μ-loop texts lengths m starts₀ at₀ i₀ starts at i = m + 1 - i
 
--- one more place is stored
+-- one more offset is stored
 stored : (b l s : List ℕ) (i at : ℕ) → i < length s → at ≡ placeOf b l i → ((k : ℕ) → k < i → getD s k 0 ≡ placeOf b l k)
     → (k : ℕ) → k < i + 1 → getD (set s i at) k 0 ≡ placeOf b l k
 stored b l s i at h e f k w =

@@ -1,4 +1,5 @@
--- Texts cut at their lengths: what the offsets give is what the definitions ask of the picks, and the tests are theirs.
+-- The tests are the definitions': the texts cut at the computed offsets are the texts passed. Three refusals in turn: too many texts, a
+-- text too long, an identity too long.
 use mathlib.Core.Logic.{inl, inr}
 use mathlib.Core.Path.{refl, _∙_, sym}
 use Prim.Native.Nat.{_*_, _≤_}

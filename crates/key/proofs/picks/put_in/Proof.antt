@@ -1,3 +1,4 @@
+-- The invariant: the list up to j, and then `next`, is the old list up to j with v inserted at k; from j on it is unchanged.
 use mathlib.Core.Path.{_≡_, refl, _∙_}
 use mathlib.Core.List.{[], _∷_, _++_}
 use Prim.Native.Nat.{ℕ, _-_, _≤_}

@@ -1,3 +1,4 @@
+-- The invariant: the first k texts are within their sizes. The first one that isn't decides (`every-not`).
 use mathlib.Core.Path.{_≡_, sym}
 use mathlib.Core.Bool.{true}
 use Prim.Native.Nat.{_%_, _≤_, _<_, _-_}

@@ -1,3 +1,5 @@
+-- The invariant: the first m numbers mean the sorted, distinct picks from i on. Each turn inserts one more, from the last to the first
+-- (`one-more`).
 use mathlib.Core.Path.{_≡_, refl, _∙_}
 use Prim.Native.Nat.{_+_, _-_, _≤_}
 use native.Mathlib.Omega.{arith}

@@ -1,3 +1,4 @@
+-- The text between two offsets; rising offsets show that the slice is inside.
 use mathlib.Core.Path.{refl}
 use Prim.Native.Nat.{_+_}
 use native.Mathlib.Omega.{arith}

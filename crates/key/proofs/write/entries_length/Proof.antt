@@ -1,3 +1,4 @@
+-- The invariant: `bytes` is the length of the first k entries joined, at most 141 k.
 use mathlib.Core.Path.{_≡_, ap, _∙_}
 use mathlib.Core.List.{[], map}
 use Prim.Native.Nat.{_+_, _*_, _-_, _≤_, _<_}

@@ -1,3 +1,5 @@
+-- The texts are one after the other, so the sum of their lengths is the difference of two offsets: up to the name if there is a code, up to
+-- the end if not; and five length bytes.
 use native.Mathlib.Omega.{arith}
 use Rattle.key.proofs.Sizes.{up, entry-coded, entry-plain}
 use borrow.Author.Needs.{needs}

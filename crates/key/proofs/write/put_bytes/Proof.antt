@@ -1,3 +1,4 @@
+-- The invariant: the first i bytes of s are written at `at`.
 use mathlib.Core.Path.{_≡_, refl, ap, _∙_, sym}
 use Prim.Native.Nat.{_-_, _≤_}
 use native.Mathlib.Omega.{arith}

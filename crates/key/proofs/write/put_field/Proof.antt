@@ -1,3 +1,4 @@
+-- The length byte, then the text after it, are the field (`put-first`).
 use mathlib.Core.Path.{_∙_}
 use Prim.Native.Nat.{_%_}
 use native.Mathlib.Omega.{arith}

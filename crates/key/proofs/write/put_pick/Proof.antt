@@ -1,3 +1,5 @@
+-- The invariant: the first f fields are written, up to offset `to`. There is space for each, since the fields so far and this one are a
+-- part of the entry.
 use Rattle.leaf.specs.Bytes.{written}
 use mathlib.Core.Path.{_≡_, refl, ap, _∙_, sym}
 use mathlib.Core.List.{List, []}

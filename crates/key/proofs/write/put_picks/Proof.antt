@@ -1,3 +1,4 @@
+-- The invariant: the first k sorted picks are written, up to offset `to`. One more is `step-put`.
 use mathlib.Core.Path.{_≡_, refl, ap, _∙_, sym}
 use mathlib.Core.List.{[], map}
 use Prim.Native.Nat.{_+_, _-_, _≤_, _<_}

@@ -1,3 +1,4 @@
+-- No identity, no prefix. Else 255, the two length bytes and the identity are written in turn (`put-three`).
 use Rattle.leaf.specs.Bytes.{written}
 use mathlib.Core.Path.{ap, _∙_, sym}
 use Prim.Native.Nat.{_+_, _%_, _/_, _≤_}
@@ -8,7 +9,7 @@ use borrow.Author.Needs.{needs}
 use Rattle.key.proofs.write.put_prefix.Statement.{statement}
 use Rattle.key.proofs.write.put_prefix.Tie as tie
 
--- what the requires says once the identity isn't empty
+-- what the requires says of an identity that isn't empty
 room : (c : tie.Else1) → 3 + length (c .before .before .before .args .identity .now) ≤ length (c .before .before .before .args .out .now)
 room c =
     let e = ap length (prefix-some (c .before .before .before .args .identity .now) (omega arith)) in

@@ -1,3 +1,5 @@
+-- The computed length is the key's; a smaller output is refused. Else prefix, count byte and picks, written one after the other, are the
+-- key (`whole`).
 use mathlib.Core.Path.{refl, _∙_}
 use native.Mathlib.Omega.{arith}
 use lib.ListN.{length, length-set}

@@ -1,3 +1,4 @@
+-- The four bytes from i on, each 0 past the end, add up to `word` (`word-of`); no sum overflows since each byte is below 256.
 use mathlib.Core.Path.{_∙_, ap}
 use mathlib.Core.List.{List}
 use Prim.Native.Nat.{ℕ}

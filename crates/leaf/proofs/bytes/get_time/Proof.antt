@@ -1,3 +1,4 @@
+-- Two 32-bit numbers make one of 64 bits, whose signed reading is `time` (`time-of`); the result fits an i64 (`kept`).
 use mathlib.Core.Path.{_∙_, ap}
 use mathlib.Core.List.{List}
 use Prim.Native.Nat.{ℕ, _+_, _*_, _<_}

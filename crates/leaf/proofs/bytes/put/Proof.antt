@@ -1,3 +1,4 @@
+-- If there is space for four bytes, the four stores are `written` (`put4`); else `written` changes nothing.
 use mathlib.Core.Path.{_∙_, sym}
 use native.Mathlib.Omega.{arith}
 use lib.ListN.{length-set}

@@ -1,3 +1,4 @@
+-- If there is space for eight bytes, the stores of both halves are `written` (`put8`); else `written` changes nothing.
 use mathlib.Core.Path.{_∙_, sym, ap}
 use native.Mathlib.Omega.{arith}
 use mir.Syntax.{w64}

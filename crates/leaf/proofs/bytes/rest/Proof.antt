@@ -1,3 +1,4 @@
+-- The slice from i on is `drop i`; from the end on both are empty.
 use mathlib.Core.Path.{_∙_, sym}
 use Prim.Native.Nat.{_-_}
 use native.Mathlib.Omega.{arith}

@@ -1,4 +1,4 @@
--- `leaf::crc::crc32` meets its contract: the register started from the complement, and complemented. Assumes nothing.
+-- The register is started from the complement of `start` and complemented at the end, which is `crc32-run`.
 use native.Mathlib.Nat.{mod-eq-of-lt}
 use borrow.Author.Needs.{needs}
 use Rattle.leaf.proofs.Shift.{crc32-run}

@@ -1,4 +1,4 @@
--- The registers started from the complements, and complemented. Assumes nothing.
+-- As `crc32`, for two registers at once: each is started from its complement and complemented at the end.
 use mathlib.Core.Path.{_≡_, sym, ap, _∙_}
 use mathlib.Core.List.{List}
 use Prim.Native.Nat.{ℕ, _-_, _^_, _<_}

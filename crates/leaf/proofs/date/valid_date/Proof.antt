@@ -1,3 +1,4 @@
+-- Three cases: a year past 9999 is no date's; else the number's parts make a date, or they don't, and `isDate` says the same.
 use native.Mathlib.Omega.{arith}
 use mathlib.Core.Path.{sym, _∙_}
 use Prim.Native.Nat.{_/_, _%_}

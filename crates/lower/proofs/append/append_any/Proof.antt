@@ -1,3 +1,5 @@
+-- One case for each guard: order, then capacity; else as many bytes as the tail has space for are appended. It holds of whatever sources
+-- the state has.
 use mathlib.Core.Path.{sym, ap, _∙_}
 use mathlib.Core.List.{[]}
 use native.Mathlib.Omega.{arith}

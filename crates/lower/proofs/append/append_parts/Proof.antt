@@ -1,3 +1,4 @@
+-- `append_any` gives the number and the state without its tail; the tail is stored once, here.
 use mathlib.Core.Path.{ap, _∙_}
 use mathlib.Core.List.{List}
 use Prim.Native.Nat.{ℕ}

@@ -1,3 +1,4 @@
+-- While an operation is due none is appended (`took-none`); else the first n that fit are (`took-some`).
 use mathlib.Core.Path.{sym, ap, _∙_}
 use native.Mathlib.Omega.{arith}
 use Rattle.writer.specs.Parts.{withSources, stepWith}

@@ -1,3 +1,4 @@
+-- Both CRCs go on over the n bytes, the tail's fill grows by n, and the stage follows: together `withBytes`.
 use mathlib.Core.Path.{refl, sym, ap, _∙_}
 use Prim.Native.Nat.{ℕ, _+_}
 use native.Mathlib.Nat.{sub-zero}

@@ -1,3 +1,4 @@
+-- The invariant: the first i bytes are stored in the tail at `at` (`bytes-more`).
 use mathlib.Core.Path.{_≡_, refl, ap, _∙_}
 use native.Mathlib.Omega.{arith}
 use mathlib.Core.List.{List}

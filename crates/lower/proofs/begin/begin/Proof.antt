@@ -1,3 +1,4 @@
+-- The answer and the state follow from what load gives; the time is held as it is, since it fits an i64.
 use mathlib.Core.Path.{ap, _∙_}
 use mir.ValLaws.{toZ-ofZ}
 use mir.Syntax.{w64}

@@ -1,3 +1,4 @@
+-- Two cases: closed, or out of order and unchanged.
 use mathlib.Core.Path.{sym, ap, _∙_}
 use mathlib.Core.Bool.{not, _&&_}
 use Rattle.lower.proofs.Laws.{close-done, close-turn}

@@ -1,3 +1,4 @@
+-- The state field by field; new arrays are the definition's fills (`replicate-fill`).
 use Prim.Native.Nat.{ℕ}
 use mathlib.Core.Path.{ap, _∙_}
 use mir.ValLaws.{toZ-ofZ}

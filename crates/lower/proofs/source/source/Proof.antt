@@ -1,3 +1,4 @@
+-- Three cases: begun, full after three sources, out of order. A refused call leaves the state.
 use mathlib.Core.Path.{sym, ap, _∙_}
 use mathlib.Core.Bool.{not, _&&_}
 use Rattle.lower.proofs.Laws.{source-done, source-full, source-turn}

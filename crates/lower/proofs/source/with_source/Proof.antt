@@ -1,3 +1,4 @@
+-- One store in the array of sources, at the count; the other fields are the definition's.
 use mathlib.Core.Path.{ap}
 use Rattle.record.specs.declared.Source.{Source}
 use lib.ListN.{set}

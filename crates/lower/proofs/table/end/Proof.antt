@@ -1,3 +1,4 @@
+-- Two cases: ended, or out of order and unchanged. The ranges give the bounds that `with_end` requires.
 use mathlib.Core.Path.{sym, ap, _∙_}
 use mathlib.Core.Bool.{not, _&&_}
 use Rattle.lower.proofs.Laws.{end-done, end-turn}

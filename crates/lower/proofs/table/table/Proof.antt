@@ -1,3 +1,4 @@
+-- Three cases: begun, out of order, no such table. The ranges give the bound on the position that `with_table` requires.
 use mathlib.Core.Path.{sym, ap, _∙_}
 use mathlib.Core.Bool.{not, _&&_}
 use Rattle.lower.proofs.Laws.{table-done, table-turn, table-argument}

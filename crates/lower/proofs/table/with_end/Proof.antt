@@ -1,3 +1,4 @@
+-- The block of the open table goes into the last source; nothing overflows, by the bounds required.
 use mathlib.Core.Path.{ap}
 use Rattle.lower.specs.Lower.{withEnd}
 use Rattle.writer.specs.State.{noTable}

@@ -1,3 +1,4 @@
+-- The new table starts at the position with CRC 0, and its bit is set: the shift is a power of two (`shifted`).
 use mathlib.Core.Path.{ap}
 use Rattle.lower.specs.Lower.{withTable}
 use Prim.Native.Nat.{ℕ, _+_}

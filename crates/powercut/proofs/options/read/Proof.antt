@@ -1,3 +1,4 @@
+-- Only safety and an end: the buffer keeps its length, and the number of arguments left goes down.
 use borrow.Author.Needs.{needs}
 use mathlib.Core.Path.{_≡_}
 use lib.ListN.{length}

@@ -1,3 +1,4 @@
+-- Only safety: k is at most 136, the cells of a row.
 use borrow.Author.Needs.{needs}
 use Prim.Native.Nat.{_-_, _≤_}
 use Rattle.powercut.proofs.picture.cells.Statement.{statement}

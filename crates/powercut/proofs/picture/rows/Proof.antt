@@ -1,3 +1,4 @@
+-- Only safety and an end: the number of rows left goes down.
 use borrow.Author.Needs.{needs}
 use Prim.Native.Nat.{_≤_}
 use Rattle.powercut.proofs.picture.rows.Statement.{statement}

@@ -1,3 +1,4 @@
+-- Only safety: i is at most the name's length.
 use borrow.Author.Needs.{needs}
 use Prim.Native.Nat.{_≤_, _-_}
 use lib.ListN.{length}

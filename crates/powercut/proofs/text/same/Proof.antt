@@ -1,3 +1,4 @@
+-- Only safety: i is at most a's length; b is read by `get8`, which gives 0 past the end.
 use borrow.Author.Needs.{needs}
 use Prim.Native.Nat.{_≤_, _-_}
 use lib.ListN.{length}

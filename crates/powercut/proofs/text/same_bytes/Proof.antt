@@ -1,3 +1,4 @@
+-- Only safety: both lengths are equal, and i is at most that.
 use borrow.Author.Needs.{needs}
 use Prim.Native.Nat.{_-_, _≤_}
 use lib.ListN.{length}

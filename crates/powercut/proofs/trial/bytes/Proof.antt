@@ -1,3 +1,4 @@
+-- Only safety: region, copy and marks keep their lengths; each turn leaves one byte of the operation fewer.
 use borrow.Author.Needs.{needs}
 use mathlib.Core.Path.{_≡_}
 use Prim.Native.Nat.{_-_}

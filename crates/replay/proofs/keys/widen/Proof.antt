@@ -1,3 +1,4 @@
+-- Only safety: out's length stays, so index i is inside.
 use borrow.Author.Needs.{needs}
 use mathlib.Core.Path.{_≡_}
 use Prim.Native.Nat.{_-_}

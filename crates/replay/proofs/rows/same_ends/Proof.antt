@@ -1,3 +1,4 @@
+-- Only safety: n is at most the number of ends, and i at most n, so index i is inside.
 use borrow.Author.Needs.{needs}
 use Prim.Native.Nat.{_≤_, _-_}
 use lib.ListN.{length}

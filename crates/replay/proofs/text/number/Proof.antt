@@ -1,3 +1,4 @@
+-- Only safety: the remainder keeps the product below 2^64 whatever the digits are.
 use borrow.Author.Needs.{needs}
 use mathlib.Core.Path.{_≡_}
 use Prim.Native.Nat.{_-_}

@@ -1,3 +1,4 @@
+-- Only safety: out's length stays, so index n is inside; two digits below 16 make a byte.
 use borrow.Author.Needs.{needs}
 use mathlib.Core.Path.{_≡_}
 use Prim.Native.Nat.{_-_}

@@ -1,3 +1,4 @@
+-- Only safety and an end: j is at most k.
 use borrow.Author.Needs.{needs}
 use Prim.Native.Nat.{_≤_, _-_}
 use Rattle.replay.proofs.text.word.Statement.{statement}

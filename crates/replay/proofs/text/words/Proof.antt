@@ -1,3 +1,4 @@
+-- Only an end: each turn goes on by a byte or more, past the next blank.
 use borrow.Author.Needs.{needs}
 use mathlib.Core.Path.{_≡_}
 use Prim.Native.Nat.{_-_}

@@ -1,3 +1,5 @@
+-- The invariant: the first i bytes have none that is special, so the answer is that of the rest. 64 bytes at most are tested a turn
+-- (`chunk-yes`, `chunk-no`).
 use mathlib.Core.Path.{_≡_, refl, sym, _∙_}
 use Prim.Native.Nat.{_≤_, _-_}
 use native.Mathlib.Omega.{arith}

@@ -1,3 +1,5 @@
+-- The invariant: n is the length of all bytes and of the quotes before i. A block's quotes are what its bytes grow by when doubled
+-- (`count-turn`, `count-end`).
 use mathlib.Core.Path.{_≡_, ap}
 use Prim.Native.Nat.{_≤_, _-_, _+_}
 use native.Mathlib.Omega.{arith}

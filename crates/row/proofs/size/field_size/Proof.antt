@@ -1,3 +1,4 @@
+-- A value with a special byte gets its quotes doubled and two around it; any other stays as it is.
 use mathlib.Core.Path.{sym, ap, _∙_}
 use native.Mathlib.Omega.{arith}
 use lib.ListN.{length}

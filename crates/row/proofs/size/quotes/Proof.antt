@@ -1,3 +1,4 @@
+-- The invariant: n quotes are among the first i bytes, so n + i and the doubled rest have the length of all doubled.
 use mathlib.Core.Path.{_≡_, ap}
 use mathlib.Core.Logic.{⊎-elim}
 use Prim.Native.Nat.{_≤_, _-_, _+_}

@@ -1,3 +1,5 @@
+-- The invariant: the row has `total` bytes and those of the values left, and the sizes before k are known. A value over 8,192 bytes, or a
+-- total over it, makes the row longer than that whatever follows (`field-less`).
 use mathlib.Core.Path.{_≡_, refl, _∙_}
 use mathlib.Core.List.{List}
 use Prim.Native.Nat.{ℕ, _≤_, _<_, _-_, _+_}

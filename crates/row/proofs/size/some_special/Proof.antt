@@ -1,3 +1,4 @@
+-- The invariant: n of the bytes before i are special. There is one exactly if n isn't 0 at the end.
 use mathlib.Core.Path.{sym, _∙_}
 use mathlib.Core.Logic.{⊎-elim}
 use Prim.Native.Nat.{_≤_, _-_}

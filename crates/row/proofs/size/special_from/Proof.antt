@@ -1,3 +1,4 @@
+-- The invariant: none is special between `from` and i, so the answer is that of the bytes from i on.
 use mathlib.Core.Path.{_≡_, refl, sym, _∙_}
 use Prim.Native.Nat.{_≤_, _-_}
 use native.Mathlib.Omega.{arith}

@@ -1,3 +1,4 @@
+-- A copy into an array of 64 bytes, and from there to the output, is one store of the bytes (`sets-all`).
 use mathlib.Core.Path.{ap, _∙_}
 use native.Mathlib.Omega.{arith}
 use lib.Seq.{sets}

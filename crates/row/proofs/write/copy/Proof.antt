@@ -1,3 +1,4 @@
+-- The invariant: storing the rest of v from `to + i` on gives what storing all of v at `to` gives.
 use mathlib.Core.Path.{_≡_, refl, sym, _∙_}
 use Prim.Native.Nat.{_≤_, _-_, _+_}
 use native.Mathlib.Omega.{arith}

@@ -1,3 +1,5 @@
+-- By the number of quotes in 64 bytes: none, one copy; one, two copies, the second from the quote on; more, byte by byte. What is written
+-- past the block is overwritten later, so the contract speaks of the rest stored after it.
 use mathlib.Core.Path.{_≡_, ap, _∙_}
 use Prim.Native.Nat.{_+_}
 use native.Mathlib.Omega.{arith}

@@ -1,3 +1,4 @@
+-- The invariant: storing the doubled rest from n on gives what storing all of v doubled at `to` gives. One turn is `blocks-turn`.
 use mathlib.Core.Path.{_≡_, refl, ap, _∙_}
 use Prim.Native.Nat.{ℕ, _+_, _-_, _≤_}
 use mathlib.Core.List.{List}

@@ -1,3 +1,5 @@
+-- The invariant: storing the doubled rest from n on gives what storing all of v doubled at `to` gives. A quote is two stores (`sets-two`),
+-- any other byte one (`sets-one`).
 use mathlib.Core.Path.{_≡_, refl, sym, ap, _∙_}
 use mathlib.Core.Logic.{⊎-elim}
 use Prim.Native.Nat.{_≤_, _-_, _+_}

@@ -1,3 +1,4 @@
+-- The contract of `put_blocks` leaves the doubled rest to write at its end, and `put_runs` writes it (`blocks-end`).
 use mathlib.Core.Path.{sym, ap, _∙_}
 use mathlib.Core.List.{List}
 use Prim.Native.Nat.{ℕ}

@@ -1,3 +1,5 @@
+-- A field as long as its value is its value, copied. Any other has a special byte, so it is a quote, the doubled value, and a quote
+-- (`quoted-sets`).
 use mathlib.Core.Path.{_≡_, sym, ap, _∙_}
 use mathlib.Core.Bool.{true}
 use Prim.Native.Nat.{_+_, _-_}

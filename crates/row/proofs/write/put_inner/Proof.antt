@@ -1,3 +1,5 @@
+-- The same promise on each path: a value that isn't longer when doubled has no quote and is copied (`doubled-same`); few quotes go block by
+-- block; many go byte by byte.
 use mathlib.Core.Path.{sym, ap, _∙_}
 use native.Mathlib.Omega.{arith}
 use lib.Seq.{sets}

@@ -1,3 +1,5 @@
+-- The invariant: storing the row of the values left from `to` on gives what storing the whole row at 0 gives, and it fits. A turn is a
+-- field and the byte after it (`put-turn`).
 use mathlib.Core.Path.{_≡_, refl, sym, ap, _∙_}
 use mathlib.Core.List.{List}
 use Prim.Native.Nat.{ℕ, _≤_, _<_, _-_, _+_}

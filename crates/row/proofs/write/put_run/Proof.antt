@@ -1,3 +1,5 @@
+-- Fewer than 64 bytes are copied up to the first quote; of 64 or more a block of 64 is copied and the first quote in it is looked for
+-- (`run-close`, `run-far`).
 use Rattle.row.proofs.Laws.{run-close, run-far}
 use borrow.Author.Needs.{needs}
 use Rattle.row.proofs.write.put_run.Statement.{statement}

@@ -1,3 +1,5 @@
+-- The invariant: storing the doubled rest from n on gives what storing all of v doubled at `to` gives. A turn goes to the next quote or 64
+-- bytes on (`ran`); it ends once the rest isn't longer when doubled, so it has no quote.
 use mathlib.Core.Path.{_≡_, refl, sym, ap, _∙_}
 use Prim.Native.Nat.{_≤_, _-_, _+_}
 use native.Mathlib.Omega.{arith}

@@ -1,3 +1,5 @@
+-- The invariant `Gone`: what was put out is the start of the value, and what follows p continues it. A plain byte is `gone-byte`, two
+-- quotes are `gone-twice`, one quote alone ends the value.
 use mathlib.Core.Path.{sym, _∙_}
 use mathlib.Core.Logic.{⊎-elim}
 use Prim.Native.Nat.{_-_, _+_}

@@ -1,3 +1,4 @@
+-- A quote opens a quoted value (`quoted-took`), any other byte a plain one (`plain-into`).
 use mathlib.Core.Path.{sym, _∙_}
 use Prim.Native.Nat.{_-_}
 use native.Mathlib.Omega.{arith}

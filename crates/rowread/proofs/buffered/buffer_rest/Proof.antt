@@ -1,3 +1,5 @@
+-- The invariant: if the values from `from` on are held as the contract says, so are those from `start` on. A value followed by a comma is
+-- `holds-more`, the last one, followed by LF, `holds-last`.
 use mathlib.Core.Path.{_≡_, refl, sym, _∙_}
 use mathlib.Core.List.{List}
 use Prim.Native.Nat.{ℕ, _≤_, _-_, _+_}

@@ -1,3 +1,4 @@
+-- The values before e are copied as they are, the rest by `buffer_rest`; `took-before` joins both.
 use native.Mathlib.Omega.{arith}
 use Rattle.rowread.proofs.Lines.{opens-size}
 use Rattle.rowread.proofs.Takes.{took-before}

@@ -1,3 +1,4 @@
+-- As `buffer_bytes`, with the invariant `Gone`; a turn first copies all bytes before the next delimiter (`gone-run`).
 use mathlib.Core.Path.{sym, _∙_}
 use mathlib.Core.Logic.{⊎-elim}
 use Prim.Native.Nat.{_-_, _+_}

@@ -1,3 +1,4 @@
+-- The invariant: storing the ends from i on gives what storing all n gives.
 use mathlib.Core.Path.{_≡_, refl, sym, _∙_}
 use Prim.Native.Nat.{_≤_, _-_}
 use native.Mathlib.Omega.{arith}

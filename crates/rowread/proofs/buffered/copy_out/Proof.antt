@@ -1,3 +1,4 @@
+-- No row, or one that doesn't fit, leaves both outputs as they were; else the values and their ends are copied.
 use mathlib.Core.Path.{_∙_}
 use native.Mathlib.Omega.{arith}
 use Rattle.rowread.proofs.Lines.{front-part}

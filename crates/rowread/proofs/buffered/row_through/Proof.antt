@@ -1,3 +1,4 @@
+-- What `buffer_row` holds in the buffer is copied to the outputs (`handed`), so the row is read as the fast path promises.
 use native.Mathlib.Omega.{arith}
 use Rattle.rowread.proofs.Takes.{handed, took-within}
 use borrow.Author.Needs.{needs}

@@ -1,3 +1,5 @@
+-- A row of the first 256 or 1,024 bytes is a row of all (`longer`), so the buffer of that size is enough. Any other case answers that this
+-- path doesn't apply.
 use native.Mathlib.Omega.{arith}
 use lib.ListN.{length-take}
 use Rattle.rowread.proofs.Lines.{front-part}

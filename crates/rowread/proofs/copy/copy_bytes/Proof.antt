@@ -1,3 +1,5 @@
+-- The invariant: the value from p on is what is left of the value from `from` on, and storing it at n gives the whole. A plain byte is
+-- `copy-byte`, two quotes `copy-twice`, one quote alone ends it (`copy-close`).
 use mathlib.Core.Path.{_≡_, refl, sym, ap, _∙_}
 use Prim.Native.Nat.{_≤_, _-_, _+_}
 use native.Mathlib.Omega.{arith}

@@ -1,3 +1,4 @@
+-- A quote opens a quoted value, any other byte a plain one (`field-quote`, `field-plain`).
 use mathlib.Core.Path.{_≡_, sym, ap, _∙_}
 use Prim.Native.Nat.{_+_}
 use native.Mathlib.Omega.{arith}

@@ -1,3 +1,4 @@
+-- The invariant: storing the bytes from i to `end` at n gives what storing all of them at `to` gives.
 use mathlib.Core.Path.{_≡_, refl, sym, _∙_}
 use Prim.Native.Nat.{_≤_, _-_, _+_}
 use native.Mathlib.Omega.{arith}

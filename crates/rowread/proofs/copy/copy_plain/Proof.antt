@@ -1,3 +1,4 @@
+-- The invariant: the value from i on is what is left of it, and storing it at n gives the whole. A byte that is no text ends it.
 use mathlib.Core.Path.{_≡_, refl, sym, ap, _∙_}
 use Prim.Native.Nat.{_≤_, _-_, _+_}
 use native.Mathlib.Omega.{arith}

@@ -1,3 +1,4 @@
+-- The invariant `Left`: width - k values are left in t from `from` on, and storing them after `to` bytes and k ends gives the whole row.
 use mathlib.Core.Path.{ap, _∙_}
 use Prim.Native.Nat.{_≤_, _<_, _-_}
 use native.Mathlib.Omega.{arith}

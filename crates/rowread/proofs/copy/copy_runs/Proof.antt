@@ -1,3 +1,4 @@
+-- As `copy_bytes`; a turn first copies all bytes before the next delimiter (`run-sets`), then looks at that one.
 use mathlib.Core.Path.{_≡_, refl, sym, ap, _∙_}
 use mathlib.Core.Logic.{⊎-elim}
 use Prim.Native.Nat.{_≤_, _-_, _+_}

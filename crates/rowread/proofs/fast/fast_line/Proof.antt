@@ -1,3 +1,5 @@
+-- No quote before the LF, so the values are between the commas: with width - 1 commas it is the row (`line-holds`), else this path doesn't
+-- apply.
 use native.Mathlib.Omega.{arith}
 use Rattle.rowread.proofs.Lines.{line-parts, line-holds}
 use borrow.Author.Needs.{needs}

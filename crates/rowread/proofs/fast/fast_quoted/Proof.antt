@@ -1,3 +1,5 @@
+-- The values before the first quote are plain (`opens`). If the last value alone is quoted, with no delimiter inside, it is copied at once;
+-- else the row goes through a buffer.
 use native.Mathlib.Omega.{arith}
 use borrow.Author.Tests.{not-false}
 use Rattle.rowread.proofs.Laws.{past}

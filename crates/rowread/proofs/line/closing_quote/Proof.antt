@@ -1,3 +1,4 @@
+-- The first delimiter after the opening quote is a quote, and LF follows it: then the value is between the two and ends the row.
 use mathlib.Core.Path.{sym, _∙_}
 use native.Mathlib.Omega.{arith}
 use Rattle.rowread.proofs.Laws.{past}

@@ -1,3 +1,5 @@
+-- The invariant: storing what is left of the text and of the ends gives what storing all of them gives. A comma adds an end, any other byte
+-- is text.
 use mathlib.Core.Path.{_≡_, refl, sym, ap, _∙_}
 use mathlib.Core.Logic.{⊎-elim}
 use Prim.Native.Nat.{_≤_, _-_, _+_}

@@ -1,3 +1,4 @@
+-- `copy_before` stores all ends but the last, which has index v.len() - n, the number of commas (`marks-last`).
 use mathlib.Core.Path.{refl}
 use native.Mathlib.Omega.{arith}
 use Rattle.rowread.proofs.Lines.{text-size, marks-last}

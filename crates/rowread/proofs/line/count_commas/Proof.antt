@@ -1,3 +1,4 @@
+-- The invariant: n and the commas from i on are all commas. A turn counts 64 bytes (`commas-turn`).
 use mathlib.Core.Path.{_≡_}
 use Prim.Native.Nat.{_≤_, _-_, _+_}
 use native.Mathlib.Omega.{arith}

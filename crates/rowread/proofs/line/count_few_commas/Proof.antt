@@ -1,3 +1,4 @@
+-- The invariant: n and the commas from i on are all commas, and n is at most i, so it fits in a byte.
 use mathlib.Core.Path.{_≡_}
 use mathlib.Core.Logic.{⊎-elim}
 use Prim.Native.Nat.{_≤_, _-_, _+_}

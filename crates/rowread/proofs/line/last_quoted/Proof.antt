@@ -1,3 +1,5 @@
+-- The plain values before e, then the bytes between the quotes, are the values of the row (`quote-before`). Outputs that are too small are
+-- left as they were.
 use Prim.Native.Nat.{_≤_, _+_}
 use native.Mathlib.Omega.{arith}
 use lib.ListN.{length}

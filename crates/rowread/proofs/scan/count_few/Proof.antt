@@ -1,3 +1,4 @@
+-- The invariant: n is at most i. Only this bound is promised.
 use mathlib.Core.Logic.{⊎-elim}
 use Prim.Native.Nat.{_≤_, _-_}
 use native.Mathlib.Omega.{arith}

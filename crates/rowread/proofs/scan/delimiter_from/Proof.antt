@@ -1,3 +1,5 @@
+-- The invariant: no delimiter is between `from` and i. 32 bytes are searched a turn: one is found there (`line-in`), or the search goes on
+-- after them (`stop-none`).
 use mathlib.Core.Path.{_≡_, refl, sym, _∙_}
 use Prim.Native.Nat.{_≤_, _-_, _+_}
 use native.Mathlib.Omega.{arith}

@@ -1,3 +1,5 @@
+-- The invariant: the value from `from` on is `size` bytes and the value from i on. A plain byte and two quotes add one byte; one quote
+-- alone ends it; the end of the bytes is no value.
 use mathlib.Core.Path.{_≡_, sym, _∙_}
 use mathlib.Core.Logic.{⊎-elim}
 use Prim.Native.Nat.{_≤_, _-_, _+_, _<_}

@@ -1,3 +1,4 @@
+-- As `inner_bytes`; a turn first counts all bytes before the next delimiter (`turn-run`), then looks at that one.
 use mathlib.Core.Path.{_≡_, sym, _∙_}
 use mathlib.Core.Logic.{⊎-elim}
 use Prim.Native.Nat.{_≤_, _-_, _+_, _<_}

@@ -1,3 +1,4 @@
+-- The invariant: the value from `from` on ends where the value from i on ends. The first byte that is no text ends it.
 use borrow.Author.Tests.{not-true, not-false}
 use mathlib.Core.Path.{_≡_, refl, sym, _∙_}
 use Prim.Native.Nat.{_≤_, _-_, _+_}

@@ -1,3 +1,4 @@
+-- A quote opens a quoted value, any other byte a plain one (`field-quote`, `plain-piece`).
 use mathlib.Core.Path.{sym, ap, _∙_}
 use lib.ListN.{length}
 use Rattle.rowread.specs.Steps.{pieceOf}

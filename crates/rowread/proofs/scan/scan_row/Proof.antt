@@ -1,3 +1,5 @@
+-- The invariant: the scan is that of the width - k values from `from` on, with `size` bytes so far. A value followed by a comma is a turn
+-- (`scan-turn`); the last one must be followed by LF (`scan-last`).
 use mathlib.Core.Path.{_≡_, sym, _∙_}
 use Prim.Native.Nat.{suc, _≤_, _<_, _-_, _+_}
 use native.Mathlib.Omega.{arith}

@@ -1,3 +1,4 @@
+-- Days that are no dates are refused, then a header that fails; else the freshness is computed from the bank, whose count is at most three.
 use Rattle.snapshot.specs.Freshness.{namedIf, freshness}
 use Rattle.snapshot.specs.declared.freshness.FreshAnswer.the-variants.{Fresh}
 use Rattle.snapshot.proofs.Laws.{few, fresh-good, fresh-bad}

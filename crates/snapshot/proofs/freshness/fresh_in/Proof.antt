@@ -1,3 +1,4 @@
+-- The time checked and the oldest time updated are the definition's two parts; the times are held as they are, since they fit an i64.
 use borrow.Author.Needs.{needs}
 use Rattle.snapshot.proofs.freshness.fresh_in.Statement.{statement}
 use Rattle.snapshot.proofs.freshness.fresh_in.Tie as tie

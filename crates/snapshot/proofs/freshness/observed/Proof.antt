@@ -1,3 +1,4 @@
+-- A source that is used: two cases, the first one or a later one, which may be older. The times are held as they are.
 use Rattle.snapshot.specs.Freshness.{older}
 use Rattle.base.specs.Number.{pick}
 use lib.Signed.{leZ}

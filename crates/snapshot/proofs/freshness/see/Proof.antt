@@ -1,3 +1,4 @@
+-- A source that gives a wanted day is counted and its days are dropped; any other changes nothing.
 use Rattle.snapshot.specs.Steps.{observed, see}
 use Rattle.snapshot.specs.Freshness.{daysOf, givesAny}
 use mir.ValLaws.{toZ-ofZ}

@@ -1,3 +1,5 @@
+-- The invariant: going on from the state after i records, at their offset, gives what starting from the first gives (`one-more`). At the
+-- end no record is left (`no-more`), and `seen-all` says that the result is the definition's.
 use native.Mathlib.Nat.{sub-zero}
 use mir.Val.{toZ, ofZ}
 use borrow.Author.Needs.{needs}

@@ -1,3 +1,4 @@
+-- Picks that don't fit are refused, then a header that fails; else the bank's key is compared by `key::same_key`.
 use Rattle.snapshot.specs.Freshness.{namedIf}
 use Rattle.key.specs.Match.{matchAnswer}
 use Prim.Native.Nat.{ℕ}

@@ -1,3 +1,4 @@
+-- One case for each guard: region and table first, then what `source` refuses; else the table's bytes are read (`is-row`).
 use Prim.Native.Nat.{ℕ}
 use mathlib.Core.List.{List}
 use mathlib.Core.Path.{refl, sym, ap, _∙_}

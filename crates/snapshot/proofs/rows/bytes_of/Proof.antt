@@ -1,3 +1,4 @@
+-- The block's bytes are a part of the bank, after its header sector.
 use Rattle.snapshot.specs.Rows.{bytesOf}
 use Prim.Native.Nat.{ℕ, _+_}
 use lib.ListN.{take, drop}

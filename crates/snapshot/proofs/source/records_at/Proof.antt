@@ -1,3 +1,4 @@
+-- The invariant: the first i records are read, the others are as in the new array, that is zero (`many-set`).
 use Rattle.record.specs.Record.{noSource}
 use Rattle.snapshot.proofs.Laws.{bound}
 use mathlib.Core.Path.{_≡_, refl, ap, _∙_}

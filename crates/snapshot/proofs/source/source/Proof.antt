@@ -1,3 +1,4 @@
+-- A header that fails is refused, then an index that isn't below the count; else the record is read.
 use borrow.Author.Tests.{lt-ltb, le-ltb}
 use Rattle.snapshot.proofs.Laws.{source-done, source-past, source-bad}
 use Rattle.snapshot.specs.declared.Outcome.the-variants.{Done}

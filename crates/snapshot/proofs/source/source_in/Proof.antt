@@ -1,3 +1,4 @@
+-- The record is at 48 and the index times the size; nothing overflows, since the size is at most 384.
 use borrow.Author.Needs.{needs}
 use Rattle.snapshot.proofs.source.source_in.Statement.{statement}
 use Rattle.snapshot.proofs.source.source_in.Tie as tie

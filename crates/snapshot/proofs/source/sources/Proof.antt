@@ -1,3 +1,4 @@
+-- A header that fails is refused; else the records below the count are read, at most three.
 use mathlib.Core.Bool.{true}
 use mathlib.Core.Path.{sym, _∙_}
 use Rattle.snapshot.proofs.Laws.{few, named-fits, sources-done, sources-bad}

@@ -1,3 +1,4 @@
+-- No identity, no prefix, no call. Else three bytes and the identity, appended one after the other, are the prefix (`appends-writer`).
 use mathlib.Core.List.{List, [], _∷_}
 use Prim.Native.Nat.{ℕ, _/_, _%_}
 use native.Mathlib.Omega.{arith}

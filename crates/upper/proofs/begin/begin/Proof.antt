@@ -1,3 +1,4 @@
+-- Another length than a region's is refused; else `begin_in`. The time is held as it is, since it fits an i64.
 use mathlib.Core.Path.{ap, _∙_}
 use native.Mathlib.Omega.{arith}
 use lib.IntN.{ℤ}

@@ -1,3 +1,5 @@
+-- The key without its prefix is written to a buffer that is always large enough, so a refusal means that the picks don't fit. Then the
+-- identity's length; then the lower beginning and the run of the key's bytes.
 use mathlib.Core.Path.{ap, _∙_}
 use Prim.Native.Nat.{ℕ}
 use lib.IntN.{ℤ}

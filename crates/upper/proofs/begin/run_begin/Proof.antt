@@ -1,3 +1,4 @@
+-- The prefix, then the first n bytes, are appended one after the other, which is the run of both joined.
 use mathlib.Core.Path.{refl, ap, _∙_}
 use mathlib.Core.List.{List, _++_}
 use Prim.Native.Nat.{ℕ}

@@ -1,3 +1,4 @@
+-- A buffer of 8,192 bytes holds every row, so a refusal means that it is none. Then capacity; then the run of the row's bytes.
 use mathlib.Core.Path.{refl, sym, ap, _∙_}
 use mathlib.Core.List.{List, _++_}
 use Prim.Native.Nat.{ℕ, _+_}

@@ -1,3 +1,5 @@
+-- A row written in the short buffer is the row; if it isn't written there, the long buffer decides. Then capacity; then the run of the
+-- row's bytes.
 use mathlib.Core.Path.{refl, sym, ap, _∙_}
 use mathlib.Core.List.{List, _++_}
 use Prim.Native.Nat.{ℕ, _+_}

@@ -1,3 +1,5 @@
+-- One case for each guard: region and order; then the row. The open table is one of the eight (`open-fits`). It holds of whatever sources
+-- the state has.
 use mathlib.Core.Path.{refl, sym, ap, _∙_}
 use mathlib.Core.Bool.{_&&_}
 use mathlib.Core.List.{[]}

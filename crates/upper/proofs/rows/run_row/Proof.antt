@@ -1,3 +1,4 @@
+-- The first n bytes of the buffer are the row; `append_line_parts` has the run as its contract.
 use mathlib.Core.Path.{ap, _∙_}
 use mathlib.Core.List.{List, _++_}
 use Prim.Native.Nat.{ℕ}

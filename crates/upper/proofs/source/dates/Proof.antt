@@ -1,3 +1,4 @@
+-- Two numbers written into eight zeros are the dates' bytes (`dates-are`).
 use mathlib.Core.Path.{ap, _∙_}
 use mathlib.Core.List.{List}
 use Prim.Native.Nat.{ℕ}

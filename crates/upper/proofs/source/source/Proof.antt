@@ -1,3 +1,4 @@
+-- One case for each guard: region, order, and full by sources or by bytes; then the run.
 use mathlib.Core.Path.{refl, sym, ap, _∙_}
 use mathlib.Core.Bool.{Bool, not, _&&_}
 use native.Mathlib.Omega.{arith}

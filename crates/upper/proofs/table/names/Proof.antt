@@ -1,3 +1,4 @@
+-- The buffer holds every names line, so it is written (`names-there`), and a refusal can't happen (`names-never`).
 use mathlib.Core.Path.{refl}
 use native.Mathlib.Omega.{arith}
 use lib.ListN.{replicate}

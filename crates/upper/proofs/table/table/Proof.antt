@@ -1,3 +1,4 @@
+-- One case for each guard: region, table, order, capacity; then the run.
 use mathlib.Core.Path.{refl, sym, ap, _∙_}
 use mathlib.Core.Bool.{_&&_}
 use mathlib.Core.List.{List, _∷_, _++_}

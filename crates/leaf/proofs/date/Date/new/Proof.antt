@@ -1,3 +1,4 @@
+-- The code's test is `isDate` (`date-test`): `month_days` gives 0 for a month that there isn't, so no day passes.
 use mathlib.Core.Path.{_≡_, sym, _∙_}
 use mathlib.Core.Bool.{true, false}
 use Rattle.leaf.specs.Date.{isDate}
