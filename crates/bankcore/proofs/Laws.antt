@@ -12,7 +12,7 @@ use Rattle.writer.specs.declared.Writer.{Writer}
 use Rattle.writer.specs.declared.Answer.the-variants.{Took}
 use Rattle.writer.specs.declared.Step.{Step}
 use Rattle.writer.specs.State.{stays, position, isDue}
-use Rattle.lower.specs.Lower.{mayAppend, room, withBytes, took, bytesStep}
+use Rattle.lower.specs.Lower.{mayAppend, accepted, withBytes, took, bytesStep}
 use Rattle.due.specs.Due.{dueStep}
 use Rattle.due.proofs.Laws.{due-rest}
 use Rattle.cstate.specs.declared.State.{State}
@@ -60,7 +60,7 @@ module _ (w : Writer) where
   refused-tail : (xs : List ℕ) → isAnswer (bytesStep w xs .answer) ≡ false → bytesStep w xs .writer .tail ≡ w .tail
   unfolding bytesStep took
   refused-tail xs e =
-      let n = room (w .taken) (length xs) in
+      let n = accepted (w .taken) (length xs) in
       refused-by (mayAppend w) (leb (position (w .taken) + length xs) capacity) (isDue (w .taken)) n (withBytes w (take n xs)) e
 
 module _ (w : Writer) (was : State) where

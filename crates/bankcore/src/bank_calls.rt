@@ -303,7 +303,7 @@ pub extern "C" fn tt_key(
     out: &mut [u8],
 ) -> KeyNumbers
     ensures { λ r. ⌜ r ≡ Answers.ofKey (Keys.keyAnswer (now (identity .entry)) (now (texts .entry)) (now (lengths .entry)) (length (now (out .entry)))) ⌝ }
-    ensures { λ _. ⌜ now (out .exit) ≡ Keys.after (Keys.keyAnswer (now (identity .entry)) (now (texts .entry)) (now (lengths .entry)) (length (now (out .entry)))) (Keys.keyOf (now (identity .entry)) (Picks.handed (now (texts .entry)) (now (lengths .entry)))) (now (out .entry)) ⌝ }
+    ensures { λ _. ⌜ now (out .exit) ≡ Keys.after (Keys.keyAnswer (now (identity .entry)) (now (texts .entry)) (now (lengths .entry)) (length (now (out .entry)))) (Keys.keyOf (now (identity .entry)) (Picks.passedPicks (now (texts .entry)) (now (lengths .entry)))) (now (out .entry)) ⌝ }
 {
     of_key(key::key(identity, texts, lengths, out))
 }

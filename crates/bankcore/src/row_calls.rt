@@ -114,7 +114,7 @@ pub extern "C" fn tt_names_line(table: u32, out: &mut [u8]) -> RowNumbers
 #[no_mangle]
 pub extern "C" fn tt_row(table: u32, texts: &[u8], lengths: &[u32], out: &mut [u8]) -> RowNumbers
     ensures { λ r. ⌜ r ≡ Answers.ofRow (Rows.rowAnswer table (now (texts .entry)) (now (lengths .entry)) (length (now (out .entry)))) ⌝ }
-    ensures { λ _. ⌜ now (out .exit) ≡ Rows.after (Rows.rowAnswer table (now (texts .entry)) (now (lengths .entry)) (length (now (out .entry)))) (rowOf (Rows.handed (now (texts .entry)) (now (lengths .entry)))) (now (out .entry)) ⌝ }
+    ensures { λ _. ⌜ now (out .exit) ≡ Rows.after (Rows.rowAnswer table (now (texts .entry)) (now (lengths .entry)) (length (now (out .entry)))) (rowOf (Rows.passedValues (now (texts .entry)) (now (lengths .entry)))) (now (out .entry)) ⌝ }
 {
     of_row(row::row(table, texts, lengths, out))
 }

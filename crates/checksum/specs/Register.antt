@@ -1,4 +1,4 @@
--- The shift register that divides by the CRC's generator, one bit a step. proofs/Division.antt of the crate leaf proves that it computes
+-- The shift register that divides by the CRC's generator, one bit a step. leaf/proofs/Shift.antt proves that it computes
 -- the remainder of IEEE 802.3.
 use mathlib.Core.List.{List, [], _∷_}
 use Prim.Native.Nat.{ℕ, zero, suc, _+_, _*_, _/_, _%_}

@@ -25,11 +25,11 @@ unfoldable pub fieldOf : List ℕ → List ℕ
 fieldOf v = pick (anySpecial v) (quote ∷ doubled v ++ (quote ∷ [])) v
 
 -- the byte after a field: LF after the last, else a comma
-abbrev pub behind : List (List ℕ) → ℕ
-behind [] = lineFeed
-behind (v ∷ vs) = comma
+abbrev pub delimiter : List (List ℕ) → ℕ
+delimiter [] = lineFeed
+delimiter (v ∷ vs) = comma
 
 -- the row of some values
 unfoldable pub rowOf : List (List ℕ) → List ℕ
 rowOf [] = []
-rowOf (v ∷ vs) = fieldOf v ++ (behind vs ∷ rowOf vs)
+rowOf (v ∷ vs) = fieldOf v ++ (delimiter vs ∷ rowOf vs)

@@ -15,7 +15,7 @@ use Rattle.base.specs.Lists.{fill}
 use Rattle.base.proofs.Lists.{fill-split, length-fill, drop-new}
 use Rattle.region.specs.Region.{regionSize, bankSize, capacity, sectorSize, lastSector}
 use Rattle.base.proofs.Bools.{and-left, and-right}
-use Rattle.flash.specs.Flash.{Op, place, size, after, performed}
+use Rattle.flash.specs.Flash.{Op, offset, size, after, performed}
 use Rattle.flash.proofs.Laws.{after-fits}
 use Rattle.bank.specs.declared.Loaded.{Loaded}
 use Rattle.bank.specs.declared.Loaded.the-variants.{Found, Nothing, Refused as NotRead}
@@ -75,7 +75,7 @@ target-fits (Found b) = omega arith
 target-fits Nothing = omega arith
 target-fits (NotRead r) = omega arith
 
-pub one-op : (region : List ℕ) (n : ℕ) (op : Op) → length region ≡ regionSize → n ≤ 1 → place op + size op ≤ bankSize → after n op region ≡ performed n (op ∷ []) region
+pub one-op : (region : List ℕ) (n : ℕ) (op : Op) → length region ≡ regionSize → n ≤ 1 → offset op + size op ≤ bankSize → after n op region ≡ performed n (op ∷ []) region
 unfolding performed
 one-op region n op e h k = after-fits region n e h op k
 

@@ -5,7 +5,7 @@ use mathlib.Core.List.{List, [], _∷_}
 use Prim.Native.Nat.{ℕ}
 use Rattle.leaf.specs.Generation.{newer}
 use Rattle.leaf.specs.Date.{validDate}
-use Rattle.key.specs.Picks.{handed}
+use Rattle.key.specs.Picks.{passedPicks}
 use Rattle.key.specs.Layout.{keyOf}
 use Rattle.base.specs.Same.{same}
 use Rattle.csv.specs.Write.{fieldOf}
@@ -22,7 +22,7 @@ pub data Question : Type 0 where
 abbrev pub answer : Question → Bool
 answer (newerThan a b) = newer a b
 answer (aDate n) = validDate n
-answer (keyIs identity texts lengths key) = same (keyOf identity (handed texts lengths)) key
+answer (keyIs identity texts lengths key) = same (keyOf identity (passedPicks texts lengths)) key
 answer (fieldIs value field) = same (fieldOf value) field
 
 -- each question with the answer that the document gives

@@ -14,7 +14,7 @@ use lib.ListN.{take, drop, length, getD, length-append, length-take, length-drop
 use lib.Seq.{take-at, drop-at, take-all, take-length, length-take-le, take-append-le, take-append-add, drop-append-le, getD-take, getD-drop, getD-append-add, drop-drop}
 use Rattle.base.specs.Lists.{fill, byte}
 use Rattle.region.specs.Region.{regionSize, bankSize, sectorSize, bankOf}
-use Rattle.flash.specs.Flash.{Op, erase, write, blank, clear, place, size, done, withBank, torn, applied, performed, fits, after}
+use Rattle.flash.specs.Flash.{Op, erase, write, blank, clear, offset, size, done, withBank, torn, applied, performed, fits, after}
 use Rattle.flash.specs.Claims.{FirstPart}
 
 -- every number of a list is below 256
@@ -120,7 +120,7 @@ take-kept at k b x h l =
     ∙ sym (take-append-le k (take at b) (drop at b) (rw (length-take-le at b l) h))
     ∙ ap (take k) (take-append-drop at b)
 
-pub done-take : (j : ℕ) (op : Op) (k : ℕ) (b : List ℕ) → k ≤ place op → place op ≤ length b → take k (done j op b) ≡ take k b
+pub done-take : (j : ℕ) (op : Op) (k : ℕ) (b : List ℕ) → k ≤ offset op → offset op ≤ length b → take k (done j op b) ≡ take k b
 unfolding done
 done-take j (erase at) k b h l = take-kept at k b (blank (min j sectorSize) (drop at b)) h l
 done-take j (write at ws) k b h l = take-kept at k b (clear (take j ws) (drop at b)) h l
@@ -129,7 +129,7 @@ kept-before : (at i : ℕ) (b x : List ℕ) → i < at → at ≤ length b → b
 kept-before at i b x h l =
     List·getD-append (take at b) x 0 i (rw (length-take-le at b l) h) ∙ getD-take at b i 0 h
 
-pub done-before : (j : ℕ) (op : Op) (i : ℕ) (b : List ℕ) → i < place op → place op ≤ length b → byte (done j op b) i ≡ byte b i
+pub done-before : (j : ℕ) (op : Op) (i : ℕ) (b : List ℕ) → i < offset op → offset op ≤ length b → byte (done j op b) i ≡ byte b i
 unfolding done
 done-before j (erase at) i b h l = kept-before at i b (blank (min j sectorSize) (drop at b)) h l
 done-before j (write at ws) i b h l = kept-before at i b (clear (take j ws) (drop at b)) h l
@@ -198,7 +198,7 @@ part-at at j b w p l e =
     let q : take (at + j) (take at b ++ w) ≡ take at b ++ take j w = ap (λ (n : ℕ). take (n + j) (take at b ++ w)) (sym k) ∙ take-append-add (take at b) w j in
     rw (e, q, drop-drop j at b, append-assoc (take at b) (take j w) (drop (at + j) b))
 
-part-of : (j : ℕ) (op : Op) (b : List ℕ) → place op + size op ≤ length b → j ≤ size op → done j op b ≡ take (place op + j) (done (size op) op b) ++ drop (place op + j) b
+part-of : (j : ℕ) (op : Op) (b : List ℕ) → offset op + size op ≤ length b → j ≤ size op → done j op b ≡ take (offset op + j) (done (size op) op b) ++ drop (offset op + j) b
 unfolding done
 part-of j (erase at) b f h =
     let l : sectorSize ≤ length (drop at b) = omega (arith, length-drop at b) in
@@ -354,9 +354,9 @@ module _ (region : List ℕ) (n : ℕ) (e : length region ≡ regionSize) (h : n
   other-applied = other-torn region n e h (size op) op
 
   -- what fits is done
-  pub after-fits : place op + size op ≤ bankSize → after n op region ≡ applied n op region
+  pub after-fits : offset op + size op ≤ bankSize → after n op region ≡ applied n op region
   unfolding after
-  after-fits k = rw (eq-eqb (length region) regionSize e, le-leb n 1 h, le-leb (place op + size op) bankSize k)
+  after-fits k = rw (eq-eqb (length region) regionSize e, le-leb n 1 h, le-leb (offset op + size op) bankSize k)
 
 -- the first p bytes of a part as d has them and the rest as they were, between what is before and what is after the part
 part-there : (l d : List ℕ) (i s p : ℕ) → length (take i l) ≡ i → length d ≡ s → s ≤ length (drop i l) → p ≤ s
@@ -387,7 +387,7 @@ first-part n j op region h e f l =
     let b = bankOf region n in
     let k = length-bank region n e h in
     ap (withBank region n) (part-of j op b (omega arith) l)
-    ∙ part-with region (done (size op) op b) n (place op + j) e h (length-done (size op) op b ∙ k) (omega arith)
+    ∙ part-with region (done (size op) op b) n (offset op + j) e h (length-done (size op) op b ∙ k) (omega arith)
 
 -- the header sector's erase, cut: the bank's first bytes are 255
 pub torn-first : (n j : ℕ) (region : List ℕ) → length region ≡ regionSize → n ≤ 1 → j ≤ sectorSize → torn n j (erase 0) region ≡ withBank region n (fill 255 j ++ drop j (bankOf region n))

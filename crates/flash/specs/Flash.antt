@@ -27,9 +27,9 @@ clear (w ∷ ws) [] = []
 clear (w ∷ ws) (x ∷ b) = bitAnd x w ∷ clear ws b
 
 -- an operation's offset, and how many bytes it changes
-abbrev pub place : Op → ℕ
-place (erase at) = at
-place (write at ws) = at
+abbrev pub offset : Op → ℕ
+offset (erase at) = at
+offset (write at ws) = at
 
 abbrev pub size : Op → ℕ
 size (erase at) = sectorSize
@@ -63,7 +63,7 @@ abbrev pub within : ℕ → ℕ → ℕ → ℕ → Bool
 within len n at count = eqb len regionSize && (leb n 1 && leb (at + count) bankSize)
 
 abbrev pub fits : List ℕ → ℕ → Op → Bool
-fits region n op = within (length region) n (place op) (size op)
+fits region n op = within (length region) n (offset op) (size op)
 
 -- the region after a call that does an operation on bank n; one that doesn't fit changes nothing
 unfoldable pub after : ℕ → Op → List ℕ → List ℕ

@@ -14,11 +14,11 @@ use mathlib.Core.Logic.{⊎-elim}
 use Rattle.refusal.specs.declared.Refusal.{Refusal}
 use Rattle.refusal.specs.declared.Refusal.the-variants.{Argument, Identity, Small}
 use Rattle.key.specs.Order.{Text, Pick, fieldCount}
-use Rattle.key.specs.Picks.{text, pickOf, pickAt, count, firsts, handed, distinct}
+use Rattle.key.specs.Picks.{text, pickOf, pickAt, count, firsts, passedPicks, distinct}
 use Rattle.key.specs.Layout.{every, sized, fit, maxIdentity, keyOf, within, keyAnswer, prefix, body, joined, entry}
 use Rattle.key.specs.Match.{matchAnswer}
 use Rattle.base.specs.Same.{same}
-use Rattle.key.specs.Steps.{Places, Rising, between, Below, Ordered, stretch, startsSize, startsOf, Ready, NotReady}
+use Rattle.key.specs.Steps.{Offsets, Rising, between, Below, Ordered, stretch, startsSize, startsOf, Ready, NotReady}
 use Rattle.key.specs.declared.KeyAnswer.the-variants.{Written, Refused}
 use Rattle.key.specs.declared.SameKey.the-variants as sameKey
 use Rattle.key.specs.declared.matching.Matched.{Matched}
@@ -42,7 +42,7 @@ module _ (b : Text) (l : List ℕ) where
 -- ---- the offsets that were computed are those of the texts
 
 module _ (b : Text) (l : List ℕ) (m : ℕ) where
-  module _ (starts : List ℕ) (all : Places b l m starts) where
+  module _ (starts : List ℕ) (all : Offsets b l m starts) where
     sizes-same : every m (sized (between b starts)) ≡ every m (sized (text b l))
     sizes-same = every-same (sized (between b starts)) (sized (text b l)) m (λ k h. rw (between-is b l m starts all k h))
 
@@ -51,7 +51,7 @@ module _ (b : Text) (l : List ℕ) (m : ℕ) where
         firsts-same n (pickOf (between b starts)) (pickAt b l)
         (pick-same (between b starts) (text b l) n (λ k h. between-is b l m starts all k (omega arith)))
 
-  module _ (all : List ℕ) (long : length all ≡ 81) (few : m ≤ 80) (given : Places b l m all) where
+  module _ (all : List ℕ) (long : length all ≡ 81) (few : m ≤ 80) (given : Offsets b l m all) where
     abbrev starts : List ℕ
     starts = take (m + 1 - 0) all
 
@@ -61,7 +61,7 @@ module _ (b : Text) (l : List ℕ) (m : ℕ) where
     pub starts-length : m + 1 ≡ length starts
     starts-length = sym (rw one-behind (length-take-le (m + 1) all (omega arith)))
 
-    starts-places : Places b l m starts
+    starts-places : Offsets b l m starts
     starts-places k h = rw one-behind (getD-take (m + 1) all k 0 (omega arith) ∙ given k h)
 
     pub starts-rise : Rising starts (length b)
@@ -74,7 +74,7 @@ module _ (b : Text) (l : List ℕ) (m : ℕ) where
     starts-fit t e h w = e ∙ sizes-same starts starts-places ∙ rw h (fit-few b l w)
 
 -- what preparation has shown, once every text is within its size
-module _ (id b : Text) (l all : List ℕ) (long : length all ≡ startsSize) (few : length l ≤ 80) (given : Places b l (count l * fieldCount) all) where
+module _ (id b : Text) (l all : List ℕ) (long : length all ≡ startsSize) (few : length l ≤ 80) (given : Offsets b l (count l * fieldCount) all) where
   fewer : count l * fieldCount ≤ 80
   fewer = omega (arith, few)
 
@@ -105,7 +105,7 @@ module _ (id b : Text) (l : List ℕ) (room : ℕ) where
     unfolding keyAnswer
     long-identity h = rw (← fits, lt-leb (length id) maxIdentity h)
 
-    pub else-within : length id ≤ maxIdentity → within room (keyOf id (handed b l)) ≡ keyAnswer id b l room
+    pub else-within : length id ≤ maxIdentity → within room (keyOf id (passedPicks b l)) ≡ keyAnswer id b l room
     unfolding keyAnswer
     else-within h = rw (← fits, le-leb (length id) maxIdentity h)
 
@@ -180,11 +180,11 @@ module _ (x id b : Text) (l : List ℕ) where
     unfolding matchAnswer
     match-identity h = rw (← fits, lt-leb (length id) maxIdentity h)
 
-    pub is-same : length id ≤ maxIdentity → same x (keyOf id (handed b l)) ≡ true → sameKey.Same ≡ matchAnswer x id b l
+    pub is-same : length id ≤ maxIdentity → same x (keyOf id (passedPicks b l)) ≡ true → sameKey.Same ≡ matchAnswer x id b l
     unfolding matchAnswer
     is-same h e = rw (← fits, le-leb (length id) maxIdentity h, e)
 
-    pub is-other : length id ≤ maxIdentity → same x (keyOf id (handed b l)) ≡ false → sameKey.Other ≡ matchAnswer x id b l
+    pub is-other : length id ≤ maxIdentity → same x (keyOf id (passedPicks b l)) ≡ false → sameKey.Other ≡ matchAnswer x id b l
     unfolding matchAnswer
     is-other h e = rw (← fits, le-leb (length id) maxIdentity h, e)
 

@@ -8,7 +8,7 @@ use lib.ListN.{length, replicate, length-replicate}
 use lib.Dec.{leb}
 use borrow.Author.Tests.{leb-true}
 use Rattle.key.specs.Order.{Text, textOrder, pickOrder, fieldCount}
-use Rattle.key.specs.Picks.{sum, text, pickOf, pickAt, count, firsts, handed, insert, distinct}
+use Rattle.key.specs.Picks.{sum, text, pickOf, pickAt, count, firsts, passedPicks, insert, distinct}
 use Rattle.key.specs.Layout.{every, sized, fit, prefix, joined, entry, maxIdentity}
 use Rattle.key.specs.Claims.{NoKeyIsLonger, LongestIsReached}
 use Rattle.key.proofs.Sizes.{entry-small, small, few}
@@ -27,7 +27,7 @@ longest id b l h k =
     let t = both-true (leb (count l) 16) (every (count l * fieldCount) (sized (text b l))) h in
     let n : count l ≤ 16 = leb-true _ _ (t .0) in
     let m = small (count l) (pickAt b l) (entry-small (text b l) (count l) (t .1)) in
-    omega (arith, key-length id (handed b l), prefix-short id k, few (count l) (pickAt b l), m)
+    omega (arith, key-length id (passedPicks b l), prefix-short id k, few (count l) (pickAt b l), m)
 
 -- ---- one of that length: an identity of 65,535 bytes, and 16 picks without a code, each field as long as it may be
 
@@ -51,7 +51,7 @@ fives-fit : fit texts fives ≡ true
 unfolding fit every text sum texts fives joined
 fives-fit = refl
 
-all-long : length (joined entry (distinct (handed texts fives))) ≡ 2256
+all-long : length (joined entry (distinct (passedPicks texts fives))) ≡ 2256
 unfolding firsts pickOf text sum distinct insert pickOrder textOrder joined texts fives
 all-long = refl
 
@@ -65,5 +65,5 @@ reached = record {
   reached =
       (let l = zeros-length maxIdentity in
       let p = ap length (prefix-some (zeros maxIdentity) (omega arith)) in
-      omega (arith, key-length (zeros maxIdentity) (handed texts fives), all-long));
+      omega (arith, key-length (zeros maxIdentity) (passedPicks texts fives), all-long));
 }

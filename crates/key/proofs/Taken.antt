@@ -14,7 +14,7 @@ use lib.Dec.{leb, ltb}
 use borrow.Author.Tests.{leb-true, leb-false, ltb-true, ltb-false}
 use Rattle.key.specs.Order.{Text, Pick, fieldCount}
 use Rattle.key.specs.Picks.{sum, text, pickOf, firsts}
-use Rattle.key.specs.Steps.{placeOf, Places, Rising, between}
+use Rattle.key.specs.Steps.{offsetOf, Offsets, Rising, between}
 
 pub split : (a b : ℕ) → (a < b) ⊎ (b ≤ a)
 split a b = go (ltb a b) refl
@@ -43,19 +43,19 @@ sum-next : (l : List ℕ) (i : ℕ) → sum (take (i + 1) l) ≡ sum (take i l) 
 sum-next l i = ⊎-elim (sum-more l i) (sum-past l i) (split i (length l))
 
 module _ (b : Text) (l : List ℕ) where
-  pub place-none : 0 ≡ placeOf b l 0
-  unfolding placeOf sum
+  pub place-none : 0 ≡ offsetOf b l 0
+  unfolding offsetOf sum
   place-none = omega arith
 
-  pub place-within : (k : ℕ) → placeOf b l k ≤ length b
-  unfolding placeOf
+  pub place-within : (k : ℕ) → offsetOf b l k ≤ length b
+  unfolding offsetOf
   place-within k = omega arith
 
-  pub place-next : (k : ℕ) → placeOf b l (k + 1) ≡ min (length b) (placeOf b l k + getD l k 0)
-  unfolding placeOf
+  pub place-next : (k : ℕ) → offsetOf b l (k + 1) ≡ min (length b) (offsetOf b l k + getD l k 0)
+  unfolding offsetOf
   place-next k = let e = sum-next l k in omega arith
 
-  pub place-past : (k : ℕ) → length l ≤ k → placeOf b l k ≡ placeOf b l (k + 1)
+  pub place-past : (k : ℕ) → length l ≤ k → offsetOf b l k ≡ offsetOf b l (k + 1)
   place-past k h = omega (arith, place-next k, List·getD-eq-default l 0 h, place-within k)
 
 -- a start past the end is the end
@@ -79,19 +79,19 @@ take-up-to s m n e =
     (λ (h : length s ≤ n). take-all m s (omega arith) ∙ sym (take-all n s h))
     (split n (length s))
 
-drop-place : (b : Text) (l : List ℕ) (k : ℕ) → drop (placeOf b l k) b ≡ drop (sum (take k l)) b
-unfolding placeOf
+drop-place : (b : Text) (l : List ℕ) (k : ℕ) → drop (offsetOf b l k) b ≡ drop (sum (take k l)) b
+unfolding offsetOf
 drop-place b l k = drop-min b (sum (take k l))
 
 between-text : (b : Text) (l : List ℕ) (k : ℕ)
-    → take (placeOf b l (k + 1) - placeOf b l k) (drop (placeOf b l k) b) ≡ text b l k
+    → take (offsetOf b l (k + 1) - offsetOf b l k) (drop (offsetOf b l k) b) ≡ text b l k
 unfolding text
 between-text b l k =
-    take-up-to (drop (placeOf b l k) b) (placeOf b l (k + 1) - placeOf b l k) (getD l k 0)
-    (omega (arith, place-next b l k, place-within b l k, length-drop (placeOf b l k) b))
+    take-up-to (drop (offsetOf b l k) b) (offsetOf b l (k + 1) - offsetOf b l k) (getD l k 0)
+    (omega (arith, place-next b l k, place-within b l k, length-drop (offsetOf b l k) b))
     ∙ ap (take (getD l k 0)) (drop-place b l k)
 
-module _ (b : Text) (l : List ℕ) (m : ℕ) (starts : List ℕ) (all : Places b l m starts) where
+module _ (b : Text) (l : List ℕ) (m : ℕ) (starts : List ℕ) (all : Offsets b l m starts) where
   pub between-is : (k : ℕ) → k < m → between b starts k ≡ text b l k
   unfolding between
   between-is k h = rw (all k (omega arith), all (k + 1) (omega arith)) (between-text b l k)

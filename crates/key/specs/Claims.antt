@@ -5,7 +5,7 @@ use mathlib.Core.Path.{_≡_}
 use Prim.Native.Nat.{ℕ, _≤_}
 use lib.ListN.{length}
 use Rattle.key.specs.Order.{Text, Pick}
-use Rattle.key.specs.Picks.{Sorts, distinct, handed}
+use Rattle.key.specs.Picks.{Sorts, distinct, passedPicks}
 use Rattle.key.specs.Layout.{fit, keyOf, maxIdentity, longestKey}
 
 -- `distinct` sorts every list of picks (Sort: sorts)
@@ -19,7 +19,7 @@ OnlyOneSorts = (ps s : List Pick) → Sorts ps s → s ≡ distinct ps
 -- no key that is not refused is longer than 67,795 bytes (Longest: longest)
 abbrev pub NoKeyIsLonger : Type 0
 NoKeyIsLonger = (identity bytes : Text) (lengths : List ℕ) → fit bytes lengths ≡ true → length identity ≤ maxIdentity
-    → length (keyOf identity (handed bytes lengths)) ≤ longestKey
+    → length (keyOf identity (passedPicks bytes lengths)) ≤ longestKey
 
 -- and one has that length (Longest: reached)
 pub record LongestIsReached : Type 0 where
@@ -28,4 +28,4 @@ pub record LongestIsReached : Type 0 where
   pub lengths : List ℕ
   pub fits : fit bytes lengths ≡ true
   pub short : length identity ≤ maxIdentity
-  pub reached : length (keyOf identity (handed bytes lengths)) ≡ longestKey
+  pub reached : length (keyOf identity (passedPicks bytes lengths)) ≡ longestKey

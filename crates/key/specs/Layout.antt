@@ -8,7 +8,7 @@ use Rattle.base.specs.Number.{pick}
 use Rattle.leaf.specs.Bytes.{written}
 use Rattle.refusal.specs.declared.Refusal.the-variants.{Argument, Identity, Small}
 use Rattle.key.specs.Order.{Text, Pick, fieldCount}
-use Rattle.key.specs.Picks.{text, count, handed, distinct}
+use Rattle.key.specs.Picks.{text, count, passedPicks, distinct}
 use Rattle.key.specs.declared.KeyAnswer.{KeyAnswer}
 use Rattle.key.specs.declared.KeyAnswer.the-variants.{Written, Refused}
 
@@ -85,7 +85,7 @@ within room key = pick (leb (length key) room) (Written (length key)) (Refused S
 unfoldable pub keyAnswer : Text → Text → List ℕ → ℕ → KeyAnswer
 keyAnswer identity bytes lengths room =
     pick (fit bytes lengths)
-    (pick (leb (length identity) maxIdentity) (within room (keyOf identity (handed bytes lengths))) (Refused Identity))
+    (pick (leb (length identity) maxIdentity) (within room (keyOf identity (passedPicks bytes lengths))) (Refused Identity))
     (Refused Argument)
 
 -- the output after the call: the key at its start, the bytes after it unchanged; on a refusal all unchanged

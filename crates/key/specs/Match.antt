@@ -7,7 +7,7 @@ use Rattle.base.specs.Number.{pick}
 use Rattle.base.specs.Same.{same}
 use Rattle.refusal.specs.declared.Refusal.the-variants.{Argument, Identity}
 use Rattle.key.specs.Order.{Text}
-use Rattle.key.specs.Picks.{handed}
+use Rattle.key.specs.Picks.{passedPicks}
 use Rattle.key.specs.Layout.{fit, keyOf, maxIdentity}
 use Rattle.key.specs.declared.SameKey.{SameKey}
 use Rattle.key.specs.declared.SameKey.the-variants.{Same, Other, Refused}
@@ -17,6 +17,6 @@ unfoldable pub matchAnswer : List ℕ → Text → Text → List ℕ → SameKey
 matchAnswer stored identity bytes lengths =
     pick (fit bytes lengths)
     (pick (leb (length identity) maxIdentity)
-    (pick (same stored (keyOf identity (handed bytes lengths))) Same Other)
+    (pick (same stored (keyOf identity (passedPicks bytes lengths))) Same Other)
     (Refused Identity))
     (Refused Argument)

@@ -39,8 +39,8 @@ firsts zero f = []
 firsts (suc n) f = f 0 ∷ firsts n (λ k. f (suc k))
 
 -- the picks as passed
-abbrev pub handed : Text → List ℕ → List Pick
-handed bytes lengths = firsts (count lengths) (pickAt bytes lengths)
+abbrev pub passedPicks : Text → List ℕ → List Pick
+passedPicks bytes lengths = firsts (count lengths) (pickAt bytes lengths)
 
 -- ---- "sorted", "equal five-field picks count once"
 

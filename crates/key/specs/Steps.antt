@@ -5,7 +5,7 @@ use Prim.Native.Nat.{ℕ, _+_, _-_, _*_, _≤_, _<_, min, Ordering, Ordering·lt
 use lib.ListN.{length, take, drop, getD}
 use Rattle.base.specs.Number.{pick}
 use Rattle.key.specs.Order.{Text, Pick, fieldCount}
-use Rattle.key.specs.Picks.{sum, pickOf, insert, firsts, handed}
+use Rattle.key.specs.Picks.{sum, pickOf, insert, firsts, passedPicks}
 use mathlib.Core.Bool.{true, false}
 use mathlib.Core.Logic.{_⊎_}
 use Rattle.refusal.specs.declared.Refusal.{Refusal}
@@ -28,12 +28,12 @@ number Ordering·gt = 2
 -- ---- offsets of the texts
 
 -- the offset of text k: after the texts before it, at most the end
-unfoldable pub placeOf : Text → List ℕ → ℕ → ℕ
-placeOf bytes lengths k = min (length bytes) (sum (take k lengths))
+unfoldable pub offsetOf : Text → List ℕ → ℕ → ℕ
+offsetOf bytes lengths k = min (length bytes) (sum (take k lengths))
 
 -- `starts` has the offsets of texts 0 to m
-abbrev pub Places : Text → List ℕ → ℕ → List ℕ → Type 0
-Places bytes lengths m starts = (k : ℕ) → k ≤ m → getD starts k 0 ≡ placeOf bytes lengths k
+abbrev pub Offsets : Text → List ℕ → ℕ → List ℕ → Type 0
+Offsets bytes lengths m starts = (k : ℕ) → k ≤ m → getD starts k 0 ≡ offsetOf bytes lengths k
 
 -- ascending offsets, none past the end
 pub record Rising (starts : List ℕ) (end : ℕ) : Type 0 where
@@ -94,7 +94,7 @@ pub record Ready (identity bytes : Text) (lengths starts : List ℕ) (n : ℕ) :
   pub rises : Rising (startsOf n starts) (length bytes)
   pub long : n * fieldCount < length (startsOf n starts)
   pub small : Small (pickIn bytes (startsOf n starts)) n
-  pub picks : firsts n (pickIn bytes (startsOf n starts)) ≡ handed bytes lengths
+  pub picks : firsts n (pickIn bytes (startsOf n starts)) ≡ passedPicks bytes lengths
 
 abbrev pub Prepares : Text → Text → List ℕ → List ℕ → Prepared → Type 0
 Prepares identity bytes lengths starts (IsReady n) = Ready identity bytes lengths starts n

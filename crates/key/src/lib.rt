@@ -6,7 +6,7 @@ mod write;
 ghost use mathlib.Core.Path.{_≡_};
 ghost use Prim.Native.Nat.{_+_, _*_};
 ghost use lib.ListN.{length};
-ghost use Rattle.key.specs.Picks.{handed};
+ghost use Rattle.key.specs.Picks.{passedPicks};
 ghost use Rattle.key.specs.Layout.{entry, keyOf, fit, keyAnswer, after};
 ghost use Rattle.key.specs.Match.{matchAnswer};
 use matching::match_key;
@@ -54,7 +54,7 @@ pub fn picks_fit(texts: &[u8], lengths: &[u32]) -> bool
 
 // Writes the key of an identity and picks to out.
 pub fn key(identity: &[u8], texts: &[u8], lengths: &[u32], out: &mut [u8]) -> KeyAnswer
-    ensures { λ r. ⌜ (r ≡ keyAnswer (now (identity .entry)) (now (texts .entry)) (now (lengths .entry)) (length (now (out .entry)))) × (now (out .exit) ≡ after r (keyOf (now (identity .entry)) (handed (now (texts .entry)) (now (lengths .entry)))) (now (out .entry))) ⌝ }
+    ensures { λ r. ⌜ (r ≡ keyAnswer (now (identity .entry)) (now (texts .entry)) (now (lengths .entry)) (length (now (out .entry)))) × (now (out .exit) ≡ after r (keyOf (now (identity .entry)) (passedPicks (now (texts .entry)) (now (lengths .entry)))) (now (out .entry))) ⌝ }
 {
     let mut starts: [usize; STARTS] = [0; STARTS];
     let p = prepare(identity, texts, lengths, &mut starts);

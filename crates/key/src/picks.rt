@@ -7,7 +7,7 @@ ghost use lib.ListN.{length, take, drop, getD};
 ghost use Rattle.key.specs.Order.{textOrder, pickOrder, fieldCount};
 ghost use Rattle.key.specs.Picks.{firsts, insert, distinct};
 ghost use Rattle.key.specs.Layout.{entry, sized, every};
-ghost use Rattle.key.specs.Steps.{number, Places, Rising, between, pickIn, Goes, Ordered, Below, Prepares, startsSize};
+ghost use Rattle.key.specs.Steps.{number, Offsets, Rising, between, pickIn, Goes, Ordered, Below, Prepares, startsSize};
 use crate::FIELDS;
 use crate::LAST_FIELD;
 use crate::MAX_IDENTITY;
@@ -54,7 +54,7 @@ fn order(a: &[u8], b: &[u8]) -> u8
 // The offsets of texts 0 to m: each after the texts before it, at most the end.
 fn places(texts: &[u8], lengths: &[u32], m: usize, starts: &mut [usize])
     requires { ⌜ m < length (now starts) ⌝ }
-    ensures { λ _. ⌜ Places (now (texts .entry)) (now (lengths .entry)) m (now (starts .exit)) ⌝ }
+    ensures { λ _. ⌜ Offsets (now (texts .entry)) (now (lengths .entry)) m (now (starts .exit)) ⌝ }
 {
     let mut at: usize = 0;
     let mut i: usize = 0;

@@ -14,7 +14,7 @@ use Rattle.writer.specs.declared.Writer.{Writer}
 use Rattle.base.proofs.Bools.{and-left}
 use Rattle.writer.specs.State.{did, stays, position, isOpen, begunIn, isDue, inRange, tailSize}
 use Rattle.writer.proofs.Laws.{ranged, fill-fits, position-fits}
-use Rattle.lower.specs.Lower.{mayAppend, mayBegin, withSource, sourceStep, withTable, tableStep, withEnd, endStep, withClosed, closeStep, room, withBytes, took, bytesStep}
+use Rattle.lower.specs.Lower.{mayAppend, mayBegin, withSource, sourceStep, withTable, tableStep, withEnd, endStep, withClosed, closeStep, accepted, withBytes, took, bytesStep}
 use Rattle.writer.specs.declared.Answer.the-variants.{Took}
 use Rattle.region.specs.Region.{capacity}
 use Rattle.base.specs.Table.{lastTable}
@@ -81,7 +81,7 @@ module _ (w : Writer) (xs : List ℕ) where
   unfolding took
   took-none e = rw e
 
-  pub took-some : (n : ℕ) (v : Writer) → isDue (w .taken) ≡ false → n ≡ room (w .taken) (length xs) → v ≡ withBytes w (take n xs) → record { answer = Took n; writer = v } ≡ took w xs
+  pub took-some : (n : ℕ) (v : Writer) → isDue (w .taken) ≡ false → n ≡ accepted (w .taken) (length xs) → v ≡ withBytes w (take n xs) → record { answer = Took n; writer = v } ≡ took w xs
   unfolding took
   took-some n v e h k = rw (e, ← h) (ap (λ (x : Writer). record { answer = Took n; writer = x }) k)
 

@@ -109,8 +109,8 @@ tableStep w t =
 
 -- Bytes: "takes bytes until its 256-byte tail is full and says how many; while an operation is due it takes none". All the bytes
 -- offered count for 10.
-abbrev pub room : Taken → ℕ → ℕ
-room t n = min n (tailSize - t .fill)
+abbrev pub accepted : Taken → ℕ → ℕ
+accepted t n = min n (tailSize - t .fill)
 
 abbrev pub takenMore : Taken → List ℕ → Taken
 takenMore t xs = record { written = t .written; fill = t .fill + length xs; crc = crc32 (t .crc) xs; different = t .different; closed = t .closed }
@@ -130,7 +130,7 @@ unfoldable pub took : Writer → List ℕ → Step
 took w xs =
     pick (isDue (w .taken))
     (record { answer = Took 0; writer = w })
-    (record { answer = Took (room (w .taken) (length xs)); writer = withBytes w (take (room (w .taken) (length xs)) xs) })
+    (record { answer = Took (accepted (w .taken) (length xs)); writer = withBytes w (take (accepted (w .taken) (length xs)) xs) })
 
 unfoldable pub bytesStep : Writer → List ℕ → Step
 bytesStep w xs =

@@ -10,8 +10,8 @@ ghost use Rattle.writer.specs.declared.Answer.the-variants as Answers;
 ghost use Rattle.lower.specs.Lower as Lower;
 ghost use Rattle.lower.specs.Took.{partsTook, stepTook};
 ghost use Rattle.writer.specs.State.{tailSize};
+use crate::accepted;
 use crate::may_append_parts;
-use crate::room;
 use leaf::crc::crc32_both;
 use refusal::Refusal;
 use region::CAPACITY;
@@ -104,7 +104,7 @@ fn append_some(p: Parts, bytes: &[u8]) -> Took
     if is_due(p.taken) {
         return none_taken(p, Answer::Took(0));
     }
-    let n = room(p.taken, bytes.len());
+    let n = accepted(p.taken, bytes.len());
     first_taken(p, bytes, n)
 }
 

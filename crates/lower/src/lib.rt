@@ -65,8 +65,8 @@ pub fn may_begin(s: Tables, table: u32) -> bool
 }
 
 // How many of n bytes the tail has free space for.
-pub fn room(t: Taken, n: usize) -> usize
-    ensures { λ r. ⌜ (r ≡ Lower.room t n) × (r ≤ n) ⌝ }
+pub fn accepted(t: Taken, n: usize) -> usize
+    ensures { λ r. ⌜ (r ≡ Lower.accepted t n) × (r ≤ n) ⌝ }
 {
     if TAIL_SIZE_32 <= t.fill {
         return 0;

@@ -26,7 +26,7 @@ use Rattle.writer.specs.declared.Writer.{Writer}
 use Rattle.writer.specs.declared.Step.{Step}
 use Rattle.writer.specs.State.{position, isDue, writeDue, dataDue, stageOk, stays}
 use Rattle.writer.proofs.Laws.{ranged}
-use Rattle.lower.specs.Lower.{mayAppend, room, withBytes, took, bytesStep}
+use Rattle.lower.specs.Lower.{mayAppend, accepted, withBytes, took, bytesStep}
 use Rattle.due.specs.Due.{operated, stepOf}
 use Rattle.run.specs.Run.{Lower, bytes, due, lowerStep, lowerOps, lowerRegion}
 use Rattle.run.specs.Appends.{dues, appends}
@@ -193,7 +193,7 @@ byte-step : (hd : Loaded) (region : List ℕ) (w : Writer) (u : Update) (x : ℕ
     → bytesStep w (x ∷ []) ≡ record { answer = Took 1; writer = withBytes w (x ∷ []) }
 unfolding bytesStep took
 byte-step hd region w u x o e d p =
-    took-one x w (mayAppend w) (leb (position (w .taken) + 1) capacity) (isDue (w .taken)) (room (w .taken) 1) (may-append hd region w u o e) (le-leb (position (w .taken) + 1) capacity p) d
+    took-one x w (mayAppend w) (leb (position (w .taken) + 1) capacity) (isDue (w .taken)) (accepted (w .taken) 1) (may-append hd region w u o e) (le-leb (position (w .taken) + 1) capacity p) d
     (omega (arith, idle-room (w .taken) d (ranged w (o .tied .range) .taken)))
 
 takes-more : (x : ℕ) (xs : List ℕ) (u : Update) → takes xs (takes (x ∷ []) u) ≡ takes (x ∷ xs) u

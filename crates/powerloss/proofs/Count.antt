@@ -26,7 +26,7 @@ use Rattle.writer.specs.declared.Writer.{Writer}
 use Rattle.writer.specs.declared.Step.{Step}
 use Rattle.writer.specs.State.{isDue, writeDue, dataDue, firstDue, stageOf, isOpen, operationOk, inRange, takenOk, stageOk, did, stays, tailSize}
 use Rattle.writer.proofs.Laws.{Ranged, ranged, fill-fits}
-use Rattle.lower.specs.Lower.{mayAppend, mayBegin, withSource, sourceStep, withTable, tableStep, room, takenMore, withBytes, took, bytesStep, withEnd, endStep, closedTaken, withClosed, closeStep}
+use Rattle.lower.specs.Lower.{mayAppend, mayBegin, withSource, sourceStep, withTable, tableStep, accepted, takenMore, withBytes, took, bytesStep, withEnd, endStep, closedTaken, withClosed, closeStep}
 use Rattle.due.specs.Due.{opsOf, operated, withStage, stepOf, dueStep}
 use Rattle.commit.specs.declared.Stamp.{Stamp}
 use Rattle.commit.specs.Commit.{bankFor, recordsFor, isIdle, isHeaderWritten, mayCommit, isCurrent, commitStep, commitOps, wordStep, wordOps}
@@ -205,7 +205,7 @@ module _ (region : List ℕ) (w : Writer) (ops m : ℕ) (l : length region ≡ r
 
   bytes-tally : (xs : List ℕ) (a f : Bool) → mayAppend w ≡ a → m ≡ ops + 0 → TallyOf m (pick a (pick f (took w xs) (stays w Full)) (stays w Turn) .writer)
   unfolding took
-  bytes-tally xs true true e q = took-tally (room (w .taken) (length xs)) xs (isDue (w .taken)) e refl q
+  bytes-tally xs true true e q = took-tally (accepted (w .taken) (length xs)) xs (isDue (w .taken)) e refl q
   bytes-tally xs true false e q = quiet q
   bytes-tally xs false f e q = quiet q
 

@@ -17,7 +17,7 @@ use Rattle.header.specs.Header.{marked, commitOffset}
 use Rattle.header.specs.WriteHeader.{headerBytes, blankWord, commitBytes, recordBytes}
 use Rattle.header.specs.Types.{Bytes, Proper}
 use Rattle.header.proofs.WriteLaws.{unmarked, no-magic, blank-47, length-header, bytes-header, bytes-blank-word, length-blank-word, length-commit-bytes, bytes-commit-bytes, bytes-append, header-split, topBytes, length-top}
-use Rattle.flash.specs.Flash.{Op, erase, write, place, done}
+use Rattle.flash.specs.Flash.{Op, erase, write, offset, done}
 use Rattle.flash.proofs.Laws.{done-before, write-leaves-255, erase-over, write-over}
 use Rattle.writer.specs.declared.Taken.{Taken}
 use Rattle.due.specs.Due.{padded}
@@ -41,7 +41,7 @@ laid-blank lo hi wr fl tail d b h i l =
     ap (λ (x : List ℕ). byte x i) (h .lies) ∙ byte-fill sectorSize i (h .front ++ (fill 255 (h .gap) ++ h .rest)) l
 
 -- and stays unmarked under an operation at a later offset, however many of its bytes are done
-pub later-unmarked : (lo hi wr fl : ℕ) (tail d b : List ℕ) → Laid lo hi wr fl tail d b → (j : ℕ) (op : Op) → 0 < place op → place op ≤ length b → marked (done j op b) ≡ false
+pub later-unmarked : (lo hi wr fl : ℕ) (tail d b : List ℕ) → Laid lo hi wr fl tail d b → (j : ℕ) (op : Op) → 0 < offset op → offset op ≤ length b → marked (done j op b) ≡ false
 later-unmarked lo hi wr fl tail d b h j op p l =
     no-magic (done j op b) (done-before j op 0 b p l ∙ laid-blank lo hi wr fl tail d b h 0 (omega arith))
 

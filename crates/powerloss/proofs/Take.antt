@@ -28,7 +28,7 @@ use Rattle.writer.specs.declared.Writer.{Writer}
 use Rattle.writer.specs.declared.Step.{Step}
 use Rattle.writer.specs.State.{position, isDue, stageOf, isOpen, inRange, tablesOk, stageOk, did, stays, tailSize}
 use Rattle.writer.proofs.Laws.{Ranged, ranged, fill-fits, open-table}
-use Rattle.lower.specs.Lower.{mayAppend, room, takenMore, withBytes, took, bytesStep, closedTaken, withClosed, closeStep}
+use Rattle.lower.specs.Lower.{mayAppend, accepted, takenMore, withBytes, took, bytesStep, closedTaken, withClosed, closeStep}
 use Rattle.run.specs.Run.{bytes, close}
 use Rattle.powerloss.specs.History.{Update, recordsAfter, takes, updateAfter}
 use Rattle.powerloss.proofs.Bytes.{bytes-take, bytes-sets}
@@ -152,7 +152,7 @@ module _ (region : List ℕ) (hd : Loaded) (w : Writer) (u : Update) (o : Open r
   none-taken : Open region hd w (takes [] u)
   none-taken = subst (Open region hd w) (sym (takes-nil u)) o
 
-  took-by : (xs : List ℕ) → Bytes xs → w .taken .closed ≡ false → position (w .taken) + length xs ≤ capacity → (n : ℕ) → n ≡ room (w .taken) (length xs) → (d : Bool) → isDue (w .taken) ≡ d
+  took-by : (xs : List ℕ) → Bytes xs → w .taken .closed ≡ false → position (w .taken) + length xs ≤ capacity → (n : ℕ) → n ≡ accepted (w .taken) (length xs) → (d : Bool) → isDue (w .taken) ≡ d
       → Open region hd (pick {A = Step} d (record { answer = Took 0; writer = w }) (record { answer = Took n; writer = withBytes w (take n xs) }) .writer)
       (updateAfter (bytes xs) (pick {A = Step} d (record { answer = Took 0; writer = w }) (record { answer = Took n; writer = withBytes w (take n xs) }) .answer) u)
   unfolding updateAfter
@@ -166,7 +166,7 @@ module _ (region : List ℕ) (hd : Loaded) (w : Writer) (u : Update) (o : Open r
       → Open region hd (pick a (pick f (took w xs) (stays w Full)) (stays w Turn) .writer) (updateAfter (bytes xs) (pick a (pick f (took w xs) (stays w Full)) (stays w Turn) .answer) u)
   unfolding updateAfter took
   bytes-by xs b true true e f =
-      took-by xs b (may-open e) (leb-true (position (w .taken) + length xs) capacity f) (room (w .taken) (length xs)) refl (isDue (w .taken)) refl
+      took-by xs b (may-open e) (leb-true (position (w .taken) + length xs) capacity f) (accepted (w .taken) (length xs)) refl (isDue (w .taken)) refl
   bytes-by xs b true false e f = o
   bytes-by xs b false f′ e f = o
 

@@ -18,9 +18,9 @@ use Rattle.key.specs.Order.{Text, Pick, pickOrder}
 use Rattle.key.specs.Picks as Picks
 use Rattle.key.specs.Picks.{text, unlessCode, pickOf, pickAt, count, firsts, place, insert, distinct}
 use Rattle.key.specs.Layout.{joined, field, entry, prefix, body, keyOf}
-use Rattle.csv.specs.Write.{anySpecial, doubled, fieldOf, behind, rowOf}
+use Rattle.csv.specs.Write.{anySpecial, doubled, fieldOf, delimiter, rowOf}
 use Rattle.row.specs.Columns.{columns, columnsOf, line, namesLine}
-use Rattle.row.specs.Write.{cutBy, handed}
+use Rattle.row.specs.Write.{cutBy, passedValues}
 use Rattle.powerloss.proofs.Bytes.{bytes-nil, bytes-cons, bytes-take, bytes-drop}
 use Rattle.csv.specs.Csv.{quote}
 
@@ -62,16 +62,16 @@ bytes-field : (v : List ℕ) → Bytes v → Bytes (fieldOf v)
 unfolding fieldOf
 bytes-field v h = field-by v (anySpecial v) h
 
-behind-byte : (vs : List (List ℕ)) → behind vs < 256
+behind-byte : (vs : List (List ℕ)) → delimiter vs < 256
 behind-byte [] = omega arith
 behind-byte (v ∷ vs) = omega arith
 
 bytes-values : (vs : List (List ℕ)) → All Bytes vs → Bytes (rowOf vs)
 unfolding rowOf All
 bytes-values [] h = bytes-nil
-bytes-values (v ∷ vs) h = bytes-append (fieldOf v) (behind vs ∷ rowOf vs) (bytes-field v (h .0)) (bytes-cons (behind vs) (rowOf vs) (behind-byte vs) (bytes-values vs (h .1)))
+bytes-values (v ∷ vs) h = bytes-append (fieldOf v) (delimiter vs ∷ rowOf vs) (bytes-field v (h .0)) (bytes-cons (delimiter vs) (rowOf vs) (behind-byte vs) (bytes-values vs (h .1)))
 
-pub bytes-row : (texts lengths : List ℕ) → Bytes texts → Bytes (rowOf (handed texts lengths))
+pub bytes-row : (texts lengths : List ℕ) → Bytes texts → Bytes (rowOf (passedValues texts lengths))
 bytes-row texts lengths b = bytes-values (cutBy lengths texts) (all-cut lengths texts b)
 
 -- ---- names lines
@@ -102,8 +102,8 @@ bytes-line : (vs : List (List ℕ)) → each (each isSmall) vs ≡ true → Byte
 unfolding line each
 bytes-line [] e = bytes-nil
 bytes-line (v ∷ vs) e =
-    bytes-append v (behind vs ∷ line vs) (small-bytes v (and-left (each isSmall v) (each (each isSmall) vs) e))
-    (bytes-cons (behind vs) (line vs) (behind-byte vs) (bytes-line vs (and-right (each isSmall v) (each (each isSmall) vs) e)))
+    bytes-append v (delimiter vs ∷ line vs) (small-bytes v (and-left (each isSmall v) (each (each isSmall) vs) e))
+    (bytes-cons (delimiter vs) (line vs) (behind-byte vs) (bytes-line vs (and-right (each isSmall v) (each (each isSmall) vs) e)))
 
 pub bytes-names : (t : ℕ) → Bytes (namesLine t)
 bytes-names t = bytes-line (columnsOf t) (columns-small t)
@@ -177,10 +177,10 @@ bytes-prefix (b ∷ bs) h =
     (bytes-cons (length (b ∷ bs) % 256) (length (b ∷ bs) / 256 % 256 ∷ b ∷ bs) (omega arith)
     (bytes-cons (length (b ∷ bs) / 256 % 256) (b ∷ bs) (omega arith) h))
 
-pub bytes-key : (id bytes lengths : List ℕ) → Bytes id → Bytes bytes → Bytes (keyOf id (Picks.handed bytes lengths))
+pub bytes-key : (id bytes lengths : List ℕ) → Bytes id → Bytes bytes → Bytes (keyOf id (Picks.passedPicks bytes lengths))
 unfolding keyOf AllBytes
 bytes-key id bytes lengths a b =
-    let s = distinct (Picks.handed bytes lengths) in
+    let s = distinct (Picks.passedPicks bytes lengths) in
     bytes-append (prefix id) (body s) (bytes-prefix id a)
     (bytes-cons (length s % 256) (joined entry s) (omega arith)
-    (bytes-joined entry AllBytes bytes-entry s (distinct-all (Picks.handed bytes lengths) (firsts-all (count lengths) (pickAt bytes lengths) (λ i. pick-bytes bytes lengths i b)))))
+    (bytes-joined entry AllBytes bytes-entry s (distinct-all (Picks.passedPicks bytes lengths) (firsts-all (count lengths) (pickAt bytes lengths) (λ i. pick-bytes bytes lengths i b)))))

@@ -13,7 +13,7 @@ use Rattle.refusal.specs.declared.Refusal.the-variants.{Argument, Small, Row}
 use Rattle.row.specs.declared.RowAnswer.{RowAnswer}
 use Rattle.row.specs.declared.RowAnswer.the-variants.{Written, Refused}
 use Rattle.row.specs.Columns.{columnCount, namesLine}
-use Rattle.row.specs.Write.{handed, within, after, namesAnswer, rowAnswer}
+use Rattle.row.specs.Write.{passedValues, within, after, namesAnswer, rowAnswer}
 use Rattle.base.specs.Table.{lastTable}
 
 -- ---- bytes into an output
@@ -42,36 +42,36 @@ module _ (table : ℕ) (out : List ℕ) where
 -- ---- row
 
 module _ (table : ℕ) (texts lengths out : List ℕ) where
-  pub row-past : lastTable < table → (Refused Argument ≡ rowAnswer table texts lengths (length out)) × (out ≡ after (Refused Argument) (rowOf (handed texts lengths)) out)
+  pub row-past : lastTable < table → (Refused Argument ≡ rowAnswer table texts lengths (length out)) × (out ≡ after (Refused Argument) (rowOf (passedValues texts lengths)) out)
   unfolding rowAnswer
   row-past h = (rw (lt-leb table lastTable h), refl)
 
   module _ (t : table ≤ lastTable) where
     pub row-count : (length lengths ≡ columnCount table → ⊥)
-        → (Refused Row ≡ rowAnswer table texts lengths (length out)) × (out ≡ after (Refused Row) (rowOf (handed texts lengths)) out)
+        → (Refused Row ≡ rowAnswer table texts lengths (length out)) × (out ≡ after (Refused Row) (rowOf (passedValues texts lengths)) out)
     unfolding rowAnswer
     row-count h = (rw (le-leb table lastTable t, ne-eqb (length lengths) (columnCount table) h), refl)
 
-    module _ (h : length lengths ≡ columnCount table) (n : ℕ) (e : n ≡ min (maxRow + 1) (length (rowOf (handed texts lengths)))) where
-      pub row-long : maxRow < n → (Refused Row ≡ rowAnswer table texts lengths (length out)) × (out ≡ after (Refused Row) (rowOf (handed texts lengths)) out)
+    module _ (h : length lengths ≡ columnCount table) (n : ℕ) (e : n ≡ min (maxRow + 1) (length (rowOf (passedValues texts lengths)))) where
+      pub row-long : maxRow < n → (Refused Row ≡ rowAnswer table texts lengths (length out)) × (out ≡ after (Refused Row) (rowOf (passedValues texts lengths)) out)
       unfolding rowAnswer
       row-long l =
-          let m : maxRow < length (rowOf (handed texts lengths)) = omega arith in
-          (rw (le-leb table lastTable t, eq-eqb (length lengths) (columnCount table) h, lt-leb (length (rowOf (handed texts lengths))) maxRow m), refl)
+          let m : maxRow < length (rowOf (passedValues texts lengths)) = omega arith in
+          (rw (le-leb table lastTable t, eq-eqb (length lengths) (columnCount table) h, lt-leb (length (rowOf (passedValues texts lengths))) maxRow m), refl)
 
-      fits : n ≤ maxRow → rowAnswer table texts lengths (length out) ≡ within (length out) (rowOf (handed texts lengths))
+      fits : n ≤ maxRow → rowAnswer table texts lengths (length out) ≡ within (length out) (rowOf (passedValues texts lengths))
       unfolding rowAnswer
       fits l =
-          let m : length (rowOf (handed texts lengths)) ≤ maxRow = omega arith in
-          rw (le-leb table lastTable t, eq-eqb (length lengths) (columnCount table) h, le-leb (length (rowOf (handed texts lengths))) maxRow m)
+          let m : length (rowOf (passedValues texts lengths)) ≤ maxRow = omega arith in
+          rw (le-leb table lastTable t, eq-eqb (length lengths) (columnCount table) h, le-leb (length (rowOf (passedValues texts lengths))) maxRow m)
 
       pub row-room : n ≤ maxRow → length out < n
-          → (Refused Small ≡ rowAnswer table texts lengths (length out)) × (out ≡ after (Refused Small) (rowOf (handed texts lengths)) out)
-      row-room l r = let k : length out < length (rowOf (handed texts lengths)) = omega arith in (no-room (rowOf (handed texts lengths)) out k .0 ∙ sym (fits l), refl)
+          → (Refused Small ≡ rowAnswer table texts lengths (length out)) × (out ≡ after (Refused Small) (rowOf (passedValues texts lengths)) out)
+      row-room l r = let k : length out < length (rowOf (passedValues texts lengths)) = omega arith in (no-room (rowOf (passedValues texts lengths)) out k .0 ∙ sym (fits l), refl)
 
-      pub row-fits : n ≤ maxRow → n ≤ length out → (o : List ℕ) → o ≡ sets out 0 (rowOf (handed texts lengths))
-          → (Written n ≡ rowAnswer table texts lengths (length out)) × (o ≡ after (Written n) (rowOf (handed texts lengths)) out)
+      pub row-fits : n ≤ maxRow → n ≤ length out → (o : List ℕ) → o ≡ sets out 0 (rowOf (passedValues texts lengths))
+          → (Written n ≡ rowAnswer table texts lengths (length out)) × (o ≡ after (Written n) (rowOf (passedValues texts lengths)) out)
       row-fits l r o p =
-          let z : n ≡ length (rowOf (handed texts lengths)) = omega arith in
-          let w = put-there (rowOf (handed texts lengths)) out n o z (omega arith) p in
+          let z : n ≡ length (rowOf (passedValues texts lengths)) = omega arith in
+          let w = put-there (rowOf (passedValues texts lengths)) out n o z (omega arith) p in
           (w .0 ∙ sym (fits l), w .1)

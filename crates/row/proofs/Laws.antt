@@ -13,7 +13,7 @@ use lib.ListN.{length, take, drop, getD, set, drop-of-length-le, length-drop, le
 use lib.Seq.{sets, sets-eq, length-sets, set-set, set-comm, drop-cons, drop-drop, take-all, take-add, getD-take, getD-drop, getD-set-same, getD-set-other}
 use borrow.Author.Tests.{eq-eqb, ne-eqb, eqb-true, le-leb, lt-leb}
 use Rattle.base.specs.Number.{pick}
-use Rattle.csv.specs.Write.{special, anySpecial, doubled, fieldOf, behind, rowOf}
+use Rattle.csv.specs.Write.{special, anySpecial, doubled, fieldOf, delimiter, rowOf}
 use Rattle.csv.proofs.Laws.{sets-append}
 use Rattle.row.specs.Write.{cutBy}
 use Rattle.row.specs.Steps.{Sizes, FirstQuote}
@@ -337,9 +337,9 @@ pub row-length : (v : List ℕ) (vs : List (List ℕ)) → length (rowOf (v ∷ 
 unfolding rowOf
 row-length v vs = simp length-append (omega arith)
 
-pub row-sets : (out : List ℕ) (to : ℕ) (v : List ℕ) (vs : List (List ℕ)) → sets out to (rowOf (v ∷ vs)) ≡ sets (set (sets out to (fieldOf v)) (to + length (fieldOf v)) (behind vs)) (to + length (fieldOf v) + 1) (rowOf vs)
+pub row-sets : (out : List ℕ) (to : ℕ) (v : List ℕ) (vs : List (List ℕ)) → sets out to (rowOf (v ∷ vs)) ≡ sets (set (sets out to (fieldOf v)) (to + length (fieldOf v)) (delimiter vs)) (to + length (fieldOf v) + 1) (rowOf vs)
 unfolding rowOf
-row-sets out to v vs = rw (add-one (to + length (fieldOf v))) (sets-append out to (fieldOf v) (behind vs ∷ rowOf vs))
+row-sets out to v vs = rw (add-one (to + length (fieldOf v))) (sets-append out to (fieldOf v) (delimiter vs ∷ rowOf vs))
 
 take-min : (n : ℕ) (l : List ℕ) → take (min n (length l)) l ≡ take n l
 take-min n l = go (decLt n (length l))
@@ -373,11 +373,11 @@ pub left-none : (texts lengths : List ℕ) (k from : ℕ) → length lengths ≤
 unfolding cutBy
 left-none texts lengths k from h = rw (drop-of-length-le lengths h)
 
-pub left-behind : (texts lengths : List ℕ) (k from : ℕ) → k ≤ length lengths → pick (eqb k (length lengths)) lineFeed comma ≡ behind (left texts lengths k from)
+pub left-behind : (texts lengths : List ℕ) (k from : ℕ) → k ≤ length lengths → pick (eqb k (length lengths)) lineFeed comma ≡ delimiter (left texts lengths k from)
 unfolding cutBy
 left-behind texts lengths k from h = go (decLt k (length lengths))
   where
-    go : Dec (k < length lengths) → pick (eqb k (length lengths)) lineFeed comma ≡ behind (cutBy (drop k lengths) (drop from texts))
+    go : Dec (k < length lengths) → pick (eqb k (length lengths)) lineFeed comma ≡ delimiter (cutBy (drop k lengths) (drop from texts))
     go (yes i) = rw (ne-eqb k (length lengths) (λ e. omega arith), drop-cons lengths k 0 i)
     go (no i) = let e : k ≡ length lengths = omega arith in let m : length lengths ≤ k = omega arith in rw (eq-eqb k (length lengths) e, drop-of-length-le lengths m)
 
@@ -403,7 +403,7 @@ module _ (texts lengths : List ℕ) (k from n : ℕ) (h : k < length lengths) (i
   pub value-size : length (take (from + n - from) (drop from texts)) ≡ n
   value-size = omega (arith, length-take (from + n - from) (drop from texts), length-drop from texts)
 
-  pub put-turn : (out : List ℕ) (to : ℕ) → sets out to (rowOf (left texts lengths k from)) ≡ sets (set (sets out to (fieldOf (take (from + n - from) (drop from texts)))) (to + length (fieldOf (take (from + n - from) (drop from texts)))) (behind (left texts lengths (k + 1) (from + n)))) (to + length (fieldOf (take (from + n - from) (drop from texts))) + 1) (rowOf (left texts lengths (k + 1) (from + n)))
+  pub put-turn : (out : List ℕ) (to : ℕ) → sets out to (rowOf (left texts lengths k from)) ≡ sets (set (sets out to (fieldOf (take (from + n - from) (drop from texts)))) (to + length (fieldOf (take (from + n - from) (drop from texts)))) (delimiter (left texts lengths (k + 1) (from + n)))) (to + length (fieldOf (take (from + n - from) (drop from texts))) + 1) (rowOf (left texts lengths (k + 1) (from + n)))
   put-turn out to = rw (left-turn texts lengths k from n h i e) (row-sets out to (take (from + n - from) (drop from texts)) (left texts lengths (k + 1) (from + n)))
 
 pub none-size : (texts lengths : List ℕ) (k from : ℕ) → length lengths ≤ k → length (rowOf (left texts lengths k from)) ≡ 0

@@ -2,7 +2,7 @@
 use Prim.Native.Nat.{ℕ}
 use mathlib.Core.List.{List, [], _∷_, _++_}
 use lib.ListN.{length, getD}
-use Rattle.csv.specs.Write.{behind}
+use Rattle.csv.specs.Write.{delimiter}
 
 -- ---- the names
 
@@ -180,7 +180,7 @@ columnCount table = length (columnsOf table)
 -- names "joined by commas, and LF"
 unfoldable pub line : List (List ℕ) → List ℕ
 line [] = []
-line (v ∷ vs) = v ++ (behind vs ∷ line vs)
+line (v ∷ vs) = v ++ (delimiter vs ∷ line vs)
 
 -- the names line of a table
 abbrev pub namesLine : ℕ → List ℕ

@@ -19,8 +19,8 @@ unfoldable pub cutBy : List ℕ → List ℕ → List (List ℕ)
 cutBy [] t = []
 cutBy (n ∷ ns) t = take n t ∷ cutBy ns (drop n t)
 
-abbrev pub handed : List ℕ → List ℕ → List (List ℕ)
-handed texts lengths = cutBy lengths texts
+abbrev pub passedValues : List ℕ → List ℕ → List (List ℕ)
+passedValues texts lengths = cutBy lengths texts
 
 -- how many bytes are written if the output has the capacity for them, else 9
 unfoldable pub within : ℕ → List ℕ → RowAnswer
@@ -40,6 +40,6 @@ unfoldable pub rowAnswer : ℕ → List ℕ → List ℕ → ℕ → RowAnswer
 rowAnswer table texts lengths room =
     pick (leb table lastTable)
     (pick (eqb (length lengths) (columnCount table))
-    (pick (leb (length (rowOf (handed texts lengths))) maxRow) (within room (rowOf (handed texts lengths))) (Refused Row))
+    (pick (leb (length (rowOf (passedValues texts lengths))) maxRow) (within room (rowOf (passedValues texts lengths))) (Refused Row))
     (Refused Row))
     (Refused Argument)

@@ -7,7 +7,7 @@ ghost use Prim.Native.Nat.{_+_, _<_};
 ghost use lib.ListN.{length};
 ghost use Rattle.csv.specs.Write.{rowOf};
 ghost use Rattle.row.specs.Columns.{columnCount, namesLine};
-ghost use Rattle.row.specs.Write.{handed, within, after, namesAnswer, rowAnswer};
+ghost use Rattle.row.specs.Write.{passedValues, within, after, namesAnswer, rowAnswer};
 ghost use Rattle.row.specs.Steps.{allLines};
 use crate::size::row_size;
 use crate::write::copy;
@@ -72,7 +72,7 @@ pub fn names_line(table: u32, out: &mut [u8]) -> RowAnswer
 
 // Writes the row of a table's values to out. The values are passed as joined texts and their lengths.
 pub fn row(table: u32, texts: &[u8], lengths: &[u32], out: &mut [u8]) -> RowAnswer
-    ensures { λ r. ⌜ (r ≡ rowAnswer table (now (texts .entry)) (now (lengths .entry)) (length (now (out .entry)))) × (now (out .exit) ≡ after r (rowOf (handed (now (texts .entry)) (now (lengths .entry)))) (now (out .entry))) ⌝ }
+    ensures { λ r. ⌜ (r ≡ rowAnswer table (now (texts .entry)) (now (lengths .entry)) (length (now (out .entry)))) × (now (out .exit) ≡ after r (rowOf (passedValues (now (texts .entry)) (now (lengths .entry)))) (now (out .entry))) ⌝ }
 {
     if LAST_TABLE < table {
         return RowAnswer::Refused(Refusal::Argument);

@@ -3,7 +3,7 @@ ghost use mathlib.Core.Path.{_≡_};
 ghost use Prim.Native.Nat.{_+_, _-_, _≤_, _<_, min};
 ghost use lib.ListN.{length, drop};
 ghost use Rattle.csv.specs.Write.{special, anySpecial, doubled, fieldOf, rowOf};
-ghost use Rattle.row.specs.Write.{handed};
+ghost use Rattle.row.specs.Write.{passedValues};
 ghost use Rattle.row.specs.Steps.{Sizes};
 ghost use Rattle.csv.specs.Csv.{maxRow};
 use csv::COMMA;
@@ -135,7 +135,7 @@ fn field_size(v: &[u8]) -> usize
 // The row's size, or 8,193 for any above 8,192; and the sizes of its fields.
 pub(crate) fn row_size(texts: &[u8], lengths: &[u32], sizes: &mut [usize]) -> usize
     requires { ⌜ length (now lengths) ≤ length (now sizes) ⌝ }
-    ensures { λ r. ⌜ (r ≡ min (maxRow + 1) (length (rowOf (handed (now (texts .entry)) (now (lengths .entry)))))) × (r ≤ maxRow → Sizes (now (sizes .exit)) 0 (handed (now (texts .entry)) (now (lengths .entry)))) ⌝ }
+    ensures { λ r. ⌜ (r ≡ min (maxRow + 1) (length (rowOf (passedValues (now (texts .entry)) (now (lengths .entry)))))) × (r ≤ maxRow → Sizes (now (sizes .exit)) 0 (passedValues (now (texts .entry)) (now (lengths .entry)))) ⌝ }
 {
     let mut total: usize = 0;
     let mut from: usize = 0;

@@ -6,7 +6,7 @@ ghost use lib.ListN.{length, take, drop};
 ghost use lib.Seq.{sets};
 ghost use Rattle.base.specs.Number.{pick};
 ghost use Rattle.csv.specs.Write.{doubled, fieldOf, rowOf};
-ghost use Rattle.row.specs.Write.{handed};
+ghost use Rattle.row.specs.Write.{passedValues};
 ghost use Rattle.row.specs.Steps.{Sizes, FirstQuote};
 ghost use Rattle.csv.specs.Csv.{quote, comma, lineFeed};
 use crate::size::cut;
@@ -211,8 +211,8 @@ fn end_byte(k: usize, n: usize) -> u8
 
 // Writes the row to out; `sizes` are those of its fields.
 pub(crate) fn put_row(texts: &[u8], lengths: &[u32], sizes: &[usize], out: &mut [u8])
-    requires { ⌜ (length (rowOf (handed (now texts) (now lengths))) ≤ length (now out)) × (length (now lengths) ≤ length (now sizes)) × Sizes (now sizes) 0 (handed (now texts) (now lengths)) ⌝ }
-    ensures { λ _. ⌜ now (out .exit) ≡ sets (now (out .entry)) 0 (rowOf (handed (now (texts .entry)) (now (lengths .entry)))) ⌝ }
+    requires { ⌜ (length (rowOf (passedValues (now texts) (now lengths))) ≤ length (now out)) × (length (now lengths) ≤ length (now sizes)) × Sizes (now sizes) 0 (passedValues (now texts) (now lengths)) ⌝ }
+    ensures { λ _. ⌜ now (out .exit) ≡ sets (now (out .entry)) 0 (rowOf (passedValues (now (texts .entry)) (now (lengths .entry)))) ⌝ }
 {
     let mut to: usize = 0;
     let mut from: usize = 0;

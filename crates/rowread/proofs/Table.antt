@@ -11,7 +11,7 @@ use lib.Seq.{take-append-add, drop-append-seam, drop-drop}
 use borrow.Author.Tests.{le-leb, eq-eqb, ne-eqb}
 use Rattle.base.specs.Number.{pick}
 use Rattle.csv.specs.Csv.{Record, maxRow}
-use Rattle.csv.specs.Write.{rowOf, fieldOf, behind}
+use Rattle.csv.specs.Write.{rowOf, fieldOf, delimiter}
 use Rattle.csv.specs.Read as Csv
 use Rattle.csv.proofs.Grammar.{read-back, sound}
 use Rattle.csv.proofs.Frame.{frame}
@@ -25,7 +25,7 @@ Text = List ℕ
 
 row-some : (v : Text) (vs : List Text) → 1 ≤ length (rowOf (v ∷ vs))
 unfolding rowOf
-row-some v vs = omega (arith, length-append (fieldOf v) (behind vs ∷ rowOf vs))
+row-some v vs = omega (arith, length-append (fieldOf v) (delimiter vs ∷ rowOf vs))
 
 -- a row at the front of the bytes that may hold it
 front-part : (p r : Text) → length p ≤ maxRow → take maxRow (p ++ r) ≡ p ++ take (maxRow - length p) r

@@ -25,7 +25,7 @@ use Rattle.writer.specs.declared.Writer.{Writer}
 use Rattle.writer.specs.declared.Step.{Step}
 use Rattle.writer.specs.State.{position, isDue, stageOf, aligned, takenOk, tablesOk, operationOk, stageOk, inRange, tailSize, stays}
 use Rattle.writer.proofs.Laws.{ranged}
-use Rattle.lower.specs.Lower.{mayAppend, room, takenMore, withBytes, took, bytesStep}
+use Rattle.lower.specs.Lower.{mayAppend, accepted, takenMore, withBytes, took, bytesStep}
 use Rattle.base.specs.Number.{pick}
 use Rattle.refusal.specs.declared.Refusal.the-variants.{Full, Turn}
 use Rattle.writer.specs.declared.Answer.the-variants.{Took}
@@ -150,7 +150,7 @@ module _ (w : Writer) (y : ℕ) (xs : List ℕ) where
 -- ---- one call
 
 module _ (w : Writer) (xs : List ℕ) (m : mayAppend w ≡ true) (d : isDue (w .taken) ≡ false) (k : position (w .taken) + length xs ≤ capacity) where
-  pub all-taken : (n : ℕ) → n ≡ room (w .taken) (length xs) → bytesStep w xs .writer ≡ withBytes w (take n xs)
+  pub all-taken : (n : ℕ) → n ≡ accepted (w .taken) (length xs) → bytesStep w xs .writer ≡ withBytes w (take n xs)
   all-taken n e = sym (ap (λ (s : Step). s .writer) (took-some w xs n (withBytes w (take n xs)) d e refl ∙ bytes-took w xs m k))
 
 byte-taken : (w : Writer) (y : ℕ) → mayAppend w ≡ true → isDue (w .taken) ≡ false → w .taken .fill + 1 ≤ tailSize → position (w .taken) + 1 ≤ capacity → bytesStep w (y ∷ []) .writer ≡ withBytes w (y ∷ [])
@@ -252,7 +252,7 @@ unfolding bytesStep took
 counted w bs = go (mayAppend w) refl (leb (position (w .taken) + length bs) capacity) refl (isDue (w .taken)) refl
   where
     some : Step
-    some = record { answer = Took (room (w .taken) (length bs)); writer = withBytes w (take (room (w .taken) (length bs)) bs) }
+    some = record { answer = Took (accepted (w .taken) (length bs)); writer = withBytes w (take (accepted (w .taken) (length bs)) bs) }
 
     go : (m : Bool) → mayAppend w ≡ m → (l : Bool) → leb (position (w .taken) + length bs) capacity ≡ l → (d : Bool) → isDue (w .taken) ≡ d
         → 1 ≤ countOf (pick m (pick l (pick d (record { answer = Took 0; writer = w }) some) (stays w Full)) (stays w Turn) .answer)

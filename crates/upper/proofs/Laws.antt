@@ -26,7 +26,7 @@ use Rattle.row.specs.declared.RowAnswer.{RowAnswer}
 use Rattle.row.specs.declared.RowAnswer.the-variants.{Written, Refused as RowRefused}
 use Rattle.row.specs.Columns.{columnCount, columnsOf, columns, line, namesLine}
 use Rattle.csv.specs.Write.{rowOf}
-use Rattle.row.specs.Write.{within, after, handed, namesAnswer, rowAnswer}
+use Rattle.row.specs.Write.{within, after, passedValues, namesAnswer, rowAnswer}
 use Rattle.record.specs.declared.Source.{Source}
 use Rattle.region.specs.Region.{regionSize, capacity}
 use Rattle.base.proofs.Bools.{and-left, and-right, both-true}
@@ -185,9 +185,9 @@ by-three true true false m n e = (cc, cc, cc)
 by-three true false r m n e = (cc, cc, cc)
 by-three false q r m n e = (cc, cc, cc)
 
-module _ (t : ℕ) (texts lengths out o : List ℕ) (a : RowAnswer) (h : t ≤ lastTable) (e : a ≡ rowAnswer t texts lengths (length out)) (k : o ≡ after a (rowOf (handed texts lengths)) out) where
+module _ (t : ℕ) (texts lengths out o : List ℕ) (a : RowAnswer) (h : t ≤ lastTable) (e : a ≡ rowAnswer t texts lengths (length out)) (k : o ≡ after a (rowOf (passedValues texts lengths)) out) where
   abbrev row-size : ℕ
-  row-size = length (rowOf (handed texts lengths))
+  row-size = length (rowOf (passedValues texts lengths))
 
   abbrev row-ok : Bool
   row-ok = eqb (length lengths) (columnCount t) && leb row-size maxRow
@@ -206,14 +206,14 @@ module _ (t : ℕ) (texts lengths out o : List ℕ) (a : RowAnswer) (h : t ≤ l
     pub row-written : (row-ok ≡ true) × (n ≡ row-size)
     row-written = (row-all .0, row-all .1)
 
-    row-out : o ≡ written out 0 (rowOf (handed texts lengths))
-    row-out = k ∙ ap (λ (b : RowAnswer). after b (rowOf (handed texts lengths)) out) f
+    row-out : o ≡ written out 0 (rowOf (passedValues texts lengths))
+    row-out = k ∙ ap (λ (b : RowAnswer). after b (rowOf (passedValues texts lengths)) out) f
 
     pub row-length : n ≤ length o
-    row-length = omega (arith, row-all .1, leb-true row-size (length out) (row-all .2), ap length row-out, length-written out 0 (rowOf (handed texts lengths)))
+    row-length = omega (arith, row-all .1, leb-true row-size (length out) (row-all .2), ap length row-out, length-written out 0 (rowOf (passedValues texts lengths)))
 
-    pub row-there : take n o ≡ rowOf (handed texts lengths)
-    row-there = (λ i. take (row-all .1 i) (row-out i)) ∙ start-is (rowOf (handed texts lengths)) out (leb-true row-size (length out) (row-all .2))
+    pub row-there : take n o ≡ rowOf (passedValues texts lengths)
+    row-there = (λ i. take (row-all .1 i) (row-out i)) ∙ start-is (rowOf (passedValues texts lengths)) out (leb-true row-size (length out) (row-all .2))
 
 -- ---- the beginning
 
@@ -235,13 +235,13 @@ prefix-is [] h = absurd (h refl)
 prefix-is (x ∷ xs) h = refl
 
 -- without an identity
-body-short : (b l : List ℕ) → fit b l ≡ true → length (keyOf [] (Picks.handed b l)) ≤ maxBody
+body-short : (b l : List ℕ) → fit b l ≡ true → length (keyOf [] (Picks.passedPicks b l)) ≤ maxBody
 unfolding fit prefix
 body-short b l h =
     let t = both-true (leb (Picks.count l) 16) (every (Picks.count l * 5) (sized (Picks.text b l))) h in
     let n : Picks.count l ≤ 16 = leb-true _ _ (t .0) in
     let m = small (Picks.count l) (Picks.pickAt b l) (entry-small (Picks.text b l) (Picks.count l) (t .1)) in
-    omega (arith, key-length [] (Picks.handed b l), few (Picks.count l) (Picks.pickAt b l), m)
+    omega (arith, key-length [] (Picks.passedPicks b l), few (Picks.count l) (Picks.pickAt b l), m)
 
 key-true : (p : Bool) (m n : ℕ) → pick p (KeyWritten m) (KeyRefused Argument) ≡ KeyWritten n → (p ≡ true) × (n ≡ m)
 key-true true m n e = (refl, cc)
@@ -251,31 +251,31 @@ key-false : (p : Bool) (m : ℕ) (x : Refusal) → pick p (KeyWritten m) (KeyRef
 key-false true m x e = cc
 key-false false m x e = refl
 
-module _ (b l out o : List ℕ) (a : KeyAnswer) (h : length out ≡ maxBody) (e : a ≡ keyAnswer [] b l (length out)) (k : o ≡ keyAfter a (keyOf [] (Picks.handed b l)) out) where
-  key-by : (p : Bool) → fit b l ≡ p → a ≡ pick p (KeyWritten (length (keyOf [] (Picks.handed b l)))) (KeyRefused Argument)
+module _ (b l out o : List ℕ) (a : KeyAnswer) (h : length out ≡ maxBody) (e : a ≡ keyAnswer [] b l (length out)) (k : o ≡ keyAfter a (keyOf [] (Picks.passedPicks b l)) out) where
+  key-by : (p : Bool) → fit b l ≡ p → a ≡ pick p (KeyWritten (length (keyOf [] (Picks.passedPicks b l)))) (KeyRefused Argument)
   unfolding keyAnswer keyWithin
-  key-by true f = e ∙ rw (f, le-leb (length (keyOf [] (Picks.handed b l))) (length out) (omega (arith, body-short b l f)))
+  key-by true f = e ∙ rw (f, le-leb (length (keyOf [] (Picks.passedPicks b l))) (length out) (omega (arith, body-short b l f)))
   key-by false f = e ∙ rw f
 
   pub key-not : (x : Refusal) → a ≡ KeyRefused x → fit b l ≡ false
-  key-not x f = key-false (fit b l) (length (keyOf [] (Picks.handed b l))) x (sym (key-by (fit b l) refl) ∙ f)
+  key-not x f = key-false (fit b l) (length (keyOf [] (Picks.passedPicks b l))) x (sym (key-by (fit b l) refl) ∙ f)
 
   module _ (n : ℕ) (f : a ≡ KeyWritten n) where
-    key-both : (fit b l ≡ true) × (n ≡ length (keyOf [] (Picks.handed b l)))
-    key-both = key-true (fit b l) (length (keyOf [] (Picks.handed b l))) n (sym (key-by (fit b l) refl) ∙ f)
+    key-both : (fit b l ≡ true) × (n ≡ length (keyOf [] (Picks.passedPicks b l)))
+    key-both = key-true (fit b l) (length (keyOf [] (Picks.passedPicks b l))) n (sym (key-by (fit b l) refl) ∙ f)
 
     pub key-fit : fit b l ≡ true
     key-fit = key-both .0
 
-    key-out : o ≡ written out 0 (keyOf [] (Picks.handed b l))
-    key-out = k ∙ ap (λ (x : KeyAnswer). keyAfter x (keyOf [] (Picks.handed b l)) out) f
+    key-out : o ≡ written out 0 (keyOf [] (Picks.passedPicks b l))
+    key-out = k ∙ ap (λ (x : KeyAnswer). keyAfter x (keyOf [] (Picks.passedPicks b l)) out) f
 
     pub key-room : n ≤ length o
-    key-room = omega (arith, key-both .1, body-short b l key-fit, ap length key-out, length-written out 0 (keyOf [] (Picks.handed b l)))
+    key-room = omega (arith, key-both .1, body-short b l key-fit, ap length key-out, length-written out 0 (keyOf [] (Picks.passedPicks b l)))
 
     pub key-there : (id : List ℕ) → prefix id ++ take n o ≡ keyBytes id b l
     unfolding keyOf prefix
-    key-there id = ap (λ (x : List ℕ). prefix id ++ x) ((λ i. take (key-both .1 i) (key-out i)) ∙ start-is (keyOf [] (Picks.handed b l)) out (omega (arith, body-short b l key-fit)))
+    key-there id = ap (λ (x : List ℕ). prefix id ++ x) ((λ i. take (key-both .1 i) (key-out i)) ∙ start-is (keyOf [] (Picks.passedPicks b l)) out (omega (arith, body-short b l key-fit)))
 
 module _ (region : List ℕ) (comparing : Bool) (now : ℤ) (id b l : List ℕ) where
   abbrev Begins : Step → List ℕ → Type 0

@@ -15,7 +15,7 @@ use Rattle.key.specs.Picks as Picks
 use Rattle.csv.specs.Csv.{maxRow}
 use Rattle.csv.specs.Write.{rowOf}
 use Rattle.row.specs.Columns.{columnCount, namesLine}
-use Rattle.row.specs.Write.{handed}
+use Rattle.row.specs.Write.{passedValues}
 use Rattle.record.specs.declared.Source.{Source}
 use Rattle.region.specs.Region.{regionSize, capacity}
 use Rattle.bank.specs.declared.Loaded.the-variants.{Refused as NotRead}
@@ -43,7 +43,7 @@ pub data Upper : Type 0 where
 unfoldable pub taken : Upper → List ℕ
 taken (sourceWithDates s) = le32 (s .start) ++ le32 (s .end)
 taken (tableWithNames t) = namesLine t
-taken (row texts lengths) = rowOf (handed texts lengths)
+taken (row texts lengths) = rowOf (passedValues texts lengths)
 taken tableEnd = []
 taken closing = []
 
@@ -75,7 +75,7 @@ orderOk w tableEnd = mayAppend w && isOpen (w .tables)
 orderOk w closing = mayAppend w && not (isOpen (w .tables))
 
 abbrev pub rowOk : Writer → Upper → Bool
-rowOk w (row texts lengths) = eqb (length lengths) (columnCount (w .tables .table)) && leb (length (rowOf (handed texts lengths))) maxRow
+rowOk w (row texts lengths) = eqb (length lengths) (columnCount (w .tables .table)) && leb (length (rowOf (passedValues texts lengths))) maxRow
 rowOk w (sourceWithDates s) = true
 rowOk w (tableWithNames t) = true
 rowOk w tableEnd = true
@@ -132,7 +132,7 @@ beginRefusal region identity texts lengths =
     (some Region)
 
 abbrev pub keyBytes : List ℕ → List ℕ → List ℕ → List ℕ
-keyBytes identity texts lengths = Key.keyOf identity (Picks.handed texts lengths)
+keyBytes identity texts lengths = Key.keyOf identity (Picks.passedPicks texts lengths)
 
 unfoldable pub beginRun : List ℕ → List ℕ → List ℕ → List ℕ → List Lower
 beginRun region identity texts lengths = runIf (beginRefusal region identity texts lengths) (appends (keyBytes identity texts lengths))

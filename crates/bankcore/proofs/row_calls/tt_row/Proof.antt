@@ -1,5 +1,5 @@
 use Rattle.csv.specs.Write.{rowOf}
-use Rattle.row.specs.Write.{handed, after}
+use Rattle.row.specs.Write.{passedValues, after}
 use Rattle.row.specs.declared.RowAnswer.{RowAnswer}
 use Rattle.bankcore.specs.RowAnswers.{ofRow}
 use mathlib.Core.Path.{ap, _∙_}
@@ -20,7 +20,7 @@ returns : tie.Need-returns
 returns c =
     let k = c .before .before .before in
     let a = k .before .before .before .before .before .args in
-    (c .of-row .ensures ∙ ap ofRow (k .row .ensures .0), k .row .ensures .1 ∙ ap (λ (x : RowAnswer). after x (rowOf (handed (a .texts .now) (a .lengths .now))) (a .out .now)) (k .row .ensures .0))
+    (c .of-row .ensures ∙ ap ofRow (k .row .ensures .0), k .row .ensures .1 ∙ ap (λ (x : RowAnswer). after x (rowOf (passedValues (a .texts .now) (a .lengths .now))) (a .out .now)) (k .row .ensures .0))
 
 pub tt-row-spec : {M : Type 1} → statement M
 tt-row-spec = tie.close (tie.spec row-requires of-row-requires same-length returns)

@@ -6,20 +6,20 @@ use Prim.Native.Nat.{ℕ, _+_, _-_, _≤_, _<_}
 use native.Mathlib.Omega.{arith}
 use lib.ListN.{length, getD, set, length-set}
 use lib.Seq.{getD-set-same, getD-set-other}
-use Rattle.key.specs.Steps.{placeOf}
+use Rattle.key.specs.Steps.{offsetOf}
 use Rattle.key.proofs.Taken.{split, place-none, place-next, place-within, place-past}
 use Rattle.key.proofs.picks.places.Statement.{statement}
 use Rattle.key.proofs.picks.places.Tie as tie
 
 abbrev Inv-loop : tie.InvT-loop
-Inv-loop texts lengths m starts₀ at₀ i₀ starts at i = (i ≤ m + 1) × (length starts ≡ length starts₀) × (at ≡ placeOf texts lengths i) × ((k : ℕ) → k < i → getD starts k 0 ≡ placeOf texts lengths k)
+Inv-loop texts lengths m starts₀ at₀ i₀ starts at i = (i ≤ m + 1) × (length starts ≡ length starts₀) × (at ≡ offsetOf texts lengths i) × ((k : ℕ) → k < i → getD starts k 0 ≡ offsetOf texts lengths k)
 
 abbrev μ-loop : tie.MeasureT-loop
 μ-loop texts lengths m starts₀ at₀ i₀ starts at i = m + 1 - i
 
 -- one more offset is stored
-stored : (b l s : List ℕ) (i at : ℕ) → i < length s → at ≡ placeOf b l i → ((k : ℕ) → k < i → getD s k 0 ≡ placeOf b l k)
-    → (k : ℕ) → k < i + 1 → getD (set s i at) k 0 ≡ placeOf b l k
+stored : (b l s : List ℕ) (i at : ℕ) → i < length s → at ≡ offsetOf b l i → ((k : ℕ) → k < i → getD s k 0 ≡ offsetOf b l k)
+    → (k : ℕ) → k < i + 1 → getD (set s i at) k 0 ≡ offsetOf b l k
 stored b l s i at h e f k w =
     ⊎-elim
     (λ (v : k < i). getD-set-other s i k at 0 (λ z. omega arith) ∙ f k v)

@@ -26,8 +26,8 @@ returns c =
       λ ss. ap (λ (t : Took). stepWith (stepTook (a .p) t (a .bytes .now)) ss) e ∙ took-none (withSources (a .p) ss) (a .bytes .now) (sym (d .is-due .ensures) ∙ c .before .if1 .taken),
     )
 
-room-requires : tie.Need-room-requires
-room-requires c κs = search needs
+accepted-requires : tie.Need-accepted-requires
+accepted-requires c κs = search needs
 
 first-taken-requires : tie.Need-first-taken-requires
 first-taken-requires c κs = search needs
@@ -35,7 +35,7 @@ first-taken-requires c κs = search needs
 returns-2 : tie.Need-returns-2
 returns-2 c =
     let f = c .first-taken in
-    let r = c .before .room in
+    let r = c .before .accepted in
     let d = c .before .before .before in
     let a = d .before .before .args in
     let xs = a .bytes .now in (
@@ -53,6 +53,6 @@ append-some-spec =
     is-due-requires
     none-taken-requires
     returns
-    room-requires
+    accepted-requires
     first-taken-requires
     returns-2)

@@ -6,7 +6,7 @@ use Prim.Native.Nat.{ℕ, _≤_, _<_, _-_, _+_}
 use native.Mathlib.Omega.{arith}
 use lib.ListN.{length, take, drop, length-set}
 use Rattle.csv.specs.Write.{rowOf}
-use Rattle.row.specs.Write.{handed}
+use Rattle.row.specs.Write.{passedValues}
 use borrow.Author.Needs.{needs}
 use Rattle.row.proofs.Laws.{left, left-turn, left-none, size-turn, value-size, none-size, field-less, field-bound, Known, known-start, known-turn, known-end}
 use Rattle.row.proofs.size.row_size.Statement.{statement}
@@ -14,13 +14,13 @@ use Rattle.row.proofs.size.row_size.Tie as tie
 use Rattle.csv.specs.Csv.{maxRow}
 
 abbrev Inv-loop : tie.InvT-loop
-Inv-loop texts lengths sizes₀ total₀ from₀ k₀ sizes total from k = (k ≤ length lengths) × (from ≤ length texts) × (total ≤ maxRow) × (length (rowOf (handed texts lengths)) ≡ total + length (rowOf (left texts lengths k from))) × (length sizes ≡ length sizes₀) × Known sizes k (handed texts lengths) (left texts lengths k from)
+Inv-loop texts lengths sizes₀ total₀ from₀ k₀ sizes total from k = (k ≤ length lengths) × (from ≤ length texts) × (total ≤ maxRow) × (length (rowOf (passedValues texts lengths)) ≡ total + length (rowOf (left texts lengths k from))) × (length sizes ≡ length sizes₀) × Known sizes k (passedValues texts lengths) (left texts lengths k from)
 
 abbrev μ-loop : tie.MeasureT-loop
 μ-loop texts lengths sizes₀ total₀ from₀ k₀ sizes total from k = length lengths - k
 
 loop-holds : tie.Need-loop-holds Inv-loop μ-loop
-loop-holds c = (omega arith, omega arith, omega arith, omega arith, refl, known-start (c .before .before .before .args .sizes .now) (handed (c .before .before .before .args .texts .now) (c .before .before .before .args .lengths .now)))
+loop-holds c = (omega arith, omega arith, omega arith, omega arith, refl, known-start (c .before .before .before .args .sizes .now) (passedValues (c .before .before .before .args .texts .now) (c .before .before .before .args .lengths .now)))
 
 sub-cut : tie.Need-sub-cut Inv-loop μ-loop
 sub-cut c = search needs
@@ -137,7 +137,7 @@ loop-again c =
     let f = c .before .field-size .ensures in
     let y : length (l .sizes) ≡ length (a .sizes .now) = l .inv .4 in
     let t = left-turn (a .texts .now) (a .lengths .now) (l .k) (l .from) n h (l .inv .1) q in
-    (omega arith, omega (arith, q), omega arith, omega (arith, l .inv .3, f, z), length-set (l .sizes) (l .k) (c .before .field-size .result) ∙ y, known-turn (l .sizes) (l .k) (handed (a .texts .now) (a .lengths .now)) (left (a .texts .now) (a .lengths .now) (l .k) (l .from)) (left (a .texts .now) (a .lengths .now) (l .k + 1) (l .from + n)) v (c .before .field-size .result) (omega (arith, c .before .before .before .before .before .before .before .before .before .before .before .pre)) t f (l .inv .5))
+    (omega arith, omega (arith, q), omega arith, omega (arith, l .inv .3, f, z), length-set (l .sizes) (l .k) (c .before .field-size .result) ∙ y, known-turn (l .sizes) (l .k) (passedValues (a .texts .now) (a .lengths .now)) (left (a .texts .now) (a .lengths .now) (l .k) (l .from)) (left (a .texts .now) (a .lengths .now) (l .k + 1) (l .from + n)) v (c .before .field-size .result) (omega (arith, c .before .before .before .before .before .before .before .before .before .before .before .pre)) t f (l .inv .5))
 
 same-length-3 : tie.Need-same-length-3 Inv-loop μ-loop
 same-length-3 c = c .before .loop .inv .4
@@ -147,7 +147,7 @@ returns-3 c =
     let a = c .before .before .before .before .before .args in
     let l = c .before .loop in
     let h : length (a .lengths .now) ≤ l .k = c .loop-test .left in
-    (omega (arith, l .inv .3, none-size (a .texts .now) (a .lengths .now) (l .k) (l .from) h), λ e. known-end (l .sizes) (l .k) (handed (a .texts .now) (a .lengths .now)) (left (a .texts .now) (a .lengths .now) (l .k) (l .from)) (left-none (a .texts .now) (a .lengths .now) (l .k) (l .from) h) (l .inv .5))
+    (omega (arith, l .inv .3, none-size (a .texts .now) (a .lengths .now) (l .k) (l .from) h), λ e. known-end (l .sizes) (l .k) (passedValues (a .texts .now) (a .lengths .now)) (left (a .texts .now) (a .lengths .now) (l .k) (l .from)) (left-none (a .texts .now) (a .lengths .now) (l .k) (l .from) h) (l .inv .5))
 
 pub row-size-spec : {M : Type 1} → statement M
 row-size-spec =

@@ -6,8 +6,8 @@ use Prim.Native.Nat.{ℕ, _≤_, _<_, _-_, _+_}
 use native.Mathlib.Omega.{arith}
 use lib.ListN.{length, take, drop, length-set}
 use lib.Seq.{sets, length-sets}
-use Rattle.csv.specs.Write.{fieldOf, rowOf, behind}
-use Rattle.row.specs.Write.{handed}
+use Rattle.csv.specs.Write.{fieldOf, rowOf, delimiter}
+use Rattle.row.specs.Write.{passedValues}
 use Rattle.row.specs.Steps.{Sizes}
 use borrow.Author.Needs.{needs}
 use Rattle.row.proofs.Laws.{left, left-turn, left-behind, size-turn, value-size, put-turn, none-sets, sizes-turn}
@@ -15,7 +15,7 @@ use Rattle.row.proofs.write.put_row.Statement.{statement}
 use Rattle.row.proofs.write.put_row.Tie as tie
 
 abbrev Inv-loop : tie.InvT-loop
-Inv-loop texts lengths sizes out₀ to₀ from₀ k₀ out to from k = (k ≤ length lengths) × (from ≤ length texts) × (length out ≡ length out₀) × (to + length (rowOf (left texts lengths k from)) ≤ length out) × (sets out₀ 0 (rowOf (handed texts lengths)) ≡ sets out to (rowOf (left texts lengths k from))) × Sizes sizes k (left texts lengths k from)
+Inv-loop texts lengths sizes out₀ to₀ from₀ k₀ out to from k = (k ≤ length lengths) × (from ≤ length texts) × (length out ≡ length out₀) × (to + length (rowOf (left texts lengths k from)) ≤ length out) × (sets out₀ 0 (rowOf (passedValues texts lengths)) ≡ sets out to (rowOf (left texts lengths k from))) × Sizes sizes k (left texts lengths k from)
 
 abbrev μ-loop : tie.MeasureT-loop
 μ-loop texts lengths sizes out₀ to₀ from₀ k₀ out to from k = length lengths - k
@@ -134,7 +134,7 @@ loop-again c =
     let f = c .before .before .before .put-field .ensures in
     let m : length (sets (l .out) (l .to) (fieldOf v)) ≡ length (a .out .now) = length-sets (l .out) (l .to) (fieldOf v) ∙ l .inv .2 in
     let d = left-behind (a .texts .now) (a .lengths .now) (l .k + 1) (l .from + n) (omega arith) in
-    let g = length-set (sets (l .out) (l .to) (fieldOf v)) (l .to + length (fieldOf v)) (behind (left (a .texts .now) (a .lengths .now) (l .k + 1) (l .from + n))) in
+    let g = length-set (sets (l .out) (l .to) (fieldOf v)) (l .to + length (fieldOf v)) (delimiter (left (a .texts .now) (a .lengths .now) (l .k + 1) (l .from + n))) in
     rw (f, s .0, c .end-byte .ensures, d)
     (omega arith, omega (arith, q), g ∙ m, omega (arith, l .inv .3, z, g, m, l .inv .2), l .inv .4 ∙ put-turn (a .texts .now) (a .lengths .now) (l .k) (l .from) n h (l .inv .1) q (l .out) (l .to), s .1)
 
