@@ -154,21 +154,21 @@ fn write_header(w: Writer, region: &mut [u8], b: Bank) -> Step
 pub fn commit(w: Writer, region: &mut [u8], stamp: Stamp, current: bool) -> Step
     ensures { λ r. ⌜ (r ≡ Commit.commitStep (now (region .entry)) w stamp current) × (now (region .exit) ≡ Commit.commitRegion (now (region .entry)) w stamp current) ⌝ }
 {
-    if region.len() == REGION_SIZE {
-        if may_commit(w) {
-            if is_current(w, current) {
-                let b = bank_for(w, stamp);
-                let ss = w.sources;
-                if fit(b, ss) {
-                    return write_header(w, region, b);
-                }
-                return stays(w, Refusal::Unfit);
-            }
-            return stays(w, Refusal::Obsolete);
-        }
+    if region.len() != REGION_SIZE {
+        return stays(w, Refusal::Region);
+    }
+    if !may_commit(w) {
         return stays(w, Refusal::Turn);
     }
-    stays(w, Refusal::Region)
+    if !is_current(w, current) {
+        return stays(w, Refusal::Obsolete);
+    }
+    let b = bank_for(w, stamp);
+    let ss = w.sources;
+    if !fit(b, ss) {
+        return stays(w, Refusal::Unfit);
+    }
+    write_header(w, region, b)
 }
 
 fn is_header_written(s: Stage) -> bool
@@ -215,11 +215,11 @@ fn write_word(w: Writer, region: &mut [u8]) -> Step
 pub fn commit_word(w: Writer, region: &mut [u8]) -> Step
     ensures { λ r. ⌜ (r ≡ Commit.wordStep (now (region .entry)) w) × (now (region .exit) ≡ Commit.wordRegion (now (region .entry)) w) ⌝ }
 {
-    if region.len() == REGION_SIZE {
-        if may_write_word(w) {
-            return write_word(w, region);
-        }
+    if region.len() != REGION_SIZE {
+        return stays(w, Refusal::Region);
+    }
+    if !may_write_word(w) {
         return stays(w, Refusal::Turn);
     }
-    stays(w, Refusal::Region)
+    write_word(w, region)
 }

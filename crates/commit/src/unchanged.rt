@@ -119,15 +119,15 @@ fn same_answer(same: bool) -> Answer
 pub fn unchanged(w: Writer, region: &[u8]) -> Step
     ensures { λ r. ⌜ r ≡ Unchanged.unchangedStep (now (region .entry)) w ⌝ }
 {
-    if region.len() == REGION_SIZE {
-        if may_ask(w) {
-            let b = w.beginning;
-            let l = b.active;
-            let same = is_unchanged(region, w, l);
-            let answer = same_answer(same);
-            return Step { answer, writer: w };
-        }
+    if region.len() != REGION_SIZE {
+        return stays(w, Refusal::Region);
+    }
+    if !may_ask(w) {
         return stays(w, Refusal::Turn);
     }
-    stays(w, Refusal::Region)
+    let b = w.beginning;
+    let l = b.active;
+    let same = is_unchanged(region, w, l);
+    let answer = same_answer(same);
+    Step { answer, writer: w }
 }

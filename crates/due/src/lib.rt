@@ -225,13 +225,13 @@ fn do_due(p: Parts, region: &mut [u8]) -> PartsStep
     let t = p.taken;
     let x = p.tables;
     let s = p.stage;
-    if region.len() == REGION_SIZE {
-        if parts_in_range(b, t, x, s) {
-            return in_stage(p, region);
-        }
+    if region.len() != REGION_SIZE {
+        return parts_stay(p, Refusal::Region);
+    }
+    if !parts_in_range(b, t, x, s) {
         return parts_stay(p, Refusal::Turn);
     }
-    parts_stay(p, Refusal::Region)
+    in_stage(p, region)
 }
 
 // Does the operation that is due, one a call. Parts that it leaves unchanged come from p itself, which saves copies.

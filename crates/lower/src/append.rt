@@ -112,13 +112,14 @@ fn append_any(p: Parts, offered: &[u8]) -> Took
     ensures { λ r. ⌜ (r .n ≤ length (now (offered .entry))) × (r .at + r .n ≤ tailSize) × ((ss : List Source) → stepWith (stepTook p r (now (offered .entry))) ss ≡ Lower.bytesStep (withSources p ss) (now (offered .entry))) ⌝ }
 {
     let t = p.taken;
-    if may_append_parts(p) {
-        if offered.len() <= CAPACITY - (t.written + t.fill) as usize {
-            return append_some(p, offered);
-        }
+    if !may_append_parts(p) {
+        return none_taken(p, Answer::Refused(Refusal::Turn));
+    }
+    let free = CAPACITY - (t.written + t.fill) as usize;
+    if free < offered.len() {
         return none_taken(p, Answer::Refused(Refusal::Full));
     }
-    none_taken(p, Answer::Refused(Refusal::Turn))
+    append_some(p, offered)
 }
 
 // Appends bytes until the tail is full, and says how many; the sources stay unchanged. The tail is built once, whatever the answer,

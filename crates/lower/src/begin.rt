@@ -92,9 +92,9 @@ fn with_closed(w: Writer) -> Writer
 pub fn close(w: Writer) -> Step
     ensures { λ r. ⌜ r ≡ Lower.closeStep w ⌝ }
 {
-    if may_append(w) & !is_open(w.tables) {
-        let v = with_closed(w);
-        return did(v);
+    if !may_append(w) | is_open(w.tables) {
+        return stays(w, Refusal::Turn);
     }
-    stays(w, Refusal::Turn)
+    let v = with_closed(w);
+    did(v)
 }

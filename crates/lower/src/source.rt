@@ -55,12 +55,12 @@ pub fn source(w: Writer, s: Source) -> Step
     ensures { λ r. ⌜ r ≡ Lower.sourceStep w s ⌝ }
 {
     let x = w.tables;
-    if may_append(w) & !is_open(x) {
-        if x.count < SOURCES_32 {
-            let v = with_source(w, s);
-            return did(v);
-        }
+    if !may_append(w) | is_open(x) {
+        return stays(w, Refusal::Turn);
+    }
+    if SOURCES_32 <= x.count {
         return stays(w, Refusal::Full);
     }
-    stays(w, Refusal::Turn)
+    let v = with_source(w, s);
+    did(v)
 }

@@ -41,14 +41,14 @@ fn with_table(w: Writer, table: u32) -> Writer
 pub fn table(w: Writer, table: u32) -> Step
     ensures { λ r. ⌜ r ≡ Lower.tableStep w table ⌝ }
 {
-    if table <= LAST_TABLE {
-        if may_append(w) & may_begin(w.tables, table) {
-            let v = with_table(w, table);
-            return did(v);
-        }
+    if LAST_TABLE < table {
+        return stays(w, Refusal::Argument);
+    }
+    if !may_append(w) | !may_begin(w.tables, table) {
         return stays(w, Refusal::Turn);
     }
-    stays(w, Refusal::Argument)
+    let v = with_table(w, table);
+    did(v)
 }
 
 fn with_block(s: Source, table: u32, b: Block) -> Source
@@ -91,9 +91,9 @@ fn with_end(w: Writer) -> Writer
 pub fn end(w: Writer) -> Step
     ensures { λ r. ⌜ r ≡ Lower.endStep w ⌝ }
 {
-    if may_append(w) & is_open(w.tables) {
-        let v = with_end(w);
-        return did(v);
+    if !may_append(w) | !is_open(w.tables) {
+        return stays(w, Refusal::Turn);
     }
-    stays(w, Refusal::Turn)
+    let v = with_end(w);
+    did(v)
 }

@@ -1,16 +1,16 @@
 -- The upper calls, case by case, as the definitions nest their tests; that a run of due calls and a lower call is the call's run; and that
 -- the bytes made here (dates, names line, row, key) are the definition's, in whatever buffer.
 use mathlib.Core.Path.{_≡_, refl, sym, ap, _∙_}
-use mathlib.Core.Bool.{Bool, true, false, not, _&&_}
+use mathlib.Core.Bool.{Bool, true, false, not, _&&_, _||_}
 use mathlib.Core.List.{List, [], _∷_, _++_}
 use mathlib.Core.Option.{Option, none, some}
 use Prim.Native.Nat.{ℕ, zero, suc, _+_, _*_, _/_, _%_, _≤_, _<_}
 use native.Mathlib.Omega.{arith}
-use lib.Dec.{leb, eqb}
+use lib.Dec.{leb, ltb, eqb}
 use lib.IntN.{ℤ}
 use lib.ListN.{length, take, drop, replicate}
 use lib.Seq.{take-at}
-use borrow.Author.Tests.{eq-eqb, ne-eqb, le-leb, lt-leb, leb-true}
+use borrow.Author.Tests.{eq-eqb, ne-eqb, le-leb, lt-leb, leb-true, leb-false, lt-ltb, le-ltb}
 use Rattle.base.specs.Number.{pick}
 use Rattle.refusal.specs.declared.Refusal.{Refusal}
 use Rattle.refusal.specs.declared.Refusal.the-variants.{Region, Argument, Identity, Small, Full, Turn, Row}
@@ -28,6 +28,7 @@ use Rattle.row.specs.Columns.{columnCount, columnsOf, columns, line, namesLine}
 use Rattle.csv.specs.Write.{rowOf}
 use Rattle.row.specs.Write.{within, after, passedValues, namesAnswer, rowAnswer}
 use Rattle.record.specs.declared.Source.{Source}
+use Rattle.header.specs.Header.{maxSources}
 use Rattle.region.specs.Region.{regionSize, capacity}
 use Rattle.base.proofs.Bools.{and-left, and-right, both-true}
 use Rattle.bank.specs.declared.Loaded.the-variants.{Refused as NotRead}
@@ -127,6 +128,27 @@ pub none-fits : (w : Writer) (b : Bool) → (mayAppend w && b) ≡ true → leb 
 none-fits w b e =
     let m = and-left (mayAppend w) b e in
     le-leb (position (w .taken) + 0) capacity (omega (arith, position-fits (w .taken) (ranged w (and-left (inRange w) (not (w .taken .closed)) m) .taken)))
+
+-- ---- the guard of a source: there are as many as there may be, or its dates don't fit
+
+ltb-not : (n m : ℕ) (b : Bool) → leb m n ≡ b → ltb n m ≡ not b
+ltb-not n m true e = le-ltb n m (leb-true m n e)
+ltb-not n m false e = lt-ltb n m (leb-false m n e)
+
+opposite : (a b x : Bool) → (a || not b) ≡ x → (not a && b) ≡ not x
+opposite true b x e = λ i. not (e i)
+opposite false true x e = λ i. not (e i)
+opposite false false x e = λ i. not (e i)
+
+module _ (n : ℕ) {b y : Bool} (q : y ≡ b) where
+  source-test : (ltb n maxSources && b) ≡ (not (leb maxSources n) && y)
+  source-test = λ i. ltb-not n maxSources (leb maxSources n) refl i && sym q i
+
+  pub source-fits : (leb maxSources n || not y) ≡ false → (ltb n maxSources && b) ≡ true
+  source-fits h = source-test ∙ opposite (leb maxSources n) y false h
+
+  pub source-full : (leb maxSources n || not y) ≡ true → (ltb n maxSources && b) ≡ false
+  source-full h = source-test ∙ opposite (leb maxSources n) y true h
 
 -- ---- the bytes of a call
 

@@ -99,10 +99,10 @@ pub fn begin(
 ) -> Step
     ensures { λ r. ⌜ (r ≡ Upper.beginStep (now (region .entry)) comparing at (now (identity .entry)) (now (texts .entry)) (now (lengths .entry))) × (now (region .exit) ≡ Upper.beginRegion (now (region .entry)) comparing at (now (identity .entry)) (now (texts .entry)) (now (lengths .entry))) ⌝ }
 {
-    if region.len() == REGION_SIZE {
-        return begin_in(region, comparing, at, identity, texts, lengths);
+    if region.len() != REGION_SIZE {
+        return refuse(comparing, at, Refusal::Region);
     }
-    refuse(comparing, at, Refusal::Region)
+    begin_in(region, comparing, at, identity, texts, lengths)
 }
 
 // The run of a closing.
@@ -118,12 +118,12 @@ fn run_close(w: Writer, region: &mut [u8]) -> Writer
 pub fn close(w: Writer, region: &mut [u8]) -> Step
     ensures { λ r. ⌜ (r ≡ Upper.upperStep (now (region .entry)) w Upper.closing) × (now (region .exit) ≡ Upper.upperRegion (now (region .entry)) w Upper.closing) ⌝ }
 {
-    if region.len() == REGION_SIZE {
-        if may_append(w) & !is_open(w.tables) {
-            let v = run_close(w, region);
-            return did(v);
-        }
+    if region.len() != REGION_SIZE {
+        return stays(w, Refusal::Region);
+    }
+    if !may_append(w) | is_open(w.tables) {
         return stays(w, Refusal::Turn);
     }
-    stays(w, Refusal::Region)
+    let v = run_close(w, region);
+    did(v)
 }

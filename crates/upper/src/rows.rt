@@ -49,11 +49,11 @@ fn long_row(p: Parts, region: &mut [u8], texts: &[u8], lengths: &[u32]) -> Parts
     let RowAnswer::Written(n) = a else {
         return parts_stay(p, Refusal::Row);
     };
-    if fits(p.taken, n) {
-        let v = run_row(p, region, &out, n);
-        return parts_did(v);
+    if !fits(p.taken, n) {
+        return parts_stay(p, Refusal::Full);
     }
-    parts_stay(p, Refusal::Full)
+    let v = run_row(p, region, &out, n);
+    parts_did(v)
 }
 
 // The same, with a buffer of 512 bytes, which is faster; a row that isn't written there is left to `long_row`.
@@ -67,24 +67,24 @@ fn row_in(p: Parts, region: &mut [u8], texts: &[u8], lengths: &[u32]) -> PartsSt
     let RowAnswer::Written(n) = a else {
         return long_row(p, region, texts, lengths);
     };
-    if fits(p.taken, n) {
-        let q = run_row(p, region, &out, n);
-        return parts_did(q);
+    if !fits(p.taken, n) {
+        return parts_stay(p, Refusal::Full);
     }
-    parts_stay(p, Refusal::Full)
+    let q = run_row(p, region, &out, n);
+    parts_did(q)
 }
 
 // Appends a row of the open table: its values joined, and their lengths. The sources stay unchanged.
 pub fn row_parts(p: Parts, region: &mut [u8], texts: &[u8], lengths: &[u32]) -> PartsStep
     ensures { λ r. ⌜ ((ss : List Source) → (stepWith r ss ≡ Upper.upperStep (now (region .entry)) (withSources p ss) (Upper.row (now (texts .entry)) (now (lengths .entry)))) × (now (region .exit) ≡ Upper.upperRegion (now (region .entry)) (withSources p ss) (Upper.row (now (texts .entry)) (now (lengths .entry))))) ⌝ }
 {
-    if region.len() == REGION_SIZE {
-        if may_append_parts(p) & is_open(p.tables) {
-            return row_in(p, region, texts, lengths);
-        }
+    if region.len() != REGION_SIZE {
+        return parts_stay(p, Refusal::Region);
+    }
+    if !may_append_parts(p) | !is_open(p.tables) {
         return parts_stay(p, Refusal::Turn);
     }
-    parts_stay(p, Refusal::Region)
+    row_in(p, region, texts, lengths)
 }
 
 // Appends a row of the open table.

@@ -44,15 +44,15 @@ pub fn source(w: Writer, region: &mut [u8], s: Source) -> Step
     ensures { λ r. ⌜ (r ≡ Upper.upperStep (now (region .entry)) w (Upper.sourceWithDates s)) × (now (region .exit) ≡ Upper.upperRegion (now (region .entry)) w (Upper.sourceWithDates s)) ⌝ }
 {
     let x = w.tables;
-    if region.len() == REGION_SIZE {
-        if may_append(w) & !is_open(x) {
-            if (x.count < SOURCES_32) & fits(w.taken, 8) {
-                let v = run_source(w, region, s);
-                return did(v);
-            }
-            return stays(w, Refusal::Full);
-        }
+    if region.len() != REGION_SIZE {
+        return stays(w, Refusal::Region);
+    }
+    if !may_append(w) | is_open(x) {
         return stays(w, Refusal::Turn);
     }
-    stays(w, Refusal::Region)
+    if (SOURCES_32 <= x.count) | !fits(w.taken, 8) {
+        return stays(w, Refusal::Full);
+    }
+    let v = run_source(w, region, s);
+    did(v)
 }

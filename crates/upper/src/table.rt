@@ -40,14 +40,14 @@ fn run_end(w: Writer, region: &mut [u8]) -> Writer
 pub fn end(w: Writer, region: &mut [u8]) -> Step
     ensures { λ r. ⌜ (r ≡ Upper.upperStep (now (region .entry)) w Upper.tableEnd) × (now (region .exit) ≡ Upper.upperRegion (now (region .entry)) w Upper.tableEnd) ⌝ }
 {
-    if region.len() == REGION_SIZE {
-        if may_append(w) & is_open(w.tables) {
-            let v = run_end(w, region);
-            return did(v);
-        }
+    if region.len() != REGION_SIZE {
+        return stays(w, Refusal::Region);
+    }
+    if !may_append(w) | !is_open(w.tables) {
         return stays(w, Refusal::Turn);
     }
-    stays(w, Refusal::Region)
+    let v = run_end(w, region);
+    did(v)
 }
 
 // A table's names line is in the first n bytes.
@@ -83,21 +83,21 @@ fn run_table(w: Writer, region: &mut [u8], table: u32, names: [u8; NAMES_SIZE], 
 pub fn table(w: Writer, region: &mut [u8], table: u32) -> Step
     ensures { λ r. ⌜ (r ≡ Upper.upperStep (now (region .entry)) w (Upper.tableWithNames table)) × (now (region .exit) ≡ Upper.upperRegion (now (region .entry)) w (Upper.tableWithNames table)) ⌝ }
 {
-    if region.len() == REGION_SIZE {
-        if table <= LAST_TABLE {
-            if may_append(w) & may_begin(w.tables, table) {
-                let l = names(table);
-                let n = l.n;
-                let bytes = l.bytes;
-                if fits(w.taken, n) {
-                    let v = run_table(w, region, table, bytes, n);
-                    return did(v);
-                }
-                return stays(w, Refusal::Full);
-            }
-            return stays(w, Refusal::Turn);
-        }
+    if region.len() != REGION_SIZE {
+        return stays(w, Refusal::Region);
+    }
+    if LAST_TABLE < table {
         return stays(w, Refusal::Argument);
     }
-    stays(w, Refusal::Region)
+    if !may_append(w) | !may_begin(w.tables, table) {
+        return stays(w, Refusal::Turn);
+    }
+    let l = names(table);
+    let n = l.n;
+    let bytes = l.bytes;
+    if !fits(w.taken, n) {
+        return stays(w, Refusal::Full);
+    }
+    let v = run_table(w, region, table, bytes, n);
+    did(v)
 }

@@ -12,6 +12,7 @@ use Rattle.run.specs.Run.{ranWriter, ranRegion}
 use Rattle.run.specs.Appends.{dues, appends}
 use Rattle.upper.specs.Upper.{row, taken, runOf}
 use Rattle.upper.proofs.Laws.{row-not, row-written, row-length, row-there, upper-done, upper-full, upper-row}
+use borrow.Author.Tests.{not-true, not-false}
 use borrow.Author.Needs.{needs}
 use Rattle.upper.proofs.rows.long_row.Statement.{statement}
 use Rattle.upper.proofs.rows.long_row.Tie as tie
@@ -44,6 +45,22 @@ returns c = λ ss.
 fits-requires : tie.Need-fits-requires
 fits-requires c κs = search needs
 
+parts-stay-requires-2 : tie.Need-parts-stay-requires-2
+parts-stay-requires-2 c κs = search needs
+
+returns-2 : tie.Need-returns-2
+unfolding taken
+returns-2 c = λ ss.
+    let r = c .before .before .before .before .before .before .before in
+    let s = r .before .before .before .before .before .before in
+    let y = s .args in
+    let t = c .before in
+    let f = t .before in
+    let n = f .before .before .a .given in
+    let w = row-written (y .p .tables .table) (y .texts .now) (y .lengths .now) (replicate maxRow 0) (r .row .last .1 .1 .1 .0) (r .row .result) (s .pre .2) (r .row .ensures .0) (r .row .ensures .1) (n .0 .0) (n .1) in
+    let d = upper-full (y .region .now) (withSources (y .p) ss) (row (y .texts .now) (y .lengths .now)) (s .pre .0) refl (s .pre .1 ss) (w .0) (ap (λ (k : ℕ). leb (position (y .p .taken) + k) capacity) (sym (w .1)) ∙ sym (f .fits2 .ensures) ∙ not-true _ (t .if1 .taken)) in
+    (ap (λ (z : PartsStep). stepWith z ss) (c .parts-stay2 .ensures) ∙ d .0, d .1)
+
 slice-aggregate-run-row : tie.Need-slice-aggregate-run-row
 slice-aggregate-run-row c = search needs
 
@@ -62,9 +79,9 @@ parts-did-requires c κs = search needs
 same-length : tie.Need-same-length
 same-length c = search needs
 
-returns-2 : tie.Need-returns-2
+returns-3 : tie.Need-returns-3
 unfolding taken runOf
-returns-2 c = λ ss.
+returns-3 c = λ ss.
     let r = c .before .before .before .before .before .before .before .before .before .before .before .before in
     let s = r .before .before .before .before .before .before in
     let y = s .args in
@@ -76,28 +93,12 @@ returns-2 c = λ ss.
     let b = row-there (y .p .tables .table) (y .texts .now) (y .lengths .now) (replicate maxRow 0) (r .row .last .1 .1 .1 .0) (r .row .result) (s .pre .2) (r .row .ensures .0) (r .row .ensures .1) (n .0 .0) (n .1) in
     let d =
     upper-done (y .region .now) (withSources (y .p) ss) (row (y .texts .now) (y .lengths .now)) (s .pre .0) refl (s .pre .1 ss) (w .0)
-    (ap (λ (k : ℕ). leb (position (y .p .taken) + k) capacity) (sym (w .1)) ∙ sym (f .fits2 .ensures) ∙ t .if1 .taken)
+    (ap (λ (k : ℕ). leb (position (y .p .taken) + k) capacity) (sym (w .1)) ∙ sym (f .fits2 .ensures) ∙ not-false _ (t .if1 .left))
     (withSources (x .run-row .result) ss)
     (x .run-row .last .1 .0)
     (x .run-row .ensures ss .0 ∙ ap (λ (l : List ℕ). ranWriter (y .region .now) (withSources (y .p) ss) (dues ++ (dues ++ appends l))) b)
     (x .run-row .ensures ss .1 ∙ ap (λ (l : List ℕ). ranRegion (y .region .now) (withSources (y .p) ss) (dues ++ (dues ++ appends l))) b) in
     (ap (λ (z : PartsStep). stepWith z ss) (c .parts-did .ensures) ∙ d .0, d .1)
-
-parts-stay-requires-2 : tie.Need-parts-stay-requires-2
-parts-stay-requires-2 c κs = search needs
-
-returns-3 : tie.Need-returns-3
-unfolding taken
-returns-3 c = λ ss.
-    let r = c .before .before .before .before .before .before .before in
-    let s = r .before .before .before .before .before .before in
-    let y = s .args in
-    let t = c .before in
-    let f = t .before in
-    let n = f .before .before .a .given in
-    let w = row-written (y .p .tables .table) (y .texts .now) (y .lengths .now) (replicate maxRow 0) (r .row .last .1 .1 .1 .0) (r .row .result) (s .pre .2) (r .row .ensures .0) (r .row .ensures .1) (n .0 .0) (n .1) in
-    let d = upper-full (y .region .now) (withSources (y .p) ss) (row (y .texts .now) (y .lengths .now)) (s .pre .0) refl (s .pre .1 ss) (w .0) (ap (λ (k : ℕ). leb (position (y .p .taken) + k) capacity) (sym (w .1)) ∙ sym (f .fits2 .ensures) ∙ t .if1 .left) in
-    (ap (λ (z : PartsStep). stepWith z ss) (c .parts-stay2 .ensures) ∙ d .0, d .1)
 
 pub long-row-spec : {M : Type 1} → statement M
 long-row-spec =
@@ -110,10 +111,10 @@ long-row-spec =
     parts-stay-requires
     returns
     fits-requires
+    parts-stay-requires-2
+    returns-2
     slice-aggregate-run-row
     run-row-requires
     parts-did-requires
     same-length
-    returns-2
-    parts-stay-requires-2
     returns-3)

@@ -13,6 +13,7 @@ use Rattle.run.specs.Run.{ranWriter, ranRegion}
 use Rattle.run.specs.Appends.{dues, appends}
 use Rattle.upper.specs.Upper.{row, taken, runOf}
 use Rattle.upper.proofs.Laws.{row-written, row-length, row-there, upper-done, upper-full}
+use borrow.Author.Tests.{not-true, not-false}
 use borrow.Author.Needs.{needs}
 use Rattle.upper.proofs.rows.row_in.Statement.{statement}
 use Rattle.upper.proofs.rows.row_in.Tie as tie
@@ -46,6 +47,22 @@ returns c =
 fits-requires : tie.Need-fits-requires
 fits-requires c κs = search needs
 
+parts-stay-requires : tie.Need-parts-stay-requires
+parts-stay-requires c κs = search needs
+
+returns-2 : tie.Need-returns-2
+unfolding taken
+returns-2 c = λ ss.
+    let r = c .before .before .before .before .before .before .before in
+    let s = r .before .before .before .before .before .before in
+    let y = s .args in
+    let t = c .before in
+    let f = t .before in
+    let n = f .before .before .a .given in
+    let w = row-written (y .p .tables .table) (y .texts .now) (y .lengths .now) (replicate 512 0) (r .row .last .1 .1 .1 .0) (r .row .result) (s .pre .2) (r .row .ensures .0) (r .row .ensures .1) (n .0 .0) (n .1) in
+    let d = upper-full (y .region .now) (withSources (y .p) ss) (row (y .texts .now) (y .lengths .now)) (s .pre .0) refl (s .pre .1 ss) (w .0) (ap (λ (k : ℕ). leb (position (y .p .taken) + k) capacity) (sym (w .1)) ∙ sym (f .fits2 .ensures) ∙ not-true _ (t .if1 .taken)) in
+    (ap (λ (z : PartsStep). stepWith z ss) (c .parts-stay .ensures) ∙ d .0, d .1)
+
 slice-aggregate-run-row : tie.Need-slice-aggregate-run-row
 slice-aggregate-run-row c = search needs
 
@@ -64,9 +81,9 @@ parts-did-requires c κs = search needs
 same-length-2 : tie.Need-same-length-2
 same-length-2 c = search needs
 
-returns-2 : tie.Need-returns-2
+returns-3 : tie.Need-returns-3
 unfolding taken runOf
-returns-2 c = λ ss.
+returns-3 c = λ ss.
     let r = c .before .before .before .before .before .before .before .before .before .before .before .before in
     let s = r .before .before .before .before .before .before in
     let y = s .args in
@@ -78,28 +95,12 @@ returns-2 c = λ ss.
     let b = row-there (y .p .tables .table) (y .texts .now) (y .lengths .now) (replicate 512 0) (r .row .last .1 .1 .1 .0) (r .row .result) (s .pre .2) (r .row .ensures .0) (r .row .ensures .1) (n .0 .0) (n .1) in
     let d =
     upper-done (y .region .now) (withSources (y .p) ss) (row (y .texts .now) (y .lengths .now)) (s .pre .0) refl (s .pre .1 ss) (w .0)
-    (ap (λ (k : ℕ). leb (position (y .p .taken) + k) capacity) (sym (w .1)) ∙ sym (f .fits2 .ensures) ∙ t .if1 .taken)
+    (ap (λ (k : ℕ). leb (position (y .p .taken) + k) capacity) (sym (w .1)) ∙ sym (f .fits2 .ensures) ∙ not-false _ (t .if1 .left))
     (withSources (x .run-row .result) ss)
     (x .run-row .last .1 .0)
     (x .run-row .ensures ss .0 ∙ ap (λ (l : List ℕ). ranWriter (y .region .now) (withSources (y .p) ss) (dues ++ (dues ++ appends l))) b)
     (x .run-row .ensures ss .1 ∙ ap (λ (l : List ℕ). ranRegion (y .region .now) (withSources (y .p) ss) (dues ++ (dues ++ appends l))) b) in
     (ap (λ (z : PartsStep). stepWith z ss) (c .parts-did .ensures) ∙ d .0, d .1)
-
-parts-stay-requires : tie.Need-parts-stay-requires
-parts-stay-requires c κs = search needs
-
-returns-3 : tie.Need-returns-3
-unfolding taken
-returns-3 c = λ ss.
-    let r = c .before .before .before .before .before .before .before in
-    let s = r .before .before .before .before .before .before in
-    let y = s .args in
-    let t = c .before in
-    let f = t .before in
-    let n = f .before .before .a .given in
-    let w = row-written (y .p .tables .table) (y .texts .now) (y .lengths .now) (replicate 512 0) (r .row .last .1 .1 .1 .0) (r .row .result) (s .pre .2) (r .row .ensures .0) (r .row .ensures .1) (n .0 .0) (n .1) in
-    let d = upper-full (y .region .now) (withSources (y .p) ss) (row (y .texts .now) (y .lengths .now)) (s .pre .0) refl (s .pre .1 ss) (w .0) (ap (λ (k : ℕ). leb (position (y .p .taken) + k) capacity) (sym (w .1)) ∙ sym (f .fits2 .ensures) ∙ t .if1 .left) in
-    (ap (λ (z : PartsStep). stepWith z ss) (c .parts-stay .ensures) ∙ d .0, d .1)
 
 pub row-in-spec : {M : Type 1} → statement M
 row-in-spec =
@@ -113,10 +114,10 @@ row-in-spec =
     same-length
     returns
     fits-requires
+    parts-stay-requires
+    returns-2
     slice-aggregate-run-row
     run-row-requires
     parts-did-requires
     same-length-2
-    returns-2
-    parts-stay-requires
     returns-3)
