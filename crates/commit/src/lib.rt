@@ -54,7 +54,7 @@ pub fn is_idle(s: Stage) -> bool
     }
 }
 
-fn headed(w: Writer) -> Writer
+fn with_header_written(w: Writer) -> Writer
     ensures { λ r. ⌜ r ≡ Due.withStage w Stages.HeaderWritten ⌝ }
 {
     Writer {
@@ -146,7 +146,7 @@ fn write_header(w: Writer, region: &mut [u8], b: Bank) -> Step
     let ss = w.sources;
     let bytes = header_bytes(b, ss);
     write(region, b.number, 0, &bytes);
-    let v = headed(w);
+    let v = with_header_written(w);
     did(v)
 }
 

@@ -21,8 +21,8 @@ slice-aggregate-write c = search needs
 write-requires : tie.Need-write-requires
 write-requires c κs = search needs
 
-headed-requires : tie.Need-headed-requires
-headed-requires c κs = search needs
+with-header-written-requires : tie.Need-with-header-written-requires
+with-header-written-requires c κs = search needs
 
 did-requires : tie.Need-did-requires
 did-requires c κs = search needs
@@ -37,7 +37,7 @@ returns c =
     let s = h .before .before .before in
     let a = s .args in
     let k : length (h .header-bytes .result) ≡ 1200 = search needs in (
-      c .did .ensures ∙ ap did (c .before .headed .ensures),
+      c .did .ensures ∙ ap did (c .before .with-header-written .ensures),
       v .write .ensures ∙ ap (λ (xs : List ℕ). writtenIn (a .region .now) (a .b .number) 0 xs) (h .header-bytes .ensures) ∙ one-op (a .region .now) (a .b .number) (write 0 (headerBytes (a .b) (take (a .b .count) (a .w .sources)) blankWord)) (s .pre .0) (s .pre .1) (omega (arith, k, ap length (h .header-bytes .ensures))),
     )
 
@@ -48,7 +48,7 @@ write-header-spec =
     header-bytes-requires
     slice-aggregate-write
     write-requires
-    headed-requires
+    with-header-written-requires
     did-requires
     same-length
     returns)

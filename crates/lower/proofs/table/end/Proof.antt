@@ -7,7 +7,7 @@ use Rattle.lower.specs.Lower.{mayAppend}
 use Rattle.writer.specs.State.{did}
 use Rattle.writer.specs.State.{isOpen, inRange, position}
 use Rattle.base.proofs.Bools.{and-left, and-right}
-use Rattle.lower.proofs.Guards.{one-fails, both-hold}
+use Rattle.base.proofs.Guards.{one-fails, both-hold}
 use borrow.Author.Needs.{needs}
 use Rattle.lower.proofs.table.end.Statement.{statement}
 use Rattle.lower.proofs.table.end.Tie as tie

@@ -7,7 +7,7 @@ use Rattle.lower.specs.Lower.{mayAppend, mayBegin}
 use Rattle.writer.specs.State.{did}
 use Rattle.writer.specs.State.{inRange}
 use Rattle.base.proofs.Bools.{and-left}
-use Rattle.lower.proofs.Guards.{one-fails, both-hold}
+use Rattle.base.proofs.Guards.{one-fails, both-hold}
 use borrow.Author.Needs.{needs}
 use Rattle.lower.proofs.table.table.Statement.{statement}
 use Rattle.lower.proofs.table.table.Tie as tie

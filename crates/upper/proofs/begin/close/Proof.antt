@@ -5,7 +5,7 @@ use native.Mathlib.Omega.{arith}
 use Rattle.writer.specs.State.{isOpen}
 use Rattle.upper.specs.Upper.{closing, taken}
 use Rattle.upper.proofs.Laws.{none-fits, upper-done, upper-turn, upper-region}
-use Rattle.lower.proofs.Guards.{one-fails-not, both-hold-not}
+use Rattle.base.proofs.Guards.{one-fails-not, both-hold-not}
 use borrow.Author.Needs.{needs}
 use Rattle.upper.proofs.begin.close.Statement.{statement}
 use Rattle.upper.proofs.begin.close.Tie as tie

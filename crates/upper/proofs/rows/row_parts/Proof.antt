@@ -7,7 +7,7 @@ use Rattle.writer.specs.declared.PartsStep.{PartsStep}
 use Rattle.writer.specs.Parts.{withSources, stepWith}
 use Rattle.upper.specs.Upper.{row}
 use Rattle.upper.proofs.Laws.{open-fits, upper-turn, upper-region}
-use Rattle.lower.proofs.Guards.{one-fails, both-hold}
+use Rattle.base.proofs.Guards.{one-fails, both-hold}
 use borrow.Author.Needs.{needs}
 use Rattle.upper.proofs.rows.row_parts.Statement.{statement}
 use Rattle.upper.proofs.rows.row_parts.Tie as tie

@@ -4,7 +4,7 @@ use native.Mathlib.Omega.{arith}
 use Rattle.leaf.specs.Bytes.{le32}
 use Rattle.upper.specs.Upper.{sourceWithDates, taken}
 use Rattle.upper.proofs.Laws.{source-fits, source-full, upper-done, upper-full, upper-turn, upper-region}
-use Rattle.lower.proofs.Guards.{one-fails-not, both-hold-not}
+use Rattle.base.proofs.Guards.{one-fails-not, both-hold-not}
 use borrow.Author.Needs.{needs}
 use Rattle.upper.proofs.source.source.Statement.{statement}
 use Rattle.upper.proofs.source.source.Tie as tie

@@ -4,7 +4,7 @@ use native.Mathlib.Omega.{arith}
 use Rattle.writer.specs.State.{isOpen}
 use Rattle.upper.specs.Upper.{tableEnd, taken}
 use Rattle.upper.proofs.Laws.{none-fits, upper-done, upper-turn, upper-region}
-use Rattle.lower.proofs.Guards.{one-fails, both-hold}
+use Rattle.base.proofs.Guards.{one-fails, both-hold}
 use borrow.Author.Needs.{needs}
 use Rattle.upper.proofs.table.end.Statement.{statement}
 use Rattle.upper.proofs.table.end.Tie as tie

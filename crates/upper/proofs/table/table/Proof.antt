@@ -10,7 +10,7 @@ use Rattle.run.specs.Run.{table, ranWriter, ranRegion}
 use Rattle.run.specs.Appends.{dues, appends}
 use Rattle.upper.specs.Upper.{tableWithNames, taken, runOf}
 use Rattle.upper.proofs.Laws.{upper-done, upper-full, upper-turn, upper-argument, upper-region}
-use Rattle.lower.proofs.Guards.{one-fails, both-hold}
+use Rattle.base.proofs.Guards.{one-fails, both-hold}
 use borrow.Author.Needs.{needs}
 use Rattle.upper.proofs.table.table.Statement.{statement}
 use Rattle.upper.proofs.table.table.Tie as tie
