@@ -14,16 +14,15 @@ fn sample(name: &str) -> Vec<u8> {
 }
 
 #[test]
-fn refusals_have_document_01s_numbers_and_words() {
-    let words =
-        "region argument mark seal span source data identity small full turn obsolete unfit row";
-    for (word, number) in words.split(' ').zip(1..) {
-        let refusal = Refusal::of(number).unwrap();
-        assert_eq!((refusal.number(), refusal.word()), (number, word));
-        assert_eq!(refusal.to_string(), format!("refusal {number} {word}"));
+fn refusals_have_their_numbers_and_words() {
+    for (refusal, number) in Refusal::ALL.into_iter().zip(1..) {
+        assert_eq!((Refusal::of(number), refusal.number()), (Some(refusal), number));
+        assert_eq!(refusal.to_string(), format!("refusal {number} {}", refusal.word()));
     }
+    assert_eq!((Refusal::Row.number(), Refusal::Row.word()), (14, "row"));
+    assert_eq!((Refusal::LastKeeper.number(), Refusal::LastKeeper.word()), (19, "last keeper"));
     assert_eq!(Refusal::of(0), None);
-    assert_eq!(Refusal::of(15), None);
+    assert_eq!(Refusal::of(24), None);
 }
 
 #[test]
