@@ -9,13 +9,38 @@ abbrev pub pick : {A : Type 0} → Bool → A → A → A
 pick true a b = a
 pick false a b = b
 
+-- the bits of a byte, of a word and of a long number
+abbrev pub byteBits : ℕ
+byteBits = 8
+
+abbrev pub wordBits : ℕ
+wordBits = 32
+
+abbrev pub longBits : ℕ
+longBits = 64
+
+-- how many values a byte has, and a word
+abbrev pub byteValues : ℕ
+byteValues = 256
+
+abbrev pub wordValues : ℕ
+wordValues = 2 ^ wordBits
+
+-- by how many bits the core rotates
+abbrev pub rotation : ℕ
+rotation = 13
+
+-- the largest signed 64-bit number; `negsuc` of it is the lowest
+abbrev pub maxSigned : ℕ
+maxSigned = 9223372036854775807
+
 -- the low 32 bits of a number
 abbrev pub wrap32 : ℕ → ℕ
-wrap32 n = n % 2 ^ 32
+wrap32 n = n % wordValues
 
 -- a - b, wrapping
 abbrev pub wrappingSub32 : ℕ → ℕ → ℕ
-wrappingSub32 a b = wrap32 (a + 2 ^ 32 - b)
+wrappingSub32 a b = wrap32 (a + wordValues - b)
 
 -- x, of n bits, read as signed in two's complement: below 2^(n - 1) it is x, from there on x - 2^n. `negsuc k` is -(k + 1).
 abbrev pub signed : ℕ → ℕ → ℤ
@@ -28,4 +53,4 @@ unsigned n (negsuc k) = 2 ^ n - suc k
 
 -- 32 bits rotated left by n
 abbrev pub rotateLeft32 : ℕ → ℕ → ℕ
-rotateLeft32 n x = wrap32 (x * 2 ^ n) + x / 2 ^ (32 - n)
+rotateLeft32 n x = wrap32 (x * 2 ^ n) + x / 2 ^ (wordBits - n)

@@ -2,25 +2,58 @@
 ghost use mathlib.Core.Path.{_≡_};
 ghost use Prim.Native.Nat.{_<_};
 ghost use lib.Signed.{leZ, ltZ};
-ghost use Rattle.base.specs.Number.{rotateLeft32};
+ghost use Rattle.base.specs.Number.{byteValues, wordValues, rotation, rotateLeft32};
+
+// How many values a byte has.
+pub const BYTE_VALUES: usize = 256;
+
+pub const BYTE_VALUES_32: u32 = BYTE_VALUES as u32;
+
+// The bits of a byte, and of a word.
+pub const BYTE_BITS: usize = 8;
+
+pub const BYTE_BITS_32: u32 = BYTE_BITS as u32;
+
+pub const WORD_BITS: u32 = 32;
+
+// What each byte of a 32-bit number but the first counts.
+pub const SECOND_BYTE: u32 = BYTE_VALUES_32;
+
+pub const THIRD_BYTE: u32 = SECOND_BYTE * BYTE_VALUES_32;
+
+pub const FOURTH_BYTE: u32 = THIRD_BYTE * BYTE_VALUES_32;
+
+pub const SECOND_BYTE_64: u64 = SECOND_BYTE as u64;
+
+pub const THIRD_BYTE_64: u64 = THIRD_BYTE as u64;
+
+pub const FOURTH_BYTE_64: u64 = FOURTH_BYTE as u64;
+
+// How many values a 32-bit number has: what the upper half of a 64-bit one counts.
+pub const WORD_VALUES: u64 = 4294967296;
+
+// x * 2^13, and x / 2^19: the two parts of a rotation by 13 bits.
+const UP_13: u32 = 8192;
+
+const DOWN_19: u32 = 524288;
 
 // A byte as a 32-bit number.
 pub fn wide(x: u8) -> u32
-    ensures { λ r. ⌜ (r ≡ x) × (r < 256) ⌝ }
+    ensures { λ r. ⌜ (r ≡ x) × (r < byteValues) ⌝ }
 {
     x as u32
 }
 
 // A byte as a 64-bit number.
 pub fn wide64(x: u8) -> u64
-    ensures { λ r. ⌜ (r ≡ x) × (r < 256) ⌝ }
+    ensures { λ r. ⌜ (r ≡ x) × (r < byteValues) ⌝ }
 {
     x as u64
 }
 
 // A 32-bit number as a 64-bit one.
 pub fn wider(n: u32) -> u64
-    ensures { λ r. ⌜ (r ≡ n) × (r < 4294967296) ⌝ }
+    ensures { λ r. ⌜ (r ≡ n) × (r < wordValues) ⌝ }
 {
     n as u64
 }
@@ -41,7 +74,7 @@ pub fn lt(a: i64, b: i64) -> bool
 
 // x rotated left by 13 bits.
 pub fn rotate13(x: u32) -> u32
-    ensures { λ r. ⌜ r ≡ rotateLeft32 13 x ⌝ }
+    ensures { λ r. ⌜ r ≡ rotateLeft32 rotation x ⌝ }
 {
-    x % 524288 * 8192 + x / 524288
+    x % DOWN_19 * UP_13 + x / DOWN_19
 }

@@ -3,10 +3,15 @@
 use mathlib.Core.List.{List, [], _∷_}
 use Prim.Native.Nat.{ℕ, zero, suc, _+_, _*_, _/_, _%_}
 use lib.Bits.{bitXor}
+use Rattle.base.specs.Number.{byteValues, byteBits}
 
--- one bit: 0xedb8_8320 is the generator without x^32, its highest term in the lowest bit
+-- the generator without x^32, its highest term in the lowest bit
+abbrev pub generator : ℕ
+generator = 0xedb8_8320
+
+-- one bit
 unfoldable pub step : ℕ → ℕ
-step r = bitXor (r / 2) (r % 2 * 0xedb8_8320)
+step r = bitXor (r / 2) (r % 2 * generator)
 
 unfoldable pub steps : ℕ → ℕ → ℕ
 steps zero r = r
@@ -15,9 +20,9 @@ steps (suc n) r = steps n (step r)
 -- the register after some bytes: each is added to its low bits, then eight steps are made
 unfoldable pub run : ℕ → List ℕ → ℕ
 run r [] = r
-run r (b ∷ bs) = run (steps 8 (bitXor r (b % 256))) bs
+run r (b ∷ bs) = run (steps byteBits (bitXor r (b % byteValues))) bs
 
 -- bytes as one little-endian number
 unfoldable pub little : List ℕ → ℕ
 little [] = 0
-little (b ∷ bs) = little bs * 256 + b % 256
+little (b ∷ bs) = little bs * byteValues + b % byteValues

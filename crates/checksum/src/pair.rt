@@ -4,11 +4,17 @@
 ghost use mathlib.Core.Path.{_≡_};
 ghost use Prim.Native.Nat.{_+_, _*_, _%_, _<_};
 ghost use Rattle.checksum.specs.Register.{steps, run};
-ghost use Rattle.checksum.specs.Shift.{Shifts};
+ghost use Rattle.checksum.specs.Pending.{nibbles, tableRows, nibbleBits};
+ghost use Rattle.checksum.specs.Shift.{Shifts, shiftSteps, firstSteps};
+use crate::register::ENTRIES;
+use crate::register::NIBBLES;
 use crate::register::feed;
 
+// How many bytes the table is for.
+const SHIFTED: usize = 256;
+
 // Entry 16 j + n is the nibble n after 2020 + 4 j steps.
-const TABLE: [u32; 128] = [
+const TABLE: [u32; ENTRIES] = [
     0,
     652652330,
     1305304660,
@@ -145,18 +151,18 @@ pub struct Both {
 }
 
 // The entry of the lowest nibble of x in a row of the table.
-fn look(t: &[u32; 128], row: u32, x: u32) -> u32
+fn look(t: &[u32; ENTRIES], row: u32, x: u32) -> u32
     requires { ⌜ Shifts (now t) ⌝ }
-    requires { ⌜ row < 8 ⌝ }
-    ensures { λ r. ⌜ r ≡ steps (2020 + 4 * row) (x % 16) ⌝ }
+    requires { ⌜ row < tableRows ⌝ }
+    ensures { λ r. ⌜ r ≡ steps (firstSteps + nibbleBits * row) (x % nibbles) ⌝ }
 {
-    t[(16 * row + x % 16) as usize]
+    t[(NIBBLES * row + x % NIBBLES) as usize]
 }
 
 // 2048 steps: how 256 bytes change the difference of two registers.
-fn shift(t: &[u32; 128], x: u32) -> u32
+fn shift(t: &[u32; ENTRIES], x: u32) -> u32
     requires { ⌜ Shifts (now t) ⌝ }
-    ensures { λ r. ⌜ r ≡ steps 2048 x ⌝ }
+    ensures { λ r. ⌜ r ≡ steps shiftSteps x ⌝ }
 {
     look(t, 7, x)
         ^ (look(t, 6, x >> 4)
@@ -174,7 +180,7 @@ pub fn feed_both(a: u32, b: u32, bytes: &[u8]) -> Both
     if a == b {
         return Both { a: x, b: x };
     }
-    if bytes.len() == 256 {
+    if bytes.len() == SHIFTED {
         let t = TABLE;
         let y = x ^ shift(&t, a ^ b);
         return Both { a: x, b: y };

@@ -6,13 +6,44 @@ ghost use mathlib.Core.Path.{_≡_};
 ghost use Prim.Native.Nat.{_+_, _*_, _%_, _^_, _≤_, _<_};
 ghost use lib.Bits.{bitXor};
 ghost use lib.ListN.{length, take, drop};
+ghost use Rattle.base.specs.Number.{byteValues, byteBits, wordValues, wordBits, longBits};
 ghost use Rattle.checksum.specs.Register.{steps, run, little};
+ghost use Rattle.checksum.specs.Pending.{Nibbles, two, three, five};
+ghost use Rattle.checksum.specs.Pending.{nibbles, tableRows, nibbleBits, longBytes, halfBytes};
+use base::number::FOURTH_BYTE_64;
+use base::number::SECOND_BYTE_64;
+use base::number::THIRD_BYTE_64;
+use base::number::WORD_VALUES;
 use base::number::wide64;
 use base::number::wider;
-ghost use Rattle.checksum.specs.Pending.{Nibbles, two, three, five};
+
+// The table has a row of 16 nibbles for each of 8 numbers of steps.
+pub(crate) const NIBBLES: u32 = 16;
+
+pub(crate) const ENTRIES: usize = 128;
+
+// The bytes of 64-bit words.
+const HALF_WORD: usize = 4;
+
+const ONE_WORD: usize = 8;
+
+const TWO_WORDS: usize = 2 * ONE_WORD;
+
+const THREE_WORDS: usize = 3 * ONE_WORD;
+
+const FOUR_WORDS: usize = 4 * ONE_WORD;
+
+const FIVE_WORDS: usize = 5 * ONE_WORD;
+
+const SEVEN_WORDS: usize = 7 * ONE_WORD;
+
+// From how many bytes on an input is folded, and two words at a time.
+const FOLDED_FROM: usize = 32;
+
+const FOLDED_BY_TWO_FROM: usize = 128;
 
 // Entry 16 j + n is the nibble n after 4 (j + 1) steps.
-const TABLE: [u32; 128] = [
+const TABLE: [u32; ENTRIES] = [
     0,
     498536548,
     997073096,
@@ -165,33 +196,36 @@ struct Five {
 
 // The four bytes at offset i as a little-endian number.
 fn half(s: &[u8], i: usize) -> u64
-    requires { ⌜ i + 4 ≤ length (now s) ⌝ }
-    ensures { λ r. ⌜ (r ≡ little (take 4 (drop i (now (s .entry))))) × (r < 4294967296) ⌝ }
+    requires { ⌜ i + halfBytes ≤ length (now s) ⌝ }
+    ensures { λ r. ⌜ (r ≡ little (take halfBytes (drop i (now (s .entry))))) × (r < wordValues) ⌝ }
 {
-    wide64(s[i]) + wide64(s[i + 1]) * 256 + wide64(s[i + 2]) * 65536 + wide64(s[i + 3]) * 16777216
+    wide64(s[i])
+        + wide64(s[i + 1]) * SECOND_BYTE_64
+        + wide64(s[i + 2]) * THIRD_BYTE_64
+        + wide64(s[i + 3]) * FOURTH_BYTE_64
 }
 
 // The eight bytes at offset i as a little-endian number.
 fn load(s: &[u8], i: usize) -> u64
-    requires { ⌜ i + 8 ≤ length (now s) ⌝ }
-    ensures { λ r. ⌜ r ≡ little (take 8 (drop i (now (s .entry)))) ⌝ }
+    requires { ⌜ i + longBytes ≤ length (now s) ⌝ }
+    ensures { λ r. ⌜ r ≡ little (take longBytes (drop i (now (s .entry)))) ⌝ }
 {
-    half(s, i) + half(s, i + 4) * 4294967296
+    half(s, i) + half(s, i + HALF_WORD) * WORD_VALUES
 }
 
 // The entry of the lowest nibble of x in a row of the table.
-fn look(t: &[u32; 128], row: u32, x: u32) -> u32
+fn look(t: &[u32; ENTRIES], row: u32, x: u32) -> u32
     requires { ⌜ Nibbles (now t) ⌝ }
-    requires { ⌜ row < 8 ⌝ }
-    ensures { λ r. ⌜ r ≡ steps (4 + 4 * row) (x % 16) ⌝ }
+    requires { ⌜ row < tableRows ⌝ }
+    ensures { λ r. ⌜ r ≡ steps (nibbleBits + nibbleBits * row) (x % nibbles) ⌝ }
 {
-    t[(16 * row + x % 16) as usize]
+    t[(NIBBLES * row + x % NIBBLES) as usize]
 }
 
 // 32 steps.
-fn word(t: &[u32; 128], x: u32) -> u32
+fn word(t: &[u32; ENTRIES], x: u32) -> u32
     requires { ⌜ Nibbles (now t) ⌝ }
-    ensures { λ r. ⌜ r ≡ steps 32 x ⌝ }
+    ensures { λ r. ⌜ r ≡ steps wordBits x ⌝ }
 {
     look(t, 7, x)
         ^ (look(t, 6, x >> 4)
@@ -202,19 +236,19 @@ fn word(t: &[u32; 128], x: u32) -> u32
 }
 
 // 64 steps.
-fn pair(t: &[u32; 128], x: u64) -> u32
+fn pair(t: &[u32; ENTRIES], x: u64) -> u32
     requires { ⌜ Nibbles (now t) ⌝ }
-    ensures { λ r. ⌜ r ≡ steps 64 x ⌝ }
+    ensures { λ r. ⌜ r ≡ steps longBits x ⌝ }
 {
-    let low = (x % 4294967296) as u32;
-    let high = (x / 4294967296) as u32;
+    let low = (x % WORD_VALUES) as u32;
+    let high = (x / WORD_VALUES) as u32;
     word(t, word(t, low) ^ high)
 }
 
 // The register after one byte.
-fn byte(t: &[u32; 128], crc: u32, b: u8) -> u32
+fn byte(t: &[u32; ENTRIES], crc: u32, b: u8) -> u32
     requires { ⌜ Nibbles (now t) ⌝ }
-    ensures { λ r. ⌜ r ≡ steps 8 (bitXor crc (b % 256)) ⌝ }
+    ensures { λ r. ⌜ r ≡ steps byteBits (bitXor crc (b % byteValues)) ⌝ }
 {
     let x = crc ^ (b as u32);
     look(t, 1, x) ^ (look(t, 0, x >> 4) ^ (x >> 8))
@@ -222,9 +256,9 @@ fn byte(t: &[u32; 128], crc: u32, b: u8) -> u32
 
 // The lowest nibble after 4 steps. The match becomes a table in read-only memory; short inputs use it instead of a copy of TABLE.
 fn after4(x: u32) -> u32
-    ensures { λ r. ⌜ r ≡ steps 4 (x % 16) ⌝ }
+    ensures { λ r. ⌜ r ≡ steps nibbleBits (x % nibbles) ⌝ }
 {
-    match x % 16 {
+    match x % NIBBLES {
         0 => 0,
         1 => 498536548,
         2 => 997073096,
@@ -246,9 +280,9 @@ fn after4(x: u32) -> u32
 
 // The lowest nibble after 8 steps.
 fn after8(x: u32) -> u32
-    ensures { λ r. ⌜ r ≡ steps 8 (x % 16) ⌝ }
+    ensures { λ r. ⌜ r ≡ steps byteBits (x % nibbles) ⌝ }
 {
-    match x % 16 {
+    match x % NIBBLES {
         0 => 0,
         1 => 1996959894,
         2 => 3993919788,
@@ -270,7 +304,7 @@ fn after8(x: u32) -> u32
 
 // The register after one byte, by these two.
 fn short_byte(crc: u32, b: u8) -> u32
-    ensures { λ r. ⌜ r ≡ steps 8 (bitXor crc (b % 256)) ⌝ }
+    ensures { λ r. ⌜ r ≡ steps byteBits (bitXor crc (b % byteValues)) ⌝ }
 {
     let x = crc ^ (b as u32);
     after8(x) ^ (after4(x >> 4) ^ (x >> 8))
@@ -291,7 +325,7 @@ fn short(crc: u32, s: &[u8]) -> u32
 
 // A word of the data folded into the three after it, by x^185 + x^93 + x^54 + x^46 + x^20 + x^19 + 1.
 fn fold_near(p: Three, w: u64) -> Three
-    ensures { λ r. ⌜ steps 192 (three (r .a) (r .b) (r .c)) ≡ steps 256 (bitXor (three (p .a) (p .b) (p .c)) w) ⌝ }
+    ensures { λ r. ⌜ steps (3 * longBits) (three (r .a) (r .b) (r .c)) ≡ steps (4 * longBits) (bitXor (three (p .a) (p .b) (p .c)) w) ⌝ }
 {
     let x = p.a ^ w;
     Three {
@@ -303,7 +337,7 @@ fn fold_near(p: Three, w: u64) -> Three
 
 // A word of the data folded into the two after it, by x^120 + x^56 + x^40 + x^33 + x^15 + x^9 + x^8 + x + 1.
 fn fold_last(p: Three, w: u64) -> Two
-    ensures { λ r. ⌜ steps 128 (two (r .a) (r .b)) ≡ steps 192 (bitXor (three (p .a) (p .b) (p .c)) w) ⌝ }
+    ensures { λ r. ⌜ steps (2 * longBits) (two (r .a) (r .b)) ≡ steps (3 * longBits) (bitXor (three (p .a) (p .b) (p .c)) w) ⌝ }
 {
     let x = p.a ^ w;
     Two {
@@ -320,7 +354,7 @@ fn fold_last(p: Three, w: u64) -> Two
 
 // A word of the data folded into the second to fifth after it, by x^300 + x^155 + x^117 + x^89 + 1.
 fn fold_far(p: Five, w: u64) -> Five
-    ensures { λ r. ⌜ steps 320 (five (r .a) (r .b) (r .c) (r .d) (r .e)) ≡ steps 384 (bitXor (five (p .a) (p .b) (p .c) (p .d) (p .e)) w) ⌝ }
+    ensures { λ r. ⌜ steps (5 * longBits) (five (r .a) (r .b) (r .c) (r .d) (r .e)) ≡ steps (6 * longBits) (bitXor (five (p .a) (p .b) (p .c) (p .d) (p .e)) w) ⌝ }
 {
     let x = p.a ^ w;
     Five {
@@ -356,8 +390,8 @@ struct Part {
 
 // Folds words until 24 to 31 bytes are left.
 fn near_all(crc: u32, s: &[u8]) -> ThreeAt
-    requires { ⌜ 24 ≤ length (now s) ⌝ }
-    ensures { λ r. ⌜ (r .at + 24 ≤ length (now (s .entry))) × (run (three (r .a) (r .b) (r .c)) (drop (r .at) (now (s .entry))) ≡ run crc (now (s .entry))) ⌝ }
+    requires { ⌜ 3 * longBytes ≤ length (now s) ⌝ }
+    ensures { λ r. ⌜ (r .at + 3 * longBytes ≤ length (now (s .entry))) × (run (three (r .a) (r .b) (r .c)) (drop (r .at) (now (s .entry))) ≡ run crc (now (s .entry))) ⌝ }
 {
     let mut p = Three {
         a: wider(crc),
@@ -365,9 +399,9 @@ fn near_all(crc: u32, s: &[u8]) -> ThreeAt
         c: 0,
     };
     let mut i = 0;
-    while 32 <= s.len() - i {
+    while FOUR_WORDS <= s.len() - i {
         p = fold_near(p, load(s, i));
-        i += 8;
+        i += ONE_WORD;
     }
     ThreeAt {
         a: p.a,
@@ -379,8 +413,8 @@ fn near_all(crc: u32, s: &[u8]) -> ThreeAt
 
 // Folds two words at a time, until 40 to 55 bytes are left.
 fn far_all(crc: u32, s: &[u8]) -> FiveAt
-    requires { ⌜ 40 ≤ length (now s) ⌝ }
-    ensures { λ r. ⌜ (r .at + 40 ≤ length (now (s .entry))) × (run (five (r .a) (r .b) (r .c) (r .d) (r .e)) (drop (r .at) (now (s .entry))) ≡ run crc (now (s .entry))) ⌝ }
+    requires { ⌜ 5 * longBytes ≤ length (now s) ⌝ }
+    ensures { λ r. ⌜ (r .at + 5 * longBytes ≤ length (now (s .entry))) × (run (five (r .a) (r .b) (r .c) (r .d) (r .e)) (drop (r .at) (now (s .entry))) ≡ run crc (now (s .entry))) ⌝ }
 {
     let mut p = Five {
         a: wider(crc),
@@ -390,10 +424,10 @@ fn far_all(crc: u32, s: &[u8]) -> FiveAt
         e: 0,
     };
     let mut i = 0;
-    while 56 <= s.len() - i {
+    while SEVEN_WORDS <= s.len() - i {
         let q = fold_far(p, load(s, i));
-        p = fold_far(q, load(s, i + 8));
-        i += 16;
+        p = fold_far(q, load(s, i + ONE_WORD));
+        i += TWO_WORDS;
     }
     FiveAt {
         a: p.a,
@@ -406,22 +440,22 @@ fn far_all(crc: u32, s: &[u8]) -> FiveAt
 }
 
 // Reads whole words by the table.
-fn words(t: &[u32; 128], crc: u32, s: &[u8], from: usize) -> Part
+fn words(t: &[u32; ENTRIES], crc: u32, s: &[u8], from: usize) -> Part
     requires { ⌜ Nibbles (now t) ⌝ }
     requires { ⌜ from ≤ length (now s) ⌝ }
     ensures { λ r. ⌜ (r .at ≤ length (now (s .entry))) × (run (r .crc) (drop (r .at) (now (s .entry))) ≡ run crc (drop from (now (s .entry)))) ⌝ }
 {
     let mut c = crc;
     let mut i = from;
-    while 8 <= s.len() - i {
+    while ONE_WORD <= s.len() - i {
         c = pair(t, wider(c) ^ load(s, i));
-        i += 8;
+        i += ONE_WORD;
     }
     Part { crc: c, at: i }
 }
 
 // Reads bytes by the table.
-fn bytes(t: &[u32; 128], crc: u32, s: &[u8], from: usize) -> u32
+fn bytes(t: &[u32; ENTRIES], crc: u32, s: &[u8], from: usize) -> u32
     requires { ⌜ Nibbles (now t) ⌝ }
     requires { ⌜ from ≤ length (now s) ⌝ }
     ensures { λ r. ⌜ r ≡ run crc (drop from (now (s .entry))) ⌝ }
@@ -436,7 +470,7 @@ fn bytes(t: &[u32; 128], crc: u32, s: &[u8], from: usize) -> u32
 }
 
 // Reads the rest by the table: whole words, then bytes.
-fn rest(t: &[u32; 128], crc: u32, s: &[u8], from: usize) -> u32
+fn rest(t: &[u32; ENTRIES], crc: u32, s: &[u8], from: usize) -> u32
     requires { ⌜ Nibbles (now t) ⌝ }
     requires { ⌜ from ≤ length (now s) ⌝ }
     ensures { λ r. ⌜ r ≡ run crc (drop from (now (s .entry))) ⌝ }
@@ -446,19 +480,19 @@ fn rest(t: &[u32; 128], crc: u32, s: &[u8], from: usize) -> u32
 }
 
 // 64 steps of the word at offset `at`, to which the pending word a is added.
-fn one(t: &[u32; 128], a: u64, s: &[u8], at: usize) -> u64
+fn one(t: &[u32; ENTRIES], a: u64, s: &[u8], at: usize) -> u64
     requires { ⌜ Nibbles (now t) ⌝ }
-    requires { ⌜ at + 8 ≤ length (now s) ⌝ }
-    ensures { λ r. ⌜ (r ≡ steps 64 (bitXor a (little (take 8 (drop at (now (s .entry))))))) × (r < 4294967296) ⌝ }
+    requires { ⌜ at + longBytes ≤ length (now s) ⌝ }
+    ensures { λ r. ⌜ (r ≡ steps longBits (bitXor a (little (take longBytes (drop at (now (s .entry))))))) × (r < wordValues) ⌝ }
 {
     wider(pair(t, a ^ load(s, at)))
 }
 
 // Reads the last three words, with the pending words added.
-fn close_near(t: &[u32; 128], p: ThreeAt, s: &[u8]) -> u32
+fn close_near(t: &[u32; ENTRIES], p: ThreeAt, s: &[u8]) -> u32
     requires { ⌜ Nibbles (now t) ⌝ }
-    requires { ⌜ p .at + 24 ≤ length (now s) ⌝ }
-    ensures { λ r. ⌜ run r (drop (p .at + 24) (now (s .entry))) ≡ run (three (p .a) (p .b) (p .c)) (drop (p .at) (now (s .entry))) ⌝ }
+    requires { ⌜ p .at + 3 * longBytes ≤ length (now s) ⌝ }
+    ensures { λ r. ⌜ run r (drop (p .at + 3 * longBytes) (now (s .entry))) ≡ run (three (p .a) (p .b) (p .c)) (drop (p .at) (now (s .entry))) ⌝ }
 {
     let at = p.at;
     let q = fold_last(
@@ -469,15 +503,15 @@ fn close_near(t: &[u32; 128], p: ThreeAt, s: &[u8]) -> u32
         },
         load(s, at),
     );
-    let v = one(t, q.a, s, at + 8);
-    pair(t, (v ^ q.b) ^ load(s, at + 16))
+    let v = one(t, q.a, s, at + ONE_WORD);
+    pair(t, (v ^ q.b) ^ load(s, at + TWO_WORDS))
 }
 
 // Reads the last five words: two near folds, then the last three.
-fn close_far(t: &[u32; 128], p: FiveAt, s: &[u8]) -> u32
+fn close_far(t: &[u32; ENTRIES], p: FiveAt, s: &[u8]) -> u32
     requires { ⌜ Nibbles (now t) ⌝ }
-    requires { ⌜ p .at + 40 ≤ length (now s) ⌝ }
-    ensures { λ r. ⌜ run r (drop (p .at + 40) (now (s .entry))) ≡ run (five (p .a) (p .b) (p .c) (p .d) (p .e)) (drop (p .at) (now (s .entry))) ⌝ }
+    requires { ⌜ p .at + 5 * longBytes ≤ length (now s) ⌝ }
+    ensures { λ r. ⌜ run r (drop (p .at + 5 * longBytes) (now (s .entry))) ≡ run (five (p .a) (p .b) (p .c) (p .d) (p .e)) (drop (p .at) (now (s .entry))) ⌝ }
 {
     let at = p.at;
     let q = fold_near(
@@ -494,54 +528,54 @@ fn close_far(t: &[u32; 128], p: FiveAt, s: &[u8]) -> u32
             b: q.b,
             c: q.c ^ p.d,
         },
-        load(s, at + 8),
+        load(s, at + ONE_WORD),
     );
     let l = ThreeAt {
         a: r.a,
         b: r.b,
         c: r.c ^ p.e,
-        at: at + 16,
+        at: at + TWO_WORDS,
     };
     close_near(t, l, s)
 }
 
-fn feed_near(t: &[u32; 128], crc: u32, s: &[u8]) -> u32
+fn feed_near(t: &[u32; ENTRIES], crc: u32, s: &[u8]) -> u32
     requires { ⌜ Nibbles (now t) ⌝ }
-    requires { ⌜ 24 ≤ length (now s) ⌝ }
+    requires { ⌜ 3 * longBytes ≤ length (now s) ⌝ }
     ensures { λ r. ⌜ r ≡ run crc (now (s .entry)) ⌝ }
 {
     let p = near_all(crc, s);
     let at = p.at;
     let c = close_near(t, p, s);
-    if s.len() == at + 24 {
+    if s.len() == at + THREE_WORDS {
         return c;
     }
-    rest(t, c, s, at + 24)
+    rest(t, c, s, at + THREE_WORDS)
 }
 
-fn feed_far(t: &[u32; 128], crc: u32, s: &[u8]) -> u32
+fn feed_far(t: &[u32; ENTRIES], crc: u32, s: &[u8]) -> u32
     requires { ⌜ Nibbles (now t) ⌝ }
-    requires { ⌜ 40 ≤ length (now s) ⌝ }
+    requires { ⌜ 5 * longBytes ≤ length (now s) ⌝ }
     ensures { λ r. ⌜ r ≡ run crc (now (s .entry)) ⌝ }
 {
     let p = far_all(crc, s);
     let at = p.at;
     let c = close_far(t, p, s);
-    if s.len() == at + 40 {
+    if s.len() == at + FIVE_WORDS {
         return c;
     }
-    rest(t, c, s, at + 40)
+    rest(t, c, s, at + FIVE_WORDS)
 }
 
 // The register after some bytes.
 pub fn feed(crc: u32, bytes: &[u8]) -> u32
     ensures { λ r. ⌜ r ≡ run crc (now (bytes .entry)) ⌝ }
 {
-    if bytes.len() < 32 {
+    if bytes.len() < FOLDED_FROM {
         return short(crc, bytes);
     }
     let t = TABLE;
-    if bytes.len() < 128 {
+    if bytes.len() < FOLDED_BY_TWO_FROM {
         return feed_near(&t, crc, bytes);
     }
     feed_far(&t, crc, bytes)

@@ -33,9 +33,16 @@ between a x b = leb a x && leb x b
 unfoldable pub isDate : ℕ → ℕ → ℕ → Bool
 isDate y m d = between 1 y 9999 && (between 1 m 12 && between 1 d (daysIn y m))
 
+-- what a year and a month count in a date's number
+abbrev pub yearWeight : ℕ
+yearWeight = 10000
+
+abbrev pub monthWeight : ℕ
+monthWeight = 100
+
 -- a date's number
 abbrev pub dateNumber : ℕ → ℕ → ℕ → ℕ
-dateNumber y m d = y * 10000 + m * 100 + d
+dateNumber y m d = y * yearWeight + m * monthWeight + d
 
 -- what Date::new answers: the date by its number, or that there is none
 unfoldable pub newDate : ℕ → ℕ → ℕ → NewDate
@@ -43,7 +50,7 @@ newDate y m d = pick (isDate y m d) (Made (record { 0 = dateNumber y m d })) Inv
 
 -- n is the number of a date
 unfoldable pub validDate : ℕ → Bool
-validDate n = isDate (n / 10000) (n / 100 % 100) (n % 100)
+validDate n = isDate (n / yearWeight) (n / monthWeight % monthWeight) (n % monthWeight)
 
 -- n is the number of some date
 pub record SomeDate (n : ℕ) : Type 0 where

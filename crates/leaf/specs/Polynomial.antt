@@ -7,6 +7,10 @@ use Prim.Native.Nat.{ℕ, zero, suc}
 use lib.Dec.{eqb}
 use lib.ListN.{length, drop, replicate}
 
+-- the degree of the generator
+abbrev pub degree : ℕ
+degree = 32
+
 -- n zero coefficients
 abbrev pub zeros : ℕ → List Bool
 zeros n = replicate n false
@@ -36,7 +40,7 @@ coefficients zero = []
 coefficients (suc n) = has powers n ∷ coefficients n
 
 unfoldable pub generator : List Bool
-generator = coefficients 33
+generator = coefficients (suc degree)
 
 -- a coefficient times G
 unfoldable pub times : Bool → List Bool
@@ -61,10 +65,10 @@ quotient (suc n) (a ∷ p) = a ∷ quotient n (turn a p)
 
 -- the product of q and G: 32 coefficients more than q
 unfoldable pub product : List Bool → List Bool
-product [] = zeros 32
+product [] = zeros degree
 product (a ∷ q) = add (false ∷ product q) (times a)
 
 -- p divided by G gives q and leaves r: p = q G + r, and r, of 32 coefficients, is of lower degree than G
 pub record Division (p q r : List Bool) : Type 0 where
   pub equal : add (product q) (zeros (length q) ++ r) ≡ p
-  pub lower : length r ≡ 32
+  pub lower : length r ≡ degree

@@ -7,8 +7,21 @@ ghost use lib.ListN.{drop};
 ghost use Rattle.base.specs.Lists.{byte};
 ghost use Rattle.leaf.specs.Bytes as Bytes;
 ghost use Rattle.base.specs.Number as Number;
+use base::number::BYTE_VALUES_32;
+use base::number::FOURTH_BYTE;
+use base::number::SECOND_BYTE;
+use base::number::THIRD_BYTE;
+use base::number::WORD_VALUES;
 use base::number::wide;
 use base::number::wider;
+
+// The bytes of a 32-bit number, and of a 64-bit one.
+pub const WORD_SIZE: usize = 4;
+
+pub const TIME_SIZE: usize = 8;
+
+// The lowest 64-bit number that is negative if read as signed.
+const SIGN_BIT: u64 = 9223372036854775808;
 
 // The byte at offset i, 0 past the end.
 pub fn get8(b: &[u8], i: usize) -> u8
@@ -33,9 +46,9 @@ pub fn get(b: &[u8], i: usize) -> u32
 {
     let p = rest(b, i);
     wide(get8(p, 0))
-        + wide(get8(p, 1)) * 256
-        + wide(get8(p, 2)) * 65536
-        + wide(get8(p, 3)) * 16777216
+        + wide(get8(p, 1)) * SECOND_BYTE
+        + wide(get8(p, 2)) * THIRD_BYTE
+        + wide(get8(p, 3)) * FOURTH_BYTE
 }
 
 // Whether n bytes at offset i fit in len bytes.
@@ -52,31 +65,31 @@ fn room(len: usize, i: usize, n: usize) -> bool
 pub fn put(b: &mut [u8], i: usize, n: u32)
     ensures { λ _. ⌜ now (b .exit) ≡ Bytes.written (now (b .entry)) i (Bytes.le32 n) ⌝ }
 {
-    if room(b.len(), i, 4) {
-        b[i] = (n % 256) as u8;
-        b[i + 1] = (n / 256 % 256) as u8;
-        b[i + 2] = (n / 65536 % 256) as u8;
-        b[i + 3] = (n / 16777216 % 256) as u8;
+    if room(b.len(), i, WORD_SIZE) {
+        b[i] = (n % BYTE_VALUES_32) as u8;
+        b[i + 1] = (n / SECOND_BYTE % BYTE_VALUES_32) as u8;
+        b[i + 2] = (n / THIRD_BYTE % BYTE_VALUES_32) as u8;
+        b[i + 3] = (n / FOURTH_BYTE % BYTE_VALUES_32) as u8;
     }
 }
 
 // 64 bits read as a signed number.
 fn signed_of(x: u64) -> i64
-    ensures { λ r. ⌜ r ≡ Number.signed 64 x ⌝ }
+    ensures { λ r. ⌜ r ≡ Number.signed Number.longBits x ⌝ }
 {
-    if x < 9223372036854775808 {
+    if x < SIGN_BIT {
         x as i64
     } else {
-        -1 - ((18446744073709551615 - x) as i64)
+        -1 - ((u64::MAX - x) as i64)
     }
 }
 
 // The 64 bits of a signed number.
 fn bits_of(z: i64) -> u64
-    ensures { λ r. ⌜ r ≡ Number.unsigned 64 z ⌝ }
+    ensures { λ r. ⌜ r ≡ Number.unsigned Number.longBits z ⌝ }
 {
     if z < 0 {
-        18446744073709551615 - ((-1 - z) as u64)
+        u64::MAX - ((-1 - z) as u64)
     } else {
         z as u64
     }
@@ -87,16 +100,16 @@ pub fn get_time(b: &[u8], i: usize) -> i64
     ensures { λ r. ⌜ r ≡ Bytes.time (now (b .entry)) i ⌝ }
 {
     let p = rest(b, i);
-    signed_of(wider(get(p, 0)) + wider(get(p, 4)) * 4294967296)
+    signed_of(wider(get(p, 0)) + wider(get(p, WORD_SIZE)) * WORD_VALUES)
 }
 
 // Writes a signed 64-bit number at offset i if it fits; otherwise nothing changes.
 pub fn put_time(b: &mut [u8], i: usize, z: i64)
     ensures { λ _. ⌜ now (b .exit) ≡ Bytes.written (now (b .entry)) i (Bytes.le64 z) ⌝ }
 {
-    if room(b.len(), i, 8) {
+    if room(b.len(), i, TIME_SIZE) {
         let n = bits_of(z);
-        put(b, i, (n % 4294967296) as u32);
-        put(b, i + 4, (n / 4294967296) as u32);
+        put(b, i, (n % WORD_VALUES) as u32);
+        put(b, i + WORD_SIZE, (n / WORD_VALUES) as u32);
     }
 }

@@ -7,6 +7,17 @@ ghost use Rattle.leaf.specs.Date.{leap, monthDays, newDate, validDate};
 // A date's number: year × 10000 + month × 100 + day.
 pub struct Date(pub u32);
 
+// What a year and a month count in a date's number, and the last of each.
+const YEAR_WEIGHT: u32 = 10000;
+
+const MONTH_WEIGHT: u32 = 100;
+
+const LAST_YEAR: u16 = 9999;
+
+const LAST_YEAR_32: u32 = LAST_YEAR as u32;
+
+const LAST_MONTH: u8 = 12;
+
 // What Date::new answers.
 pub enum NewDate {
     Made(Date),
@@ -27,7 +38,7 @@ const DAYS: [u8; 13] = [0, 31, 28, 31, 30, 31, 30, 31, 31, 30, 31, 30, 31];
 fn month_days(year: u16, month: u8) -> u8
     ensures { λ r. ⌜ r ≡ getD (0 ∷ monthDays year) month 0 ⌝ }
 {
-    if 12 < month {
+    if LAST_MONTH < month {
         return 0;
     }
     let leap = is_leap(year);
@@ -44,8 +55,10 @@ impl Date {
         ensures { λ r. ⌜ r ≡ newDate year month day ⌝ }
     {
         let days = month_days(year, month);
-        if (1 <= year) & (year <= 9999) & (1 <= day) & (day <= days) {
-            NewDate::Made(Date((year as u32) * 10000 + (month as u32) * 100 + (day as u32)))
+        if (1 <= year) & (year <= LAST_YEAR) & (1 <= day) & (day <= days) {
+            NewDate::Made(Date(
+                (year as u32) * YEAR_WEIGHT + (month as u32) * MONTH_WEIGHT + (day as u32),
+            ))
         } else {
             NewDate::InvalidDate
         }
@@ -56,11 +69,15 @@ impl Date {
 pub fn valid_date(d: u32) -> bool
     ensures { λ r. ⌜ r ≡ validDate d ⌝ }
 {
-    let year = d / 10000;
-    if 9999 < year {
+    let year = d / YEAR_WEIGHT;
+    if LAST_YEAR_32 < year {
         return false;
     }
-    let made = Date::new(year as u16, (d / 100 % 100) as u8, (d % 100) as u8);
+    let made = Date::new(
+        year as u16,
+        (d / MONTH_WEIGHT % MONTH_WEIGHT) as u8,
+        (d % MONTH_WEIGHT) as u8,
+    );
     match made {
         NewDate::Made(_) => true,
         NewDate::InvalidDate => false,

@@ -2,12 +2,15 @@
 ghost use mathlib.Core.Path.{_≡_};
 ghost use Rattle.leaf.specs.Generation as Generation;
 
+// Half of all generations: a distance from here on is negative.
+const HALF: u32 = 0x8000_0000;
+
 // Whether generation a is newer than b: they wrap, so the distance is read as signed.
 pub fn newer(a: u32, b: u32) -> bool
     ensures { λ r. ⌜ r ≡ Generation.newer a b ⌝ }
 {
     let d = std::num::wrapping_sub_u32(a, b);
-    (0 < d) & (d < 0x8000_0000)
+    (0 < d) & (d < HALF)
 }
 
 // The generation after g.
