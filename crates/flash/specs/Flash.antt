@@ -7,7 +7,7 @@ use lib.Bits.{bitAnd}
 use lib.Dec.{leb, eqb}
 use lib.ListN.{take, drop, length}
 use Rattle.base.specs.Number.{pick}
-use Rattle.region.specs.Region.{regionSize, bankSize, sectorSize, bankOf}
+use Rattle.region.specs.Region.{regionSize, bankSize, sectorSize, lastBank, erasedByte, bankOf}
 
 -- An operation on a bank: the erase of the sector at an offset, or a write of bytes at an offset. Offsets count from the bank's start.
 pub data Op : Type 0 where
@@ -18,7 +18,7 @@ pub data Op : Type 0 where
 unfoldable pub blank : ℕ → List ℕ → List ℕ
 blank zero b = b
 blank (suc n) [] = []
-blank (suc n) (x ∷ b) = 255 ∷ blank n b
+blank (suc n) (x ∷ b) = erasedByte ∷ blank n b
 
 -- ws written over the first bytes of b: a bit is 1 afterwards only if it is 1 in both
 unfoldable pub clear : List ℕ → List ℕ → List ℕ
@@ -60,7 +60,7 @@ performed n (op ∷ ops) region = performed n ops (applied n op region)
 
 -- the region has its size, n is 0 or 1, and the operation is inside the bank
 abbrev pub within : ℕ → ℕ → ℕ → ℕ → Bool
-within len n at count = eqb len regionSize && (leb n 1 && leb (at + count) bankSize)
+within len n at count = eqb len regionSize && (leb n lastBank && leb (at + count) bankSize)
 
 abbrev pub fits : List ℕ → ℕ → Op → Bool
 fits region n op = within (length region) n (offset op) (size op)

@@ -5,19 +5,21 @@ ghost use Prim.Native.Nat.{_+_, _≤_};
 ghost use lib.ListN.{length};
 ghost use Rattle.flash.specs.Flash.{blank, clear, within, erasedIn, writtenIn};
 ghost use Rattle.flash.specs.Claims.{FirstPart};
-ghost use Rattle.region.specs.Region.{regionSize, bankSize};
+ghost use Rattle.region.specs.Region.{regionSize, bankSize, lastBank};
 use region::BANK_SIZE;
+use region::ERASED_BYTE;
+use region::LAST_BANK;
 use region::REGION_SIZE;
 use region::SECTOR_SIZE;
 
 // Whether n bytes at an offset of a bank are inside it, in a region of len bytes.
 fn lies_within(len: usize, bank: u32, at: usize, n: usize) -> bool
-    ensures { λ r. ⌜ (r ≡ within len bank at n) × (r ≡ true → (len ≡ regionSize) × (bank ≤ 1) × (at + n ≤ bankSize)) ⌝ }
+    ensures { λ r. ⌜ (r ≡ within len bank at n) × (r ≡ true → (len ≡ regionSize) × (bank ≤ lastBank) × (at + n ≤ bankSize)) ⌝ }
 {
     if len != REGION_SIZE {
         return false;
     }
-    if 1 < bank {
+    if LAST_BANK < bank {
         return false;
     }
     if BANK_SIZE < n {
@@ -32,7 +34,7 @@ fn blank_all(s: &mut [u8])
 {
     let mut i = 0;
     while i < s.len() {
-        s[i] = 255;
+        s[i] = ERASED_BYTE;
         i += 1;
     }
 }

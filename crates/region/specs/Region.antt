@@ -20,6 +20,18 @@ capacity = 487424
 abbrev pub lastSector : ℕ
 lastSector = 119
 
+-- banks 0 and 1
+abbrev pub lastBank : ℕ
+lastBank = 1
+
+-- a byte of an erased sector
+abbrev pub erasedByte : ℕ
+erasedByte = 255
+
+-- a write has a multiple of this many bytes
+abbrev pub writeUnit : ℕ
+writeUnit = 4
+
 -- bank n of a region
 unfoldable pub bankOf : List ℕ → ℕ → List ℕ
 bankOf region n = take bankSize (drop (n * bankSize) region)
