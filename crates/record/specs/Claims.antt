@@ -4,7 +4,7 @@ use mathlib.Core.List.{List, _++_}
 use Prim.Native.Nat.{ℕ}
 use lib.ListN.{getD}
 use Rattle.record.specs.declared.Source.{Source}
-use Rattle.record.specs.Record.{decoded, sourceBytes, noBlock, stampSize, idSize, validatorSize, currentVersion}
+use Rattle.record.specs.Record.{decoded, sourceBytes, noBlock, stampSize, idSize, validatorSize, firstVersion, secondVersion, currentVersion}
 use Rattle.base.specs.Lists.{fill}
 use Rattle.record.specs.Types.{Sized, Ranged}
 use Rattle.base.specs.Table.{lastTable}
@@ -21,8 +21,8 @@ pub record NoTexts (s : Source) : Type 0 where
   pub validator : s .validator ≡ fill 0 validatorSize
 
 abbrev pub Version1 : Type 0
-Version1 = (l : List ℕ) → NoTexts (decoded 1 l)
+Version1 = (l : List ℕ) → NoTexts (decoded firstVersion l)
 
 -- versions 1 and 2 have seven tables: table 7, Transfers, is absent
 abbrev pub SevenTables : Type 0
-SevenTables = (l : List ℕ) → (getD (decoded 1 l .tables) lastTable noBlock ≡ noBlock) × (getD (decoded 2 l .tables) lastTable noBlock ≡ noBlock)
+SevenTables = (l : List ℕ) → (getD (decoded firstVersion l .tables) lastTable noBlock ≡ noBlock) × (getD (decoded secondVersion l .tables) lastTable noBlock ≡ noBlock)

@@ -5,18 +5,42 @@ use lib.Dec.{ltb}
 use lib.IntN.{pos}
 use lib.ListN.{take}
 use Rattle.base.specs.Number.{pick}
-use Rattle.leaf.specs.Bytes.{word, time, le32, le64}
+use Rattle.leaf.specs.Bytes.{word, time, le32, le64, wordSize}
 use Rattle.base.specs.Lists.{many, puts, fill, byte}
 use Rattle.record.specs.declared.Block.{Block}
 use Rattle.record.specs.declared.Source.{Source}
 use Rattle.base.specs.Table.{maxTables}
 
--- the version that is written, and the size of its record
+-- the versions that are read; the last is written
+abbrev pub firstVersion : ℕ
+firstVersion = 1
+
+abbrev pub secondVersion : ℕ
+secondVersion = 2
+
 abbrev pub currentVersion : ℕ
 currentVersion = 3
 
+-- the bytes of a record of each version
+abbrev pub firstRecordSize : ℕ
+firstRecordSize = 160
+
+abbrev pub secondRecordSize : ℕ
+secondRecordSize = 352
+
 abbrev pub recordSize : ℕ
 recordSize = 384
+
+-- how many tables a record has before version 3
+abbrev pub earlierTables : ℕ
+earlierTables = 7
+
+-- a source's two dates, as they are in its record and before its tables in the data
+abbrev pub dateSize : ℕ
+dateSize = wordSize
+
+abbrev pub datesSize : ℕ
+datesSize = dateSize + dateSize
 
 -- bytes of the fields that are "carried raw"; a validator is a length byte, a kind byte and 64 bytes
 abbrev pub stampSize : ℕ
@@ -33,17 +57,65 @@ maxValidator = 64
 
 -- by version: the bytes of a record, and how many tables it has
 abbrev pub sourceSize : ℕ → ℕ
-sourceSize v = pick (ltb v 2) 160 (pick (ltb v 3) 352 recordSize)
+sourceSize v = pick (ltb v secondVersion) firstRecordSize (pick (ltb v currentVersion) secondRecordSize recordSize)
 
 abbrev pub tableCount : ℕ → ℕ
-tableCount v = pick (ltb v 3) 7 maxTables
+tableCount v = pick (ltb v currentVersion) earlierTables maxTables
 
 -- a table's block: offset, length, CRC
 abbrev pub blockSize : ℕ
 blockSize = 12
 
+abbrev pub blockLengthOffset : ℕ
+blockLengthOffset = 4
+
+abbrev pub blockCrcOffset : ℕ
+blockCrcOffset = 8
+
+-- the original words of a table: how many, and their bytes
+abbrev pub originalWords : ℕ
+originalWords = 2
+
+abbrev pub originalSize : ℕ
+originalSize = originalWords * wordSize
+
+-- the bytes that a table adds to a record: its original words and its block
+abbrev pub tableSize : ℕ
+tableSize = originalSize + blockSize
+
+-- offsets of the fields before the tables
+abbrev pub endOffset : ℕ
+endOffset = 4
+
+abbrev pub presentOffset : ℕ
+presentOffset = 8
+
+abbrev pub updatedOffset : ℕ
+updatedOffset = 12
+
+-- where the tables begin
+abbrev pub tablesOffset : ℕ
+tablesOffset = 20
+
+-- offsets of the fields after the tables, in a record with none; each table adds `tableSize`
+abbrev pub stampOffset : ℕ
+stampOffset = tablesOffset
+
+abbrev pub idlenOffset : ℕ
+idlenOffset = 32
+
+abbrev pub idOffset : ℕ
+idOffset = 33
+
+abbrev pub validatorOffset : ℕ
+validatorOffset = 113
+
+-- the zeros at the end of a record of version 3
+abbrev pub paddingSize : ℕ
+paddingSize = 45
+
 abbrev pub blockAt : List ℕ → ℕ → Block
-blockAt l at = record { offset = word l at; length = word l (at + 4); crc = word l (at + 8) }
+blockAt l at = record { offset = word l at; length = word l (at + blockLengthOffset); crc = word l (at + blockCrcOffset) }
 
 -- the block of an absent table
 abbrev pub noBlock : Block
@@ -57,7 +129,7 @@ noSource =
       end = 0;
       present = 0;
       updated = pos 0;
-      original = fill 0 (maxTables * 2);
+      original = fill 0 (maxTables * originalWords);
       tables = fill noBlock maxTables;
       stamp = fill 0 stampSize;
       idlen = 0;
@@ -70,15 +142,15 @@ unfoldable pub sourceOf : ℕ → List ℕ → Source
 sourceOf n l =
     record {
       start = word l 0;
-      end = word l 4;
-      present = word l 8;
-      updated = time l 12;
-      original = many word 4 l 20 (n * 2) ++ fill 0 (maxTables * 2 - n * 2);
-      tables = many blockAt blockSize l (n * 8 + 20) n ++ fill noBlock (maxTables - n);
-      stamp = many byte 1 l (n * 20 + 20) stampSize;
-      idlen = byte l (n * 20 + 32);
-      id = many byte 1 l (n * 20 + 33) idSize;
-      validator = many byte 1 l (n * 20 + 113) validatorSize;
+      end = word l endOffset;
+      present = word l presentOffset;
+      updated = time l updatedOffset;
+      original = many word wordSize l tablesOffset (n * originalWords) ++ fill 0 (maxTables * originalWords - n * originalWords);
+      tables = many blockAt blockSize l (n * originalSize + tablesOffset) n ++ fill noBlock (maxTables - n);
+      stamp = many byte 1 l (n * tableSize + stampOffset) stampSize;
+      idlen = byte l (n * tableSize + idlenOffset);
+      id = many byte 1 l (n * tableSize + idOffset) idSize;
+      validator = many byte 1 l (n * tableSize + validatorOffset) validatorSize;
     }
 
 -- the record of a version at the start of l
@@ -100,4 +172,4 @@ tailBytes s = s .stamp ++ (s .idlen ∷ (s .id ++ s .validator))
 
 -- the record of version 3, 384 bytes
 unfoldable pub sourceBytes : Source → List ℕ
-sourceBytes s = headBytes s ++ (tableBytes s ++ (tailBytes s ++ fill 0 45))
+sourceBytes s = headBytes s ++ (tableBytes s ++ (tailBytes s ++ fill 0 paddingSize))

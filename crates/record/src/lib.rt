@@ -4,7 +4,7 @@ ghost use mathlib.Core.List.{_++_};
 ghost use Prim.Native.Nat.{_+_, _-_, _*_, _≤_};
 ghost use lib.ListN.{length, drop, take, set};
 ghost use lib.Seq.{sets};
-ghost use Rattle.leaf.specs.Bytes.{word, le32, le64, written};
+ghost use Rattle.leaf.specs.Bytes.{word, le32, le64, written, wordSize, timeSize};
 ghost use Rattle.base.specs.Lists.{many, puts, fill, byte};
 ghost use Rattle.record.specs.Record.{
   sourceSize,
@@ -20,22 +20,108 @@ ghost use Rattle.record.specs.Record.{
   tailBytes,
   sourceBytes,
 };
-ghost use Rattle.record.specs.Record.{recordSize, blockSize, stampSize, idSize, validatorSize};
+ghost use Rattle.record.specs.Record.{
+  recordSize,
+  blockSize,
+  originalWords,
+  originalSize,
+  tableSize,
+  tablesOffset,
+  validatorOffset,
+  stampSize,
+  idSize,
+  validatorSize,
+};
 ghost use Rattle.base.specs.Table.{maxTables};
+use base::number::FOURTH_BYTE;
+use base::number::SECOND_BYTE;
+use base::number::THIRD_BYTE;
 use base::number::wide;
 use base::table::TABLES;
+use leaf::bytes::WORD_SIZE;
 use leaf::bytes::get;
 use leaf::bytes::get_time;
 use leaf::bytes::get8;
 use leaf::bytes::put;
 use leaf::bytes::put_time;
 
-// Sizes of a record's arrays.
+// The versions that are read; the last is written.
+pub const FIRST_VERSION: u32 = 1;
 
-pub const ORIGINAL_WORDS: usize = 2 * TABLES;
+pub const SECOND_VERSION: u32 = 2;
 
+pub const VERSION: u32 = 3;
+
+// The bytes of a record of each version.
+pub const FIRST_RECORD_SIZE: usize = 160;
+
+pub const SECOND_RECORD_SIZE: usize = 352;
+
+pub const RECORD_SIZE: usize = 384;
+
+// How many tables a record has before version 3.
+pub const EARLIER_TABLES: usize = 7;
+
+// A source's two dates, as they are in its record and before its tables in the data.
+pub const DATE_SIZE: usize = WORD_SIZE;
+
+pub const DATES_SIZE: usize = DATE_SIZE + DATE_SIZE;
+
+pub const DATES_SIZE_32: u32 = DATES_SIZE as u32;
+
+// The original words of a table, and of all.
+const TABLE_WORDS: usize = 2;
+
+pub const ORIGINAL_WORDS: usize = TABLES * TABLE_WORDS;
+
+// A table's block: offset, length, CRC.
 pub const BLOCK_SIZE: usize = 12;
 
+const BLOCK_LENGTH_OFFSET: usize = 4;
+
+const BLOCK_CRC_OFFSET: usize = 8;
+
+// The bytes that a table adds to a record: its original words and its block.
+const ORIGINAL_SIZE: usize = TABLE_WORDS * WORD_SIZE;
+
+const TABLE_SIZE: usize = ORIGINAL_SIZE + BLOCK_SIZE;
+
+// Offsets of the fields before the tables, and where these begin.
+const END_OFFSET: usize = 4;
+
+const PRESENT_OFFSET: usize = 8;
+
+const UPDATED_OFFSET: usize = 12;
+
+const TABLES_OFFSET: usize = 20;
+
+// Offsets of the fields after the tables, in a record with none; each table adds TABLE_SIZE.
+const STAMP_OFFSET: usize = TABLES_OFFSET;
+
+const IDLEN_OFFSET: usize = 32;
+
+const ID_OFFSET: usize = 33;
+
+const VALIDATOR_OFFSET: usize = 113;
+
+// The zeros at the end of a record of version 3.
+const PADDING_SIZE: usize = 45;
+
+// In a record of version 3: where the fields after the tables are, and the zeros.
+const TAIL_OFFSET: usize = TABLES * TABLE_SIZE + STAMP_OFFSET;
+
+const PADDING_OFFSET: usize = RECORD_SIZE - PADDING_SIZE;
+
+// The fields after the tables, counted from the first of them; and the blocks, counted from the original words.
+const IDLEN_IN_TAIL: usize = IDLEN_OFFSET - STAMP_OFFSET;
+
+const ID_IN_TAIL: usize = ID_OFFSET - STAMP_OFFSET;
+
+const VALIDATOR_IN_TAIL: usize = VALIDATOR_OFFSET - STAMP_OFFSET;
+
+const BLOCKS_IN_TABLES: usize = TABLES * ORIGINAL_SIZE;
+
+// Sizes of a record's arrays of bytes.
 pub const STAMP_SIZE: usize = 12;
 
 pub const ID_SIZE: usize = 80;
@@ -46,10 +132,6 @@ pub const VALIDATOR_SIZE: usize = 66;
 pub const MAX_ID: u8 = ID_SIZE as u8;
 
 pub const MAX_VALIDATOR: u8 = 64;
-// The size of a record of the version that is written, and that version.
-pub const RECORD_SIZE: usize = 384;
-
-pub const VERSION: u32 = 3;
 
 // Where a table's bytes are in the data, and their CRC.
 #[repr(C)]
@@ -106,10 +188,10 @@ pub fn no_source() -> Source
 pub fn source_size(version: u32) -> usize
     ensures { λ r. ⌜ (r ≡ sourceSize version) × (r ≤ recordSize) ⌝ }
 {
-    if version < 2 {
-        160
-    } else if version < 3 {
-        352
+    if version < SECOND_VERSION {
+        FIRST_RECORD_SIZE
+    } else if version < VERSION {
+        SECOND_RECORD_SIZE
     } else {
         RECORD_SIZE
     }
@@ -119,7 +201,11 @@ pub fn source_size(version: u32) -> usize
 fn table_count(version: u32) -> usize
     ensures { λ r. ⌜ (r ≡ tableCount version) × (r ≤ maxTables) ⌝ }
 {
-    if version < 3 { 7 } else { TABLES }
+    if version < VERSION {
+        EARLIER_TABLES
+    } else {
+        TABLES
+    }
 }
 
 // The first n bytes, all if there are fewer.
@@ -136,34 +222,37 @@ fn first(b: &[u8], n: usize) -> &[u8]
 fn word_at(r: &[u8], at: usize) -> u32
     ensures { λ x. ⌜ x ≡ word (now (r .entry)) at ⌝ }
 {
-    if r.len() < 4 {
+    if r.len() < WORD_SIZE {
         return get(r, at);
     }
-    if r.len() - 4 < at {
+    if r.len() - WORD_SIZE < at {
         return get(r, at);
     }
-    wide(r[at]) + wide(r[at + 1]) * 256 + wide(r[at + 2]) * 65536 + wide(r[at + 3]) * 16777216
+    wide(r[at])
+        + wide(r[at + 1]) * SECOND_BYTE
+        + wide(r[at + 2]) * THIRD_BYTE
+        + wide(r[at + 3]) * FOURTH_BYTE
 }
 
 fn block_at(r: &[u8], at: usize) -> Block
-    requires { ⌜ at ≤ 10000 ⌝ }
+    requires { ⌜ at ≤ recordSize + maxTables * blockSize ⌝ }
     ensures { λ x. ⌜ x ≡ blockAt (now (r .entry)) at ⌝ }
 {
     Block {
         offset: word_at(r, at),
-        length: word_at(r, at + 4),
-        crc: word_at(r, at + 8),
+        length: word_at(r, at + BLOCK_LENGTH_OFFSET),
+        crc: word_at(r, at + BLOCK_CRC_OFFSET),
     }
 }
 
 fn words_at(r: &[u8], at: usize, n: usize) -> [u32; ORIGINAL_WORDS]
-    requires { ⌜ (n ≤ maxTables * 2) × (at ≤ 1000) ⌝ }
-    ensures { λ x. ⌜ x ≡ many word 4 (now (r .entry)) at n ++ fill 0 (maxTables * 2 - n) ⌝ }
+    requires { ⌜ (n ≤ maxTables * originalWords) × (at ≤ recordSize) ⌝ }
+    ensures { λ x. ⌜ x ≡ many word wordSize (now (r .entry)) at n ++ fill 0 (maxTables * originalWords - n) ⌝ }
 {
     let mut t = [0u32; ORIGINAL_WORDS];
     let mut j = 0;
     while j < n {
-        let x = word_at(r, at + j * 4);
+        let x = word_at(r, at + j * WORD_SIZE);
         t[j] = x;
         j += 1;
     }
@@ -171,7 +260,7 @@ fn words_at(r: &[u8], at: usize, n: usize) -> [u32; ORIGINAL_WORDS]
 }
 
 fn blocks_at(r: &[u8], at: usize, n: usize) -> [Block; TABLES]
-    requires { ⌜ (n ≤ maxTables) × (at ≤ 1000) ⌝ }
+    requires { ⌜ (n ≤ maxTables) × (at ≤ recordSize) ⌝ }
     ensures { λ x. ⌜ x ≡ many blockAt blockSize (now (r .entry)) at n ++ fill noBlock (maxTables - n) ⌝ }
 {
     let b = Block {
@@ -204,7 +293,7 @@ fn copy_there(out: &mut [u8], s: &[u8], at: usize, n: usize)
 
 // The same if some may be missing: these are 0.
 fn copy_some(out: &mut [u8], s: &[u8], at: usize, n: usize)
-    requires { ⌜ (n ≤ length (now out)) × (at ≤ 1000000) × (n ≤ 1000000) ⌝ }
+    requires { ⌜ (n ≤ length (now out)) × (at ≤ recordSize) × (n ≤ recordSize) ⌝ }
     ensures { λ _. ⌜ now (out .exit) ≡ many byte 1 (now (s .entry)) at n ++ drop n (now (out .entry)) ⌝ }
 {
     let mut j = 0;
@@ -216,7 +305,7 @@ fn copy_some(out: &mut [u8], s: &[u8], at: usize, n: usize)
 }
 
 fn copy_in(out: &mut [u8], s: &[u8], at: usize, n: usize)
-    requires { ⌜ (n ≤ length (now out)) × (at ≤ 1000000) × (n ≤ 1000000) ⌝ }
+    requires { ⌜ (n ≤ length (now out)) × (at ≤ recordSize) × (n ≤ recordSize) ⌝ }
     ensures { λ _. ⌜ now (out .exit) ≡ many byte 1 (now (s .entry)) at n ++ drop n (now (out .entry)) ⌝ }
 {
     if at + n <= s.len() {
@@ -231,23 +320,28 @@ fn read(r: &[u8], n: usize) -> Source
     requires { ⌜ n ≤ maxTables ⌝ }
     ensures { λ x. ⌜ x ≡ sourceOf n (now (r .entry)) ⌝ }
 {
-    let original = words_at(r, 20, n * 2);
-    let tables = blocks_at(r, n * 8 + 20, n);
+    let original = words_at(r, TABLES_OFFSET, n * TABLE_WORDS);
+    let tables = blocks_at(r, n * ORIGINAL_SIZE + TABLES_OFFSET, n);
     let mut stamp = [0u8; STAMP_SIZE];
-    copy_in(&mut stamp, r, n * 20 + 20, STAMP_SIZE);
+    copy_in(&mut stamp, r, n * TABLE_SIZE + STAMP_OFFSET, STAMP_SIZE);
     let mut id = [0u8; ID_SIZE];
-    copy_in(&mut id, r, n * 20 + 33, ID_SIZE);
+    copy_in(&mut id, r, n * TABLE_SIZE + ID_OFFSET, ID_SIZE);
     let mut validator = [0u8; VALIDATOR_SIZE];
-    copy_in(&mut validator, r, n * 20 + 113, VALIDATOR_SIZE);
+    copy_in(
+        &mut validator,
+        r,
+        n * TABLE_SIZE + VALIDATOR_OFFSET,
+        VALIDATOR_SIZE,
+    );
     Source {
         start: word_at(r, 0),
-        end: word_at(r, 4),
-        present: word_at(r, 8),
-        updated: get_time(r, 12),
+        end: word_at(r, END_OFFSET),
+        present: word_at(r, PRESENT_OFFSET),
+        updated: get_time(r, UPDATED_OFFSET),
         original,
         tables,
         stamp,
-        idlen: get8(r, n * 20 + 32),
+        idlen: get8(r, n * TABLE_SIZE + IDLEN_OFFSET),
         id,
         validator,
     }
@@ -271,14 +365,14 @@ fn put8(out: &mut [u8], at: usize, v: u8)
 }
 
 fn put32(out: &mut [u8], at: usize, v: u32)
-    requires { ⌜ at + 4 ≤ length (now out) ⌝ }
+    requires { ⌜ at + wordSize ≤ length (now out) ⌝ }
     ensures { λ _. ⌜ now (out .exit) ≡ sets (now (out .entry)) at (le32 v) ⌝ }
 {
     put(out, at, v);
 }
 
 fn put64(out: &mut [u8], at: usize, z: i64)
-    requires { ⌜ at + 8 ≤ length (now out) ⌝ }
+    requires { ⌜ at + timeSize ≤ length (now out) ⌝ }
     ensures { λ _. ⌜ now (out .exit) ≡ sets (now (out .entry)) at (le64 z) ⌝ }
 {
     put_time(out, at, z);
@@ -296,27 +390,27 @@ fn put_bytes(out: &mut [u8], at: usize, s: &[u8])
 }
 
 fn put_block(out: &mut [u8], at: usize, b: Block)
-    requires { ⌜ at + 12 ≤ length (now out) ⌝ }
+    requires { ⌜ at + blockSize ≤ length (now out) ⌝ }
     ensures { λ _. ⌜ now (out .exit) ≡ sets (now (out .entry)) at (blockBytes b) ⌝ }
 {
     put32(out, at, b.offset);
-    put32(out, at + 4, b.length);
-    put32(out, at + 8, b.crc);
+    put32(out, at + BLOCK_LENGTH_OFFSET, b.length);
+    put32(out, at + BLOCK_CRC_OFFSET, b.crc);
 }
 
 fn put_words(out: &mut [u8], at: usize, ws: [u32; ORIGINAL_WORDS])
-    requires { ⌜ at + 64 ≤ length (now out) ⌝ }
-    ensures { λ _. ⌜ (now (out .exit) ≡ sets (now (out .entry)) at (puts le32 ws)) × (length ws ≡ maxTables * 2) ⌝ }
+    requires { ⌜ at + maxTables * originalSize ≤ length (now out) ⌝ }
+    ensures { λ _. ⌜ (now (out .exit) ≡ sets (now (out .entry)) at (puts le32 ws)) × (length ws ≡ maxTables * originalWords) ⌝ }
 {
     let mut j = 0;
     while j < ORIGINAL_WORDS {
-        put32(out, at + j * 4, ws[j]);
+        put32(out, at + j * WORD_SIZE, ws[j]);
         j += 1;
     }
 }
 
 fn put_blocks(out: &mut [u8], at: usize, bs: [Block; TABLES])
-    requires { ⌜ at + 96 ≤ length (now out) ⌝ }
+    requires { ⌜ at + maxTables * blockSize ≤ length (now out) ⌝ }
     ensures { λ _. ⌜ (now (out .exit) ≡ sets (now (out .entry)) at (puts blockBytes bs)) × (length bs ≡ maxTables) ⌝ }
 {
     let mut j = 0;
@@ -327,27 +421,27 @@ fn put_blocks(out: &mut [u8], at: usize, bs: [Block; TABLES])
 }
 
 fn put_head(out: &mut [u8], at: usize, s: Source)
-    requires { ⌜ at + 20 ≤ length (now out) ⌝ }
+    requires { ⌜ at + tablesOffset ≤ length (now out) ⌝ }
     ensures { λ _. ⌜ now (out .exit) ≡ sets (now (out .entry)) at (headBytes s) ⌝ }
 {
     put32(out, at, s.start);
-    put32(out, at + 4, s.end);
-    put32(out, at + 8, s.present);
-    put64(out, at + 12, s.updated);
+    put32(out, at + END_OFFSET, s.end);
+    put32(out, at + PRESENT_OFFSET, s.present);
+    put64(out, at + UPDATED_OFFSET, s.updated);
 }
 
 fn put_tables(out: &mut [u8], at: usize, s: Source)
-    requires { ⌜ at + 160 ≤ length (now out) ⌝ }
-    ensures { λ _. ⌜ (now (out .exit) ≡ sets (now (out .entry)) at (tableBytes s)) × (length (s .original) ≡ maxTables * 2) × (length (s .tables) ≡ maxTables) ⌝ }
+    requires { ⌜ at + maxTables * tableSize ≤ length (now out) ⌝ }
+    ensures { λ _. ⌜ (now (out .exit) ≡ sets (now (out .entry)) at (tableBytes s)) × (length (s .original) ≡ maxTables * originalWords) × (length (s .tables) ≡ maxTables) ⌝ }
 {
     let ws = s.original;
     put_words(out, at, ws);
     let bs = s.tables;
-    put_blocks(out, at + 64, bs);
+    put_blocks(out, at + BLOCKS_IN_TABLES, bs);
 }
 
 fn put_stamp(out: &mut [u8], at: usize, x: [u8; STAMP_SIZE])
-    requires { ⌜ at + 12 ≤ length (now out) ⌝ }
+    requires { ⌜ at + stampSize ≤ length (now out) ⌝ }
     ensures { λ _. ⌜ (now (out .exit) ≡ sets (now (out .entry)) at x) × (length x ≡ stampSize) ⌝ }
 {
     put_bytes(out, at, &x);
@@ -368,16 +462,16 @@ fn put_validator(out: &mut [u8], at: usize, x: [u8; VALIDATOR_SIZE])
 }
 
 fn put_tail(out: &mut [u8], at: usize, s: Source)
-    requires { ⌜ at + 159 ≤ length (now out) ⌝ }
+    requires { ⌜ at + (validatorOffset + validatorSize - tablesOffset) ≤ length (now out) ⌝ }
     ensures { λ _. ⌜ (now (out .exit) ≡ sets (now (out .entry)) at (tailBytes s)) × (length (s .stamp) ≡ stampSize) × (length (s .id) ≡ idSize) × (length (s .validator) ≡ validatorSize) ⌝ }
 {
     let stamp = s.stamp;
     put_stamp(out, at, stamp);
-    put8(out, at + 12, s.idlen);
+    put8(out, at + IDLEN_IN_TAIL, s.idlen);
     let id = s.id;
-    put_id(out, at + 13, id);
+    put_id(out, at + ID_IN_TAIL, id);
     let validator = s.validator;
-    put_validator(out, at + 93, validator);
+    put_validator(out, at + VALIDATOR_IN_TAIL, validator);
 }
 
 // Writes the record of version 3 at an offset, where it fits.
@@ -386,15 +480,15 @@ fn put_source(out: &mut [u8], at: usize, s: Source)
     ensures { λ _. ⌜ (now (out .exit) ≡ sets (now (out .entry)) at (sourceBytes s)) × (length (sourceBytes s) ≡ recordSize) ⌝ }
 {
     put_head(out, at, s);
-    put_tables(out, at + 20, s);
-    put_tail(out, at + 180, s);
-    let zeros = [0u8; 45];
-    put_bytes(out, at + 339, &zeros);
+    put_tables(out, at + TABLES_OFFSET, s);
+    put_tail(out, at + TAIL_OFFSET, s);
+    let zeros = [0u8; PADDING_SIZE];
+    put_bytes(out, at + PADDING_OFFSET, &zeros);
 }
 
 // These do nothing: their contracts say that the arrays of a record have their lengths.
 fn has_words(ws: [u32; ORIGINAL_WORDS])
-    ensures { λ _. ⌜ length ws ≡ maxTables * 2 ⌝ }
+    ensures { λ _. ⌜ length ws ≡ maxTables * originalWords ⌝ }
 {}
 
 fn has_blocks(bs: [Block; TABLES])
