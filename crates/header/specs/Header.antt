@@ -6,32 +6,57 @@ use lib.Dec.{leb, eqb}
 use lib.IntN.{ℤ, pos, negsuc}
 use lib.ListN.{length, take, drop}
 use lib.Signed.{leZ}
-use Rattle.base.specs.Number.{pick}
+use Rattle.base.specs.Number.{pick, maxSigned}
 use Rattle.leaf.specs.Bytes.{word, time}
 use Rattle.leaf.specs.Crc.{crc32}
 use Rattle.leaf.specs.Date.{validDate}
 use Rattle.refusal.specs.declared.Refusal.the-variants.{Mark, Seal, Span, Source as BadSource}
 use Rattle.record.specs.declared.Block.{Block}
 use Rattle.record.specs.declared.Source.{Source}
-use Rattle.record.specs.Record.{currentVersion, recordSize, sourceSize, decoded}
+use Rattle.record.specs.Record.{firstVersion, currentVersion, recordSize, sourceSize, decoded}
 use Rattle.base.specs.Lists.{many, fill, each}
 use Rattle.header.specs.declared.Bank.{Bank}
 use Rattle.header.specs.declared.Validated.{Validated}
 use Rattle.header.specs.declared.Validated.the-variants.{Good, Refused}
 use Rattle.region.specs.Region.{capacity}
 
+-- offsets of the header's numbers; bytes 28 to 31 are zero
+abbrev pub magicOffset : ℕ
+magicOffset = 0
+
+abbrev pub versionOffset : ℕ
+versionOffset = 4
+
+abbrev pub generationOffset : ℕ
+generationOffset = 8
+
+abbrev pub lengthOffset : ℕ
+lengthOffset = 12
+
+abbrev pub dataCrcOffset : ℕ
+dataCrcOffset = 16
+
+abbrev pub countOffset : ℕ
+countOffset = 20
+
+abbrev pub keyOffset : ℕ
+keyOffset = 24
+
+abbrev pub checkedOffset : ℕ
+checkedOffset = 32
+
 -- the header's numbers, of bank n
 unfoldable pub numbersOf : ℕ → List ℕ → Bank
 numbersOf n l =
     record {
       number = n;
-      version = word l 4;
-      generation = word l 8;
-      length = word l 12;
-      crc = word l 16;
-      count = word l 20;
-      key = word l 24;
-      checked = time l 32;
+      version = word l versionOffset;
+      generation = word l generationOffset;
+      length = word l lengthOffset;
+      crc = word l dataCrcOffset;
+      count = word l countOffset;
+      key = word l keyOffset;
+      checked = time l checkedOffset;
     }
 
 -- a header has three records, from byte 48 on; the header CRC and the commit word are just before them
@@ -65,14 +90,14 @@ abbrev pub commitWord : ℕ
 commitWord = 1129270612
 
 unfoldable pub marked : List ℕ → Bool
-marked l = eqb (word l 0) magic && (leb 1 (word l 4) && (leb (word l 4) currentVersion && eqb (word l commitOffset) commitWord))
+marked l = eqb (word l magicOffset) magic && (leb firstVersion (word l versionOffset) && (leb (word l versionOffset) currentVersion && eqb (word l commitOffset) commitWord))
 
 -- 4: the CRC over 48 bytes and all three records, bytes 40 to 47 as zero
 unfoldable pub headerCrc : List ℕ → ℕ → ℕ
 headerCrc l size = crc32 0 (take crcOffset l ++ (fill 0 (recordsOffset - crcOffset) ++ take (size * maxSources) (drop recordsOffset l)))
 
 unfoldable pub sealed : List ℕ → Bool
-sealed l = eqb (word l crcOffset) (headerCrc l (sourceSize (word l 4)))
+sealed l = eqb (word l crcOffset) (headerCrc l (sourceSize (word l versionOffset)))
 
 -- 5: lengths, count and checked time
 abbrev pub lengthOk : Bank → Bool
@@ -87,6 +112,10 @@ countOk b = leb 1 (b .count) && leb (b .count) maxSources
 unfoldable pub spanOk : Bank → Bool
 spanOk b = lengthOk b && (keyOk b && (countOk b && leZ (pos 0) (b .checked)))
 
+-- a bit for each table
+abbrev pub maxPresent : ℕ
+maxPresent = 255
+
 -- 6: dates, present bits, updated time and blocks of a source
 abbrev pub datesOk : Source → Bool
 datesOk s = validDate (s .start) && (validDate (s .end) && leb (s .start) (s .end))
@@ -94,7 +123,7 @@ datesOk s = validDate (s .start) && (validDate (s .end) && leb (s .start) (s .en
 -- the lowest signed value, -2^63, means unknown
 abbrev pub isUnknown : ℤ → Bool
 isUnknown (pos n) = false
-isUnknown (negsuc n) = eqb n 9223372036854775807
+isUnknown (negsuc n) = eqb n maxSigned
 
 abbrev pub updatedOk : ℤ → ℤ → Bool
 updatedOk checked u = isUnknown u || (leZ (pos 0) u && leZ u checked)
@@ -104,7 +133,7 @@ abbrev pub blockOk : Bank → Block → Bool
 blockOk b t = eqb (t .length) 0 || (leb (b .key) (t .offset) && leb (t .offset + t .length) (b .length))
 
 unfoldable pub sourceOk : Bank → Source → Bool
-sourceOk b s = datesOk s && (leb (s .present) 255 && (updatedOk (b .checked) (s .updated) && each (blockOk b) (s .tables)))
+sourceOk b s = datesOk s && (leb (s .present) maxPresent && (updatedOk (b .checked) (s .updated) && each (blockOk b) (s .tables)))
 
 -- 5 and 6, on a bank's numbers and its records below the count
 unfoldable pub judge : Bank → List Source → Validated
@@ -114,5 +143,5 @@ judge b ss = pick (spanOk b) (pick (each (sourceOk b) ss) (Good b) (Refused BadS
 unfoldable pub headerOf : ℕ → List ℕ → Validated
 headerOf n l =
     pick (marked l)
-    (pick (sealed l) (judge (numbersOf n l) (recordsOf (word l 4) l (word l 20))) (Refused Seal))
+    (pick (sealed l) (judge (numbersOf n l) (recordsOf (word l versionOffset) l (word l countOffset))) (Refused Seal))
     (Refused Mark)

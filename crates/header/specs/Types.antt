@@ -3,18 +3,19 @@ use mathlib.Core.List.{List}
 use Prim.Native.Nat.{ℕ, _<_}
 use mir.Syntax.{w64}
 use mir.Val.{SFits}
+use Rattle.base.specs.Number.{byteValues}
 use Rattle.base.specs.Lists.{byte}
 use Rattle.record.specs.declared.Source.{Source}
 use Rattle.record.specs.Types.{U32, Sized, Ranged}
 use Rattle.header.specs.declared.Bank.{Bank}
 
--- every number of a list is below 256
+-- every number of a list is a byte
 abbrev pub Bytes : List ℕ → Type 0
-Bytes l = (k : ℕ) → byte l k < 256
+Bytes l = (k : ℕ) → byte l k < byteValues
 
 pub record TextBytes (s : Source) : Type 0 where
   pub stamp : Bytes (s .stamp)
-  pub idlen : s .idlen < 256
+  pub idlen : s .idlen < byteValues
   pub id : Bytes (s .id)
   pub validator : Bytes (s .validator)
 

@@ -4,7 +4,7 @@ use mathlib.Core.List.{List, _++_}
 use Prim.Native.Nat.{ℕ, _*_, _-_}
 use lib.Dec.{leb}
 use lib.ListN.{length}
-use Rattle.leaf.specs.Bytes.{le32, le64}
+use Rattle.leaf.specs.Bytes.{le32, le64, wordSize}
 use Rattle.leaf.specs.Crc.{crc32}
 use Rattle.record.specs.declared.Source.{Source}
 use Rattle.record.specs.Record.{recordSize, idSize, maxValidator, sourceBytes}
@@ -12,6 +12,7 @@ use Rattle.base.specs.Lists.{puts, fill, each, byte}
 use Rattle.header.specs.declared.Bank.{Bank}
 use Rattle.header.specs.declared.Validated.{Validated}
 use Rattle.header.specs.declared.Validated.the-variants.{Good, Refused}
+use Rattle.region.specs.Region.{erasedByte}
 use Rattle.header.specs.Header.{maxSources, recordsOffset, crcOffset, magic, commitWord, judge}
 
 -- bytes 0 to 15: "TTFC", version, generation, data length
@@ -39,7 +40,7 @@ headerBytes b ss word = numberBytes b ++ (le32 (crcOf b ss) ++ (word ++ recordBy
 
 -- commit's first write has 255 in the commit word, its second is the word
 unfoldable pub blankWord : List ℕ
-blankWord = fill 255 4
+blankWord = fill erasedByte wordSize
 
 unfoldable pub commitBytes : List ℕ
 commitBytes = le32 commitWord

@@ -30,6 +30,7 @@ use leaf::bytes::get_time;
 use leaf::crc::crc32;
 use leaf::date::valid_date;
 use record::Block;
+use record::FIRST_VERSION;
 use record::RECORD_SIZE;
 use record::Source;
 use record::VERSION;
@@ -38,10 +39,29 @@ use record::source_size;
 use refusal::Refusal;
 use region::CAPACITY_32;
 
+// Offsets of the header's numbers; bytes 28 to 31 are zero.
+pub const MAGIC_OFFSET: usize = 0;
+
+pub const VERSION_OFFSET: usize = 4;
+
+pub const GENERATION_OFFSET: usize = 8;
+
+pub const LENGTH_OFFSET: usize = 12;
+
+pub const DATA_CRC_OFFSET: usize = 16;
+
+pub const COUNT_OFFSET: usize = 20;
+
+pub const KEY_OFFSET: usize = 24;
+
+pub const ZERO_OFFSET: usize = 28;
+
+pub const CHECKED_OFFSET: usize = 32;
+
 // Three records, from byte 48 on; the header CRC and the commit word just before them.
 pub const SOURCES: usize = 3;
 
-pub const SOURCES_32: u32 = 3;
+pub const SOURCES_32: u32 = SOURCES as u32;
 
 pub const CRC_OFFSET: usize = 40;
 
@@ -50,6 +70,12 @@ pub const COMMIT_OFFSET: usize = 44;
 pub const RECORDS_OFFSET: usize = 48;
 
 pub const HEADER_SIZE: usize = RECORDS_OFFSET + SOURCES * RECORD_SIZE;
+
+// The header CRC and the commit word, which count as zeros in that CRC.
+const SEAL_SIZE: usize = RECORDS_OFFSET - CRC_OFFSET;
+
+// A bit for each table.
+pub const MAX_PRESENT: u32 = 255;
 
 pub const MAGIC: u32 = 0x43465454;
 
@@ -81,28 +107,29 @@ fn numbers_of(b: &[u8], number: u32) -> Bank
 {
     Bank {
         number,
-        version: get(b, 4),
-        generation: get(b, 8),
-        length: get(b, 12),
-        crc: get(b, 16),
-        count: get(b, 20),
-        key: get(b, 24),
-        checked: get_time(b, 32),
+        version: get(b, VERSION_OFFSET),
+        generation: get(b, GENERATION_OFFSET),
+        length: get(b, LENGTH_OFFSET),
+        crc: get(b, DATA_CRC_OFFSET),
+        count: get(b, COUNT_OFFSET),
+        key: get(b, KEY_OFFSET),
+        checked: get_time(b, CHECKED_OFFSET),
     }
 }
 
 fn is_marked(b: &[u8]) -> bool
     ensures { λ r. ⌜ r ≡ marked (now (b .entry)) ⌝ }
 {
-    let v = get(b, 4);
-    (get(b, 0) == MAGIC) & ((1 <= v) & ((v <= VERSION) & (get(b, COMMIT_OFFSET) == COMMIT_WORD)))
+    let v = get(b, VERSION_OFFSET);
+    (get(b, MAGIC_OFFSET) == MAGIC)
+        & ((FIRST_VERSION <= v) & ((v <= VERSION) & (get(b, COMMIT_OFFSET) == COMMIT_WORD)))
 }
 
 fn header_crc(b: &[u8], size: usize) -> u32
     requires { ⌜ size ≤ recordSize ⌝ }
     ensures { λ r. ⌜ r ≡ headerCrc (now (b .entry)) size ⌝ }
 {
-    let zeros = [0u8; 8];
+    let zeros = [0u8; SEAL_SIZE];
     let front = part(b, 0, CRC_OFFSET);
     let x = crc32(0, front);
     let y = crc32(x, &zeros);
@@ -113,7 +140,7 @@ fn header_crc(b: &[u8], size: usize) -> u32
 fn is_sealed(b: &[u8]) -> bool
     ensures { λ r. ⌜ r ≡ sealed (now (b .entry)) ⌝ }
 {
-    let size = source_size(get(b, 4));
+    let size = source_size(get(b, VERSION_OFFSET));
     get(b, CRC_OFFSET) == header_crc(b, size)
 }
 
@@ -163,7 +190,7 @@ pub fn source_ok(b: Bank, s: Source) -> bool
 {
     let ts = s.tables;
     (valid_date(s.start) & (valid_date(s.end) & (s.start <= s.end)))
-        & ((s.present <= 255) & (updated_ok(b.checked, s.updated) & blocks_ok(b, ts)))
+        & ((s.present <= MAX_PRESENT) & (updated_ok(b.checked, s.updated) & blocks_ok(b, ts)))
 }
 
 // The record of a version at an offset of a bank.

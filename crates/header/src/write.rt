@@ -4,9 +4,9 @@ ghost use Prim.Native.Nat.{_*_, _≤_, min};
 ghost use lib.ListN.{length, take};
 ghost use lib.Seq.{sets};
 ghost use Rattle.record.specs.Types.{Sized};
-ghost use Rattle.record.specs.Record.{sourceBytes, stampSize, idSize, validatorSize};
+ghost use Rattle.record.specs.Record.{recordSize, originalWords, sourceBytes, stampSize, idSize, validatorSize};
 ghost use Rattle.base.specs.Lists.{puts, fill};
-ghost use Rattle.header.specs.Header.{headerSize, maxSources, recordsOffset};
+ghost use Rattle.header.specs.Header.{headerSize, maxSources, dataCrcOffset, recordsOffset};
 ghost use Rattle.header.specs.WriteHeader.{
   firstBytes,
   secondBytes,
@@ -19,16 +19,26 @@ ghost use Rattle.header.specs.WriteHeader.{
 ghost use Rattle.base.specs.Table.{maxTables};
 use crate::BLANK_WORD;
 use crate::Bank;
+use crate::CHECKED_OFFSET;
 use crate::COMMIT_OFFSET;
+use crate::COUNT_OFFSET;
 use crate::CRC_OFFSET;
+use crate::DATA_CRC_OFFSET;
+use crate::GENERATION_OFFSET;
 use crate::HEADER_SIZE;
+use crate::KEY_OFFSET;
+use crate::LENGTH_OFFSET;
 use crate::MAGIC;
+use crate::MAGIC_OFFSET;
 use crate::RECORDS_OFFSET;
 use crate::SOURCES;
 use crate::SOURCES_32;
+use crate::VERSION_OFFSET;
+use crate::ZERO_OFFSET;
 use crate::source_ok;
 use crate::span_ok;
 use base::table::TABLES;
+use leaf::bytes::WORD_SIZE;
 use leaf::bytes::put;
 use leaf::bytes::put_time;
 use leaf::crc::crc32;
@@ -64,21 +74,21 @@ fn put_first(out: &mut [u8], b: Bank)
     requires { ⌜ length (now out) ≡ headerSize ⌝ }
     ensures { λ _. ⌜ now (out .exit) ≡ sets (now (out .entry)) 0 (firstBytes b) ⌝ }
 {
-    put(out, 0, MAGIC);
-    put(out, 4, b.version);
-    put(out, 8, b.generation);
-    put(out, 12, b.length);
+    put(out, MAGIC_OFFSET, MAGIC);
+    put(out, VERSION_OFFSET, b.version);
+    put(out, GENERATION_OFFSET, b.generation);
+    put(out, LENGTH_OFFSET, b.length);
 }
 
 fn put_second(out: &mut [u8], b: Bank)
     requires { ⌜ length (now out) ≡ headerSize ⌝ }
-    ensures { λ _. ⌜ now (out .exit) ≡ sets (now (out .entry)) 16 (secondBytes b) ⌝ }
+    ensures { λ _. ⌜ now (out .exit) ≡ sets (now (out .entry)) dataCrcOffset (secondBytes b) ⌝ }
 {
-    put(out, 16, b.crc);
-    put(out, 20, b.count);
-    put(out, 24, b.key);
-    put(out, 28, 0);
-    put_time(out, 32, b.checked);
+    put(out, DATA_CRC_OFFSET, b.crc);
+    put(out, COUNT_OFFSET, b.count);
+    put(out, KEY_OFFSET, b.key);
+    put(out, ZERO_OFFSET, 0);
+    put_time(out, CHECKED_OFFSET, b.checked);
 }
 
 // Does nothing: its contract says that the arrays of a record have their lengths.
@@ -89,7 +99,7 @@ fn have_lengths(
     id: [u8; ID_SIZE],
     validator: [u8; VALIDATOR_SIZE],
 )
-    ensures { λ _. ⌜ (length original ≡ maxTables * 2) × (length tables ≡ maxTables) × (length stamp ≡ stampSize) × (length id ≡ idSize) × (length validator ≡ validatorSize) ⌝ }
+    ensures { λ _. ⌜ (length original ≡ maxTables * originalWords) × (length tables ≡ maxTables) × (length stamp ≡ stampSize) × (length id ≡ idSize) × (length validator ≡ validatorSize) ⌝ }
 {}
 
 fn is_sized(s: Source)
@@ -106,7 +116,7 @@ fn is_sized(s: Source)
 // Writes the first n records, one after the other.
 fn put_records(out: &mut [u8], ss: [Source; SOURCES], n: usize)
     requires { ⌜ (n ≤ maxSources) × (length (now out) ≡ headerSize) ⌝ }
-    ensures { λ _. ⌜ (now (out .exit) ≡ sets (now (out .entry)) recordsOffset (puts sourceBytes (take n ss))) × (length (puts sourceBytes (take n ss)) ≡ n * 384) × (length ss ≡ 3) ⌝ }
+    ensures { λ _. ⌜ (now (out .exit) ≡ sets (now (out .entry)) recordsOffset (puts sourceBytes (take n ss))) × (length (puts sourceBytes (take n ss)) ≡ n * recordSize) × (length ss ≡ maxSources) ⌝ }
 {
     let mut i = 0;
     while i < n {
@@ -139,11 +149,14 @@ pub fn header_bytes(b: Bank, ss: [Source; SOURCES]) -> [u8; HEADER_SIZE]
     out
 }
 
+// The bytes of the commit word, the lowest first.
+const COMMIT_BYTES: [u8; WORD_SIZE] = [84, 77, 79, 67];
+
 // The bytes of the commit word.
-pub fn commit_bytes() -> [u8; 4]
+pub fn commit_bytes() -> [u8; WORD_SIZE]
     ensures { λ r. ⌜ r ≡ commitBytes ⌝ }
 {
-    [84, 77, 79, 67]
+    COMMIT_BYTES
 }
 
 fn text_ok(s: Source) -> bool
