@@ -5,12 +5,20 @@ use Prim.Native.Nat.{ℕ, _+_, _*_, _/_, _%_, _^_}
 use lib.Bits.{bitOr}
 use lib.Dec.{leb, eqb}
 use lib.ListN.{length, set}
-use Rattle.base.specs.Number.{pick, wrap32, rotateLeft32}
+use Rattle.base.specs.Number.{pick, byteBits, rotation, wrap32, rotateLeft32}
 use Rattle.base.specs.Lists.{byte}
 use Rattle.leaf.specs.Crc.{crc32}
 use Rattle.refusal.specs.declared.Refusal.the-variants.{Argument}
 use Rattle.bloom.specs.declared.Filter.{Filter}
 use Rattle.bloom.specs.declared.Filter.the-variants.{Present, Absent, Refused}
+
+-- the most bytes of a filter
+abbrev pub maxFilter : ℕ
+maxFilter = 65536
+
+-- how many bits a trip id sets
+abbrev pub positionCount : ℕ
+positionCount = 4
 
 -- "The hash is the CRC-32 of the trip id."
 abbrev pub hashOf : List ℕ → ℕ
@@ -18,11 +26,11 @@ hashOf id = crc32 0 id
 
 -- "step is the hash rotated left 13, low bit set"
 unfoldable pub stepOf : ℕ → ℕ
-stepOf hash = bitOr (rotateLeft32 13 hash) 1
+stepOf hash = bitOr (rotateLeft32 rotation hash) 1
 
 -- "Wrapping 32-bit sums; position i (0 to 3) is hash + i × step, modulo eight times the filter's bytes"
 unfoldable pub position : ℕ → ℕ → ℕ → ℕ
-position hash bytes i = wrap32 (hash + i * stepOf hash) % (8 * bytes)
+position hash bytes i = wrap32 (hash + i * stepOf hash) % (byteBits * bytes)
 
 -- positions 0 to 3, in order
 abbrev pub positions : ℕ → ℕ → List ℕ
@@ -30,11 +38,11 @@ positions hash bytes = position hash bytes 0 ∷ position hash bytes 1 ∷ posit
 
 -- "Position p is bit p modulo 8, counted from the lowest, of byte p / 8": whether it is set
 unfoldable pub isSet : List ℕ → ℕ → Bool
-isSet bits p = eqb (byte bits (p / 8) / 2 ^ (p % 8) % 2) 1
+isSet bits p = eqb (byte bits (p / byteBits) / 2 ^ (p % byteBits) % 2) 1
 
 -- the filter with that bit set, and all else as before
 unfoldable pub setBit : List ℕ → ℕ → List ℕ
-setBit bits p = set bits (p / 8) (bitOr (byte bits (p / 8)) (2 ^ (p % 8)))
+setBit bits p = set bits (p / byteBits) (bitOr (byte bits (p / byteBits)) (2 ^ (p % byteBits)))
 
 -- whether the bit at each of the positions is set
 unfoldable pub allSet : List ℕ → List ℕ → Bool
@@ -53,7 +61,7 @@ setAll bits (p ∷ ps) = setAll (setBit bits p) ps
 
 -- refusal 2: "filter of 0 or over 65,536 bytes"
 abbrev pub fits : ℕ → Bool
-fits bytes = leb 1 bytes && leb bytes 65536
+fits bytes = leb 1 bytes && leb bytes maxFilter
 
 abbrev pub answer : Bool → Filter
 answer true = Present

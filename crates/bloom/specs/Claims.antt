@@ -5,7 +5,8 @@ use mathlib.Core.List.{List}
 use Prim.Native.Nat.{ℕ, _%_, _<_}
 use lib.ListN.{length}
 use Rattle.bloom.specs.declared.Filter.the-variants.{Present}
-use Rattle.bloom.specs.Bloom.{hashOf, position, isSet, fits, query, insertAnswer, inserted}
+use Rattle.base.specs.Number.{byteBits}
+use Rattle.bloom.specs.Bloom.{positionCount, hashOf, position, isSet, fits, query, insertAnswer, inserted}
 
 -- what was inserted is found
 abbrev pub Found : Type 0
@@ -17,7 +18,7 @@ ClearsNone = (bits id : List ℕ) (p : ℕ) → isSet bits p ≡ true → isSet 
 
 -- sets none but the four,
 abbrev pub SetsOnlyFour : Type 0
-SetsOnlyFour = (bits id : List ℕ) (p : ℕ) → ((i : ℕ) → i < 4 → p ≡ position (hashOf id) (length bits) i → ⊥) → isSet (inserted bits id) p ≡ isSet bits p
+SetsOnlyFour = (bits id : List ℕ) (p : ℕ) → ((i : ℕ) → i < positionCount → p ≡ position (hashOf id) (length bits) i → ⊥) → isSet (inserted bits id) p ≡ isSet bits p
 
 -- and keeps the length
 abbrev pub SameLength : Type 0
@@ -25,7 +26,7 @@ SameLength = (bits id : List ℕ) → length (inserted bits id) ≡ length bits
 
 -- the four positions differ, even modulo 8, for every hash and size
 abbrev pub Differ : Type 0
-Differ = (hash bytes i j : ℕ) → i < 4 → j < 4 → position hash bytes i % 8 ≡ position hash bytes j % 8 → i ≡ j
+Differ = (hash bytes i j : ℕ) → i < positionCount → j < positionCount → position hash bytes i % byteBits ≡ position hash bytes j % byteBits → i ≡ j
 
 -- so an insertion answers what a query before it would
 abbrev pub AnswersAsQuery : Type 0

@@ -3,11 +3,18 @@ ghost use mathlib.Core.Path.{_≡_};
 ghost use mathlib.Core.Bool.{true};
 ghost use Prim.Native.Nat.{_*_, _/_, _%_, _<_, _≤_};
 ghost use lib.ListN.{length};
+ghost use Rattle.base.specs.Number.{byteBits};
 ghost use Rattle.bloom.specs.Bloom as Bloom;
+ghost use Rattle.bloom.specs.Bloom.{maxFilter};
 ghost use Rattle.bloom.specs.Places.{four, Within};
+use base::number::BYTE_BITS;
+use base::number::BYTE_BITS_32;
 use base::number::rotate13;
 use leaf::crc::crc32;
 use refusal::Refusal;
+
+// The most bytes of a filter.
+pub const MAX_FILTER: usize = 65536;
 
 // What a query and an insertion answer: whether all four bits were set.
 pub enum Filter {
@@ -32,14 +39,14 @@ fn step_of(hash: u32) -> u32
 
 // A sum modulo the filter's number of bits.
 fn place(sum: u32, bytes: usize) -> u32
-    requires { ⌜ (0 < bytes) × (bytes ≤ 65536) ⌝ }
-    ensures { λ r. ⌜ (r ≡ sum % (8 * bytes)) × (r / 8 < bytes) ⌝ }
+    requires { ⌜ (0 < bytes) × (bytes ≤ maxFilter) ⌝ }
+    ensures { λ r. ⌜ (r ≡ sum % (byteBits * bytes)) × (r / byteBits < bytes) ⌝ }
 {
-    sum % ((8 * bytes) as u32)
+    sum % ((BYTE_BITS * bytes) as u32)
 }
 
 fn positions(hash: u32, bytes: usize) -> Four
-    requires { ⌜ (0 < bytes) × (bytes ≤ 65536) ⌝ }
+    requires { ⌜ (0 < bytes) × (bytes ≤ maxFilter) ⌝ }
     ensures { λ r. ⌜ (four r ≡ Bloom.positions hash bytes) × Within bytes (four r) ⌝ }
 {
     let step = step_of(hash);
@@ -56,22 +63,22 @@ fn positions(hash: u32, bytes: usize) -> Four
 
 // Whether the bit at a position is set.
 fn is_set(bits: &[u8], p: u32) -> bool
-    requires { ⌜ p / 8 < length (now bits) ⌝ }
+    requires { ⌜ p / byteBits < length (now bits) ⌝ }
     ensures { λ r. ⌜ r ≡ Bloom.isSet (now (bits .entry)) p ⌝ }
 {
-    (bits[(p / 8) as usize] >> (p % 8)) % 2 == 1
+    (bits[(p / BYTE_BITS_32) as usize] >> (p % BYTE_BITS_32)) % 2 == 1
 }
 
 // Reads the bit at a position, then sets it.
 fn visit(bits: &mut [u8], p: u32) -> bool
-    requires { ⌜ p / 8 < length (now bits) ⌝ }
+    requires { ⌜ p / byteBits < length (now bits) ⌝ }
     ensures { λ r. ⌜ (r ≡ Bloom.isSet (now (bits .entry)) p) × (now (bits .exit) ≡ Bloom.setBit (now (bits .entry)) p) ⌝ }
 {
-    let i = (p / 8) as usize;
+    let i = (p / BYTE_BITS_32) as usize;
     let before = bits[i];
-    let after = before | (1 << (p % 8));
+    let after = before | (1 << (p % BYTE_BITS_32));
     bits[i] = after;
-    (before >> (p % 8)) % 2 == 1
+    (before >> (p % BYTE_BITS_32)) % 2 == 1
 }
 
 // Whether the bits at four positions are set.
@@ -100,9 +107,9 @@ fn set_all(bits: &mut [u8], p: Four) -> bool
 
 // Whether a filter has 1 to 65,536 bytes.
 fn fits(bytes: usize) -> bool
-    ensures { λ r. ⌜ (r ≡ Bloom.fits bytes) × (r ≡ true → (0 < bytes) × (bytes ≤ 65536)) ⌝ }
+    ensures { λ r. ⌜ (r ≡ Bloom.fits bytes) × (r ≡ true → (0 < bytes) × (bytes ≤ maxFilter)) ⌝ }
 {
-    (1 <= bytes) & (bytes <= 65536)
+    (1 <= bytes) & (bytes <= MAX_FILTER)
 }
 
 fn answer(present: bool) -> Filter

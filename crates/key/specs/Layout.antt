@@ -4,7 +4,7 @@ use mathlib.Core.List.{List, [], _∷_, _++_}
 use Prim.Native.Nat.{ℕ, zero, suc, _/_, _%_, _*_}
 use lib.ListN.{length, getD}
 use lib.Dec.{leb}
-use Rattle.base.specs.Number.{pick}
+use Rattle.base.specs.Number.{pick, byteValues}
 use Rattle.leaf.specs.Bytes.{written}
 use Rattle.refusal.specs.declared.Refusal.the-variants.{Argument, Identity, Small}
 use Rattle.key.specs.Order.{Text, Pick, fieldCount}
@@ -21,20 +21,27 @@ joined bytesOf (x ∷ xs) = bytesOf x ++ joined bytesOf xs
 
 -- a field: a length byte, then the text
 abbrev pub field : Text → List ℕ
-field t = length t % 256 ∷ t
+field t = length t % byteValues ∷ t
 
 -- a pick: its five fields
 abbrev pub entry : Pick → List ℕ
 entry p = joined field p
 
+-- the first byte of a key that has an identity, and how many bytes are before it
+abbrev pub identityMark : ℕ
+identityMark = 255
+
+abbrev pub prefixSize : ℕ
+prefixSize = 3
+
 -- "255, a 16-bit length, the bytes"; an empty identity writes nothing
 unfoldable pub prefix : Text → List ℕ
 prefix [] = []
-prefix (b ∷ bs) = 255 ∷ length (b ∷ bs) % 256 ∷ length (b ∷ bs) / 256 % 256 ∷ b ∷ bs
+prefix (b ∷ bs) = identityMark ∷ length (b ∷ bs) % byteValues ∷ length (b ∷ bs) / byteValues % byteValues ∷ b ∷ bs
 
 -- "one byte, how many distinct picks", and these
 abbrev pub body : List Pick → List ℕ
-body s = length s % 256 ∷ joined entry s
+body s = length s % byteValues ∷ joined entry s
 
 -- the key of an identity and a list of picks
 unfoldable pub keyOf : Text → List Pick → List ℕ
@@ -69,7 +76,7 @@ every (suc n) test = pick (every n test) (test n) false
 
 -- text k is within its size
 abbrev pub sized : (ℕ → Text) → ℕ → Bool
-sized t k = leb (length (t k)) (getD sizes (k % 5) 0)
+sized t k = leb (length (t k)) (getD sizes (k % fieldCount) 0)
 
 -- at most 16 picks, and each text within its size, also a stop name that is left out for a code
 unfoldable pub fit : Text → List ℕ → Bool

@@ -10,6 +10,19 @@ Text = List ℕ
 abbrev pub fieldCount : ℕ
 fieldCount = 5
 
+-- the fields' numbers: line, route, stop code, stop, stop name
+abbrev pub routeField : ℕ
+routeField = 1
+
+abbrev pub codeField : ℕ
+codeField = 2
+
+abbrev pub stopField : ℕ
+stopField = 3
+
+abbrev pub nameField : ℕ
+nameField = 4
+
 abbrev pub Pick : Type 0
 Pick = List Text
 

@@ -4,7 +4,7 @@ use mathlib.Core.Path.{_≡_}
 use mathlib.Core.Logic.{_⊎_}
 use Prim.Native.Nat.{ℕ, zero, suc, _+_, _*_, _/_, Ordering, Ordering·lt, Ordering·eq, Ordering·gt}
 use lib.ListN.{length, take, drop, getD}
-use Rattle.key.specs.Order.{Text, Pick, pickOrder, fieldCount}
+use Rattle.key.specs.Order.{Text, Pick, pickOrder, fieldCount, routeField, codeField, stopField, nameField}
 
 -- ---- as passed: all texts joined, and their lengths, five to a pick
 
@@ -23,7 +23,7 @@ unlessCode (c ∷ cs) name = []
 
 -- pick i of texts 0, 1, 2, ..: line, route, stop code, stop, stop name
 unfoldable pub pickOf : (ℕ → Text) → ℕ → Pick
-pickOf t i = t (i * fieldCount) ∷ t (i * fieldCount + 1) ∷ t (i * fieldCount + 2) ∷ t (i * fieldCount + 3) ∷ unlessCode (t (i * fieldCount + 2)) (t (i * fieldCount + 4)) ∷ []
+pickOf t i = t (i * fieldCount) ∷ t (i * fieldCount + routeField) ∷ t (i * fieldCount + codeField) ∷ t (i * fieldCount + stopField) ∷ unlessCode (t (i * fieldCount + codeField)) (t (i * fieldCount + nameField)) ∷ []
 
 -- pick i as passed
 abbrev pub pickAt : Text → List ℕ → ℕ → Pick
@@ -31,7 +31,7 @@ pickAt bytes lengths i = pickOf (text bytes lengths) i
 
 -- how many picks there are: five lengths to each, the last one perhaps with fewer
 abbrev pub count : List ℕ → ℕ
-count lengths = (length lengths + 4) / 5
+count lengths = (length lengths + nameField) / fieldCount
 
 -- f 0, f 1, .., f (n - 1)
 unfoldable pub firsts : {A : Type 0} → ℕ → (ℕ → A) → List A

@@ -28,6 +28,18 @@ const STARTS: usize = MAX_TEXTS + 1;
 
 pub const MAX_IDENTITY: usize = 65535;
 
+// The first byte of a key that has an identity, and how many bytes are before it.
+pub const IDENTITY_MARK: u8 = 255;
+
+pub const PREFIX_SIZE: usize = 3;
+
+// The fields' numbers that the code names.
+const CODE_FIELD: usize = 2;
+
+const STOP_FIELD: usize = 3;
+
+const NAME_FIELD: usize = LAST_FIELD;
+
 pub enum KeyAnswer {
     // The key is in the first n bytes.
     Written(usize),

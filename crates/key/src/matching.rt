@@ -10,10 +10,12 @@ ghost use Rattle.base.specs.Same.{same};
 ghost use Rattle.key.specs.Steps.{Rising, pickIn, Below, Small, stretch};
 ghost use Rattle.key.specs.Order.{fieldCount};
 use crate::FIELDS;
+use crate::IDENTITY_MARK;
 use crate::MAX_PICKS;
 use crate::picks::field;
 use crate::picks::sort_picks;
 use crate::write::key_length;
+use base::number::BYTE_VALUES;
 use base::slice::same_bytes;
 
 // Where the compared bytes end in the stored key, or that they differ.
@@ -58,7 +60,7 @@ fn match_bytes(stored: &[u8], at: usize, s: &[u8]) -> Matched
 fn match_field(stored: &[u8], at: usize, s: &[u8]) -> Matched
     ensures { λ r. ⌜ r ≡ stretch (now (stored .entry)) at (fieldOf (now (s .entry))) ⌝ }
 {
-    let Matched::To(a) = match_byte(stored, at, (s.len() % 256) as u8) else {
+    let Matched::To(a) = match_byte(stored, at, (s.len() % BYTE_VALUES) as u8) else {
         return Matched::Differs;
     };
     match_bytes(stored, a, s)
@@ -112,13 +114,13 @@ fn match_prefix(stored: &[u8], identity: &[u8]) -> Matched
     if n == 0 {
         return Matched::To(0);
     }
-    let Matched::To(a) = match_byte(stored, 0, 255) else {
+    let Matched::To(a) = match_byte(stored, 0, IDENTITY_MARK) else {
         return Matched::Differs;
     };
-    let Matched::To(b) = match_byte(stored, a, (n % 256) as u8) else {
+    let Matched::To(b) = match_byte(stored, a, (n % BYTE_VALUES) as u8) else {
         return Matched::Differs;
     };
-    let Matched::To(c) = match_byte(stored, b, (n / 256 % 256) as u8) else {
+    let Matched::To(c) = match_byte(stored, b, (n / BYTE_VALUES % BYTE_VALUES) as u8) else {
         return Matched::Differs;
     };
     match_bytes(stored, c, identity)
@@ -144,7 +146,7 @@ pub(crate) fn match_key(
     let Matched::To(a) = match_prefix(stored, identity) else {
         return false;
     };
-    let Matched::To(b) = match_byte(stored, a, (m % 256) as u8) else {
+    let Matched::To(b) = match_byte(stored, a, (m % BYTE_VALUES) as u8) else {
         return false;
     };
     let Matched::To(_) = match_picks(stored, b, texts, starts, n, sorted) else {

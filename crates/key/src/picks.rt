@@ -8,10 +8,12 @@ ghost use Rattle.key.specs.Order.{textOrder, pickOrder, fieldCount};
 ghost use Rattle.key.specs.Picks.{firsts, insert, distinct};
 ghost use Rattle.key.specs.Layout.{entry, sized, every};
 ghost use Rattle.key.specs.Steps.{number, Offsets, Rising, between, pickIn, Goes, Ordered, Below, Prepares, startsSize};
+use crate::CODE_FIELD;
 use crate::FIELDS;
 use crate::LAST_FIELD;
 use crate::MAX_IDENTITY;
 use crate::MAX_TEXTS;
+use crate::NAME_FIELD;
 use refusal::Refusal;
 
 // The index at which a pick is inserted among the sorted ones, or that it is among them.
@@ -106,14 +108,14 @@ pub(crate) fn field<'a, 'b>(texts: &'a [u8], starts: &'b [usize], i: usize, f: u
     ensures { λ r. ⌜ now r ≡ getD (pickIn (now (texts .entry)) (now (starts .entry)) i) f [] ⌝ }
 {
     let first = i * FIELDS;
-    if f < 4 {
+    if f < NAME_FIELD {
         return text(texts, starts, first + f);
     }
-    let code = text(texts, starts, first + 2);
+    let code = text(texts, starts, first + CODE_FIELD);
     if 0 < code.len() {
         return &texts[0..0];
     }
-    text(texts, starts, first + 4)
+    text(texts, starts, first + NAME_FIELD)
 }
 
 // The order of two picks.

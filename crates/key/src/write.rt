@@ -5,14 +5,20 @@ ghost use Prim.Native.Nat.{_+_, _-_, _*_, _≤_, _<_};
 ghost use lib.ListN.{length};
 ghost use Rattle.leaf.specs.Bytes.{written};
 ghost use Rattle.key.specs.Picks.{firsts};
-ghost use Rattle.key.specs.Layout.{field as fieldOf, entry, joined, keyOf, prefix, maxIdentity, within, after, maxPicks, longestEntry};
+ghost use Rattle.key.specs.Layout.{field as fieldOf, entry, joined, keyOf, prefix, maxIdentity, prefixSize, within, after, maxPicks, longestEntry};
 ghost use Rattle.key.specs.Steps.{Rising, pickIn, Below, Small};
 ghost use Rattle.key.specs.Order.{fieldCount};
+use crate::CODE_FIELD;
 use crate::FIELDS;
+use crate::IDENTITY_MARK;
 use crate::KeyAnswer;
 use crate::MAX_PICKS;
+use crate::NAME_FIELD;
+use crate::PREFIX_SIZE;
+use crate::STOP_FIELD;
 use crate::picks::field;
 use crate::picks::sort_picks;
+use base::number::BYTE_VALUES;
 use refusal::Refusal;
 
 // How many bytes pick i has in the key. If it has a code, the name is left out.
@@ -22,9 +28,9 @@ fn entry_length(texts: &[u8], starts: &[usize], i: usize) -> usize
 {
     let first = i * FIELDS;
     let from = starts[first];
-    let code = starts[first + 2];
-    let stop = starts[first + 3];
-    let name = starts[first + 4];
+    let code = starts[first + CODE_FIELD];
+    let stop = starts[first + STOP_FIELD];
+    let name = starts[first + NAME_FIELD];
     let end = starts[first + FIELDS];
     if code < stop {
         return name - from + FIELDS;
@@ -49,13 +55,13 @@ fn entries_length(texts: &[u8], starts: &[usize], n: usize, sorted: &[usize]) ->
 
 fn prefix_length(identity: &[u8]) -> usize
     requires { ⌜ length (now identity) ≤ maxIdentity ⌝ }
-    ensures { λ r. ⌜ (r ≡ length (prefix (now (identity .entry)))) × (r ≤ maxIdentity + 3) ⌝ }
+    ensures { λ r. ⌜ (r ≡ length (prefix (now (identity .entry)))) × (r ≤ maxIdentity + prefixSize) ⌝ }
 {
     let n = identity.len();
     if n == 0 {
         return 0;
     }
-    n + 3
+    n + PREFIX_SIZE
 }
 
 // How many bytes the key of an identity and the sorted picks has.
@@ -89,7 +95,7 @@ fn put_field(out: &mut [u8], at: usize, s: &[u8])
     requires { ⌜ at + length (fieldOf (now s)) ≤ length (now out) ⌝ }
     ensures { λ _. ⌜ now (out .exit) ≡ written (now (out .entry)) at (fieldOf (now (s .entry))) ⌝ }
 {
-    out[at] = (s.len() % 256) as u8;
+    out[at] = (s.len() % BYTE_VALUES) as u8;
     put_bytes(out, at + 1, s);
 }
 
@@ -132,11 +138,11 @@ fn put_prefix(out: &mut [u8], identity: &[u8]) -> usize
     if n == 0 {
         return 0;
     }
-    out[0] = 255;
-    out[1] = (n % 256) as u8;
-    out[2] = (n / 256 % 256) as u8;
-    put_bytes(out, 3, identity);
-    n + 3
+    out[0] = IDENTITY_MARK;
+    out[1] = (n % BYTE_VALUES) as u8;
+    out[2] = (n / BYTE_VALUES % BYTE_VALUES) as u8;
+    put_bytes(out, PREFIX_SIZE, identity);
+    n + PREFIX_SIZE
 }
 
 // Writes the key of an identity and n picks whose texts fit, if out has the capacity.
@@ -158,7 +164,7 @@ pub(crate) fn write_key(
         return KeyAnswer::Refused(Refusal::Small);
     }
     let at = put_prefix(out, identity);
-    out[at] = (m % 256) as u8;
+    out[at] = (m % BYTE_VALUES) as u8;
     put_picks(out, at + 1, texts, starts, n, sorted);
     KeyAnswer::Written(total)
 }
