@@ -7,6 +7,13 @@ use Rattle.csv.specs.Write.{fieldOf}
 use Rattle.row.specs.Columns.{columns, line}
 use Rattle.csv.specs.Csv.{quote}
 
+-- how many bytes are copied or counted at once, and how many are tested for special bytes
+abbrev pub atOnce : ℕ
+atOnce = 64
+
+abbrev pub searched : ℕ
+searched = 32
+
 -- the names lines of tables, joined
 unfoldable pub lines : List (List (List ℕ)) → List ℕ
 lines [] = []

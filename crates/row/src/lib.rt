@@ -9,6 +9,7 @@ ghost use Rattle.csv.specs.Write.{rowOf};
 ghost use Rattle.row.specs.Columns.{columnCount, namesLine};
 ghost use Rattle.row.specs.Write.{passedValues, within, after, namesAnswer, rowAnswer};
 ghost use Rattle.row.specs.Steps.{allLines};
+ghost use Rattle.base.specs.Table.{maxTables};
 use crate::size::row_size;
 use crate::write::copy;
 use crate::write::put_row;
@@ -24,11 +25,31 @@ pub enum RowAnswer {
     Refused(Refusal),
 }
 
+// How many bytes are copied or counted at once, and with one quote doubled.
+const AT_ONCE: usize = 64;
+
+const TWICE_AT_ONCE: usize = AT_ONCE + AT_ONCE;
+
+const QUOTED_BLOCK: usize = AT_ONCE + 1;
+
+// How many bytes are tested for special ones at once, and from how many on this is done.
+const SEARCHED: usize = 32;
+
+const SEARCH_FROM: usize = 16;
+
+// A value has few quotes if fewer than one in this many bytes is one.
+const FEW_QUOTES: usize = 16;
+
+// The two quotes around a value, or two quotes for one.
+const TWO_QUOTES: usize = 2;
+
 // How many columns each table has.
 const COUNTS: [usize; TABLES] = [3, 3, 5, 8, 10, 3, 2, 8];
 
 // The offset of each table's names line among all of them, and their end.
-const STARTS: [usize; 9] = [0, 37, 65, 120, 218, 306, 337, 367, 473];
+const LINE_OFFSETS: usize = TABLES + 1;
+
+const STARTS: [usize; LINE_OFFSETS] = [0, 37, 65, 120, 218, 306, 337, 367, 473];
 
 // How many columns a table has, 0 above table 7.
 pub fn column_count(table: u32) -> usize
@@ -44,7 +65,7 @@ pub fn column_count(table: u32) -> usize
 
 // Copies a table's names line to out, if it fits; `all` has the names lines of all tables.
 fn put_line(all: &[u8], table: usize, out: &mut [u8]) -> RowAnswer
-    requires { ⌜ (now all ≡ allLines) × (table < 8) ⌝ }
+    requires { ⌜ (now all ≡ allLines) × (table < maxTables) ⌝ }
     ensures { λ r. ⌜ (r ≡ within (length (now (out .entry))) (namesLine table)) × (now (out .exit) ≡ after r (namesLine table) (now (out .entry))) ⌝ }
 {
     let starts = STARTS;

@@ -4,8 +4,12 @@ ghost use Prim.Native.Nat.{_+_, _-_, _≤_, _<_, min};
 ghost use lib.ListN.{length, drop};
 ghost use Rattle.csv.specs.Write.{special, anySpecial, doubled, fieldOf, rowOf};
 ghost use Rattle.row.specs.Write.{passedValues};
-ghost use Rattle.row.specs.Steps.{Sizes};
+ghost use Rattle.row.specs.Steps.{Sizes, atOnce, searched};
 ghost use Rattle.csv.specs.Csv.{maxRow};
+use crate::AT_ONCE;
+use crate::SEARCH_FROM;
+use crate::SEARCHED;
+use crate::TWO_QUOTES;
 use csv::COMMA;
 use csv::CR;
 use csv::LF;
@@ -24,7 +28,7 @@ fn is_special(b: u8) -> bool
 
 // Whether one of at most 64 bytes is special. They are counted, so that many are tested at once.
 fn some_special(v: &[u8]) -> bool
-    requires { ⌜ length (now v) ≤ 64 ⌝ }
+    requires { ⌜ length (now v) ≤ atOnce ⌝ }
     ensures { λ r. ⌜ r ≡ anySpecial (now (v .entry)) ⌝ }
 {
     let mut n: u8 = 0;
@@ -59,16 +63,20 @@ fn special_from(v: &[u8], from: usize) -> bool
 // The end of the bytes from i on that are tested at once, at most 32.
 fn near(len: usize, i: usize) -> usize
     requires { ⌜ i ≤ len ⌝ }
-    ensures { λ r. ⌜ r ≡ i + min 32 (len - i) ⌝ }
+    ensures { λ r. ⌜ r ≡ i + min searched (len - i) ⌝ }
 {
-    if len - i < 32 { len } else { i + 32 }
+    if len - i < SEARCHED {
+        len
+    } else {
+        i + SEARCHED
+    }
 }
 
 // Whether a value is quoted.
 fn any_special(v: &[u8]) -> bool
     ensures { λ r. ⌜ r ≡ anySpecial (now (v .entry)) ⌝ }
 {
-    if v.len() < 16 {
+    if v.len() < SEARCH_FROM {
         return special_from(v, 0);
     }
     let mut i: usize = 0;
@@ -84,7 +92,7 @@ fn any_special(v: &[u8]) -> bool
 
 // How many of at most 64 bytes are quotes, which is what doubling adds.
 pub(crate) fn quotes(v: &[u8]) -> u8
-    requires { ⌜ length (now v) ≤ 64 ⌝ }
+    requires { ⌜ length (now v) ≤ atOnce ⌝ }
     ensures { λ r. ⌜ r + length (now (v .entry)) ≡ length (doubled (now (v .entry))) ⌝ }
 {
     let mut n: u8 = 0;
@@ -105,8 +113,8 @@ fn doubled_size(v: &[u8]) -> usize
 {
     let mut n = v.len();
     let mut i: usize = 0;
-    while 64 <= v.len() - i {
-        let end = i + 64;
+    while AT_ONCE <= v.len() - i {
+        let end = i + AT_ONCE;
         n += quotes(&v[i..end]) as usize;
         i = end;
     }
@@ -127,7 +135,7 @@ fn field_size(v: &[u8]) -> usize
     ensures { λ r. ⌜ r ≡ length (fieldOf (now (v .entry))) ⌝ }
 {
     if any_special(v) {
-        return doubled_size(v) + 2;
+        return doubled_size(v) + TWO_QUOTES;
     }
     v.len()
 }

@@ -7,8 +7,13 @@ ghost use lib.Seq.{sets};
 ghost use Rattle.base.specs.Number.{pick};
 ghost use Rattle.csv.specs.Write.{doubled, fieldOf, rowOf};
 ghost use Rattle.row.specs.Write.{passedValues};
-ghost use Rattle.row.specs.Steps.{Sizes, FirstQuote};
+ghost use Rattle.row.specs.Steps.{Sizes, FirstQuote, atOnce};
 ghost use Rattle.csv.specs.Csv.{quote, comma, lineFeed};
+use crate::AT_ONCE;
+use crate::FEW_QUOTES;
+use crate::QUOTED_BLOCK;
+use crate::TWICE_AT_ONCE;
+use crate::TWO_QUOTES;
 use crate::size::cut;
 use crate::size::quotes;
 use csv::COMMA;
@@ -61,7 +66,7 @@ fn least(a: u8, b: u8) -> u8
 
 // The index of the first quote of at most 64 bytes, or their end. It is computed as a minimum, so that many are tested at once.
 fn first_quote(v: &[u8]) -> u8
-    requires { ⌜ length (now v) ≤ 64 ⌝ }
+    requires { ⌜ length (now v) ≤ atOnce ⌝ }
     ensures { λ r. ⌜ FirstQuote (now (v .entry)) r ⌝ }
 {
     let none = v.len() as u8;
@@ -76,10 +81,10 @@ fn first_quote(v: &[u8]) -> u8
 
 // Copies 64 bytes to out at an offset. The array in between is copied whole.
 fn block(v: &[u8], out: &mut [u8], to: usize)
-    requires { ⌜ (length (now v) ≡ 64) × (to + 64 ≤ length (now out)) ⌝ }
+    requires { ⌜ (length (now v) ≡ atOnce) × (to + atOnce ≤ length (now out)) ⌝ }
     ensures { λ _. ⌜ now (out .exit) ≡ sets (now (out .entry)) to (now (v .entry)) ⌝ }
 {
-    let mut b: [u8; 64] = [0; 64];
+    let mut b: [u8; AT_ONCE] = [0; AT_ONCE];
     copy(v, &mut b, 0);
     copy(&b, out, to);
 }
@@ -88,14 +93,14 @@ fn block(v: &[u8], out: &mut [u8], to: usize)
 // quote on are overwritten later.
 fn put_run(v: &[u8], out: &mut [u8], to: usize) -> usize
     requires { ⌜ to + length (now v) ≤ length (now out) ⌝ }
-    ensures { λ r. ⌜ FirstQuote (take 64 (now (v .entry))) r × (now (out .exit) ≡ sets (now (out .entry)) to (take (pick (leb 64 (length (now (v .entry)))) 64 r) (now (v .entry)))) ⌝ }
+    ensures { λ r. ⌜ FirstQuote (take atOnce (now (v .entry))) r × (now (out .exit) ≡ sets (now (out .entry)) to (take (pick (leb atOnce (length (now (v .entry)))) atOnce r) (now (v .entry)))) ⌝ }
 {
-    if v.len() < 64 {
+    if v.len() < AT_ONCE {
         let n = first_quote(v) as usize;
         copy(&v[0..n], out, to);
         return n;
     }
-    let part = &v[0..64];
+    let part = &v[0..AT_ONCE];
     block(part, out, to);
     first_quote(part) as usize
 }
@@ -111,10 +116,10 @@ fn put_runs(v: &[u8], size: usize, out: &mut [u8], to: usize)
         let run = put_run(&v[i..v.len()], out, n);
         n += run;
         i += run;
-        if run < 64 {
+        if run < AT_ONCE {
             out[n] = QUOTE;
             out[n + 1] = QUOTE;
-            n += 2;
+            n += TWO_QUOTES;
             i += 1;
         }
     }
@@ -124,22 +129,22 @@ fn put_runs(v: &[u8], size: usize, out: &mut [u8], to: usize)
 // Copies the first 64 bytes of v to out at an offset, quotes doubled; gives where they end. Bytes written after that end are
 // overwritten later.
 fn put_block(v: &[u8], out: &mut [u8], to: usize) -> usize
-    requires { ⌜ (128 ≤ length (now v)) × (to + length (doubled (now v)) ≤ length (now out)) ⌝ }
-    ensures { λ r. ⌜ (r ≡ to + length (doubled (take 64 (now (v .entry))))) × (sets (now (out .exit)) r (doubled (drop 64 (now (v .entry)))) ≡ sets (now (out .entry)) to (doubled (now (v .entry)))) ⌝ }
+    requires { ⌜ (atOnce + atOnce ≤ length (now v)) × (to + length (doubled (now v)) ≤ length (now out)) ⌝ }
+    ensures { λ r. ⌜ (r ≡ to + length (doubled (take atOnce (now (v .entry))))) × (sets (now (out .exit)) r (doubled (drop atOnce (now (v .entry)))) ≡ sets (now (out .entry)) to (doubled (now (v .entry)))) ⌝ }
 {
-    let part = &v[0..64];
+    let part = &v[0..AT_ONCE];
     let n = quotes(part);
     if 1 < n {
         return put_each(part, out, to);
     }
     block(part, out, to);
     if n == 0 {
-        return to + 64;
+        return to + AT_ONCE;
     }
     let f = first_quote(part) as usize;
-    let end = f + 64;
+    let end = f + AT_ONCE;
     block(&v[f..end], out, to + f + 1);
-    to + 65
+    to + QUOTED_BLOCK
 }
 
 // Copies those blocks of a value that 64 bytes or more follow to out at an offset, quotes doubled.
@@ -149,9 +154,9 @@ fn put_blocks(v: &[u8], out: &mut [u8], to: usize) -> Put
 {
     let mut n = to;
     let mut i: usize = 0;
-    while 128 <= v.len() - i {
+    while TWICE_AT_ONCE <= v.len() - i {
         n = put_block(&v[i..v.len()], out, n);
-        i += 64;
+        i += AT_ONCE;
     }
     Put { bytes: i, to: n }
 }
@@ -181,7 +186,7 @@ fn put_inner(v: &[u8], size: usize, out: &mut [u8], to: usize)
         copy(v, out, to);
         return;
     }
-    if size - v.len() < v.len() / 16 {
+    if size - v.len() < v.len() / FEW_QUOTES {
         put_few(v, size, out, to);
         return;
     }
@@ -198,7 +203,7 @@ fn put_field(v: &[u8], size: usize, out: &mut [u8], to: usize)
         return;
     }
     out[to] = QUOTE;
-    put_inner(v, size - 2, out, to + 1);
+    put_inner(v, size - TWO_QUOTES, out, to + 1);
     out[to + size - 1] = QUOTE;
 }
 

@@ -17,6 +17,20 @@ use Rattle.rowread.specs.declared.fast.Fast.{Fast}
 use Rattle.rowread.specs.declared.fast.Fast.the-variants.{Read, Not}
 use Rattle.rowread.specs.Stored.{joined, endsOf}
 
+-- how many bytes are counted at once, and how many are searched for a delimiter
+abbrev pub atOnce : ℕ
+atOnce = 64
+
+abbrev pub searched : ℕ
+searched = 32
+
+-- the two buffers that a row is read into
+abbrev pub smallBuffer : ℕ
+smallBuffer = 256
+
+abbrev pub largeBuffer : ℕ
+largeBuffer = 1024
+
 -- the end of a value in n bytes, and its size
 abbrev pub pieceOf : ℕ → Got → Piece
 pieceOf n (got v r) = Value (n - length r) (length v)
@@ -57,9 +71,9 @@ unfoldable pub lineOf : List ℕ → List ℕ
 lineOf [] = []
 lineOf (b ∷ t) = pick (isStop b) [] (b ∷ lineOf t)
 
--- n is the index of the first delimiter, 32 if there is none
+-- n is the index of the first delimiter, the chunk's size if there is none
 abbrev pub FirstStop : List ℕ → ℕ → Type 0
-FirstStop v n = (n ≤ 32) × (n ≡ 32 → length (lineOf v) ≡ length v) × (n < 32 → (n ≡ length (lineOf v)) × (n < length v))
+FirstStop v n = (n ≤ searched) × (n ≡ searched → length (lineOf v) ≡ length v) × (n < searched → (n ≡ length (lineOf v)) × (n < length v))
 
 -- of bytes without quotes: how many are commas; the others; and where in these the values end, those that a comma follows, and all
 unfoldable pub commasIn : List ℕ → ℕ

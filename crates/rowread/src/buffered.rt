@@ -5,7 +5,10 @@ ghost use Prim.Native.Nat.{_+_, _-_, _≤_, _<_};
 ghost use lib.ListN.{length, take};
 ghost use lib.Seq.{sets};
 ghost use Rattle.csv.specs.Csv.{Inner, Field, maxColumns};
-ghost use Rattle.rowread.specs.Steps.{Opens, Took, TookRow, Within, Handed, Quickly};
+ghost use Rattle.rowread.specs.Steps.{Opens, Took, TookRow, Within, Handed, Quickly, smallBuffer, largeBuffer};
+use crate::LARGE_BUFFER;
+use crate::LF_WITHIN;
+use crate::SMALL_BUFFER;
 use crate::copy::copy_part;
 use crate::copy::copy_plain;
 use crate::fast::Fast;
@@ -216,7 +219,7 @@ fn row_through(
     copy_out(found, width, room, marks, out, ends)
 }
 
-// The same with a buffer of 256 bytes.
+// The same with the small buffer.
 fn with_small_buffer(
     t: &[u8],
     width: usize,
@@ -225,10 +228,10 @@ fn with_small_buffer(
     out: &mut [u8],
     ends: &mut [usize],
 ) -> Fast
-    requires { ⌜ Opens (now t) e n × (n < width) × (width ≤ maxColumns) × (length (now t) ≤ 256) ⌝ }
+    requires { ⌜ Opens (now t) e n × (n < width) × (width ≤ maxColumns) × (length (now t) ≤ smallBuffer) ⌝ }
     ensures { λ r. ⌜ Quickly (now (t .entry)) width (now (out .entry)) (now (ends .entry)) (now (out .exit)) (now (ends .exit)) r ⌝ }
 {
-    let mut room = [0u8; 256];
+    let mut room = [0u8; SMALL_BUFFER];
     let mut marks = [0usize; MAX_COLUMNS];
     row_through(t, width, e, n, &mut room, &mut marks, out, ends)
 }
@@ -242,10 +245,10 @@ fn with_large_buffer(
     out: &mut [u8],
     ends: &mut [usize],
 ) -> Fast
-    requires { ⌜ Opens (now t) e n × (n < width) × (width ≤ maxColumns) × (length (now t) ≤ 1024) ⌝ }
+    requires { ⌜ Opens (now t) e n × (n < width) × (width ≤ maxColumns) × (length (now t) ≤ largeBuffer) ⌝ }
     ensures { λ r. ⌜ Quickly (now (t .entry)) width (now (out .entry)) (now (ends .entry)) (now (out .exit)) (now (ends .exit)) r ⌝ }
 {
-    let mut room = [0u8; 1024];
+    let mut room = [0u8; LARGE_BUFFER];
     let mut marks = [0usize; MAX_COLUMNS];
     row_through(t, width, e, n, &mut room, &mut marks, out, ends)
 }
@@ -254,10 +257,10 @@ fn with_large_buffer(
 fn ends_soon(t: &[u8], from: usize) -> bool
     requires { ⌜ from ≤ length (now t) ⌝ }
 {
-    if t.len() - from < 64 {
+    if t.len() - from < LF_WITHIN {
         return true;
     }
-    let end = from + 64;
+    let end = from + LF_WITHIN;
     count_few(&t[from..end], LF) != 0
 }
 
@@ -277,13 +280,13 @@ pub(crate) fn with_buffer(
         return Fast::Not;
     }
     if ends_soon(t, e) {
-        let end = end_within(t.len(), 0, 256);
+        let end = end_within(t.len(), 0, SMALL_BUFFER);
         if end < e {
             return Fast::Not;
         }
         return with_small_buffer(&t[0..end], width, e, n, out, ends);
     }
-    let end = end_within(t.len(), 0, 1024);
+    let end = end_within(t.len(), 0, LARGE_BUFFER);
     if end < e {
         return Fast::Not;
     }

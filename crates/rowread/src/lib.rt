@@ -18,6 +18,27 @@ use crate::scan::scan_row;
 use csv::MAX_ROW;
 use refusal::Refusal;
 
+// How many bytes are counted at once, and how many are searched for a delimiter.
+const AT_ONCE: usize = 64;
+
+const SEARCHED: usize = 32;
+
+// The index that means that a chunk has no delimiter.
+const NO_DELIMITER: u8 = SEARCHED as u8;
+
+// How many bytes without a quote make the search worth its while.
+const WITHOUT_QUOTE: usize = 16;
+
+// The two buffers that a row is read into, and how near its end is for the small one.
+const SMALL_BUFFER: usize = 256;
+
+const LARGE_BUFFER: usize = 1024;
+
+const LF_WITHIN: usize = 64;
+
+// The closing quote of a row's last value, and the LF.
+const ROW_END: usize = 2;
+
 pub enum ReadAnswer {
     // The values, joined, are in the first size bytes, and the next row starts at next.
     Stored { next: usize, size: usize },

@@ -5,7 +5,9 @@ ghost use Prim.Native.Nat.{_+_, _-_, _≤_, _<_};
 ghost use lib.ListN.{length, getD};
 ghost use lib.Seq.{sets};
 ghost use Rattle.csv.specs.Csv.{quote, comma, maxRow};
-ghost use Rattle.rowread.specs.Steps.{commasIn, textIn, cutsIn, marksIn, Opens, Closes, Quickly};
+ghost use Rattle.rowread.specs.Steps.{commasIn, textIn, cutsIn, marksIn, Opens, Closes, Quickly, atOnce};
+use crate::AT_ONCE;
+use crate::ROW_END;
 use crate::copy::copy_part;
 use crate::fast::Fast;
 use crate::scan::byte_at;
@@ -16,7 +18,7 @@ use csv::QUOTE;
 
 // How many of at most 64 bytes are commas.
 fn count_few_commas(v: &[u8]) -> u8
-    requires { ⌜ length (now v) ≤ 64 ⌝ }
+    requires { ⌜ length (now v) ≤ atOnce ⌝ }
     ensures { λ r. ⌜ r ≡ commasIn (now (v .entry)) ⌝ }
 {
     let mut n: u8 = 0;
@@ -37,8 +39,8 @@ pub(crate) fn count_commas(v: &[u8]) -> usize
 {
     let mut n: usize = 0;
     let mut i: usize = 0;
-    while 64 <= v.len() - i {
-        let end = i + 64;
+    while AT_ONCE <= v.len() - i {
+        let end = i + AT_ONCE;
         n += count_few_commas(&v[i..end]) as usize;
         i = end;
     }
@@ -123,5 +125,8 @@ pub(crate) fn last_quoted(
     let m = copy_before(&t[0..e], out, ends);
     let size = copy_part(t, e + 1, c, out, m);
     ends[n] = size;
-    Fast::Read { next: c + 2, size }
+    Fast::Read {
+        next: c + ROW_END,
+        size,
+    }
 }

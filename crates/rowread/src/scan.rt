@@ -5,7 +5,10 @@ ghost use lib.ListN.{length, drop, getD};
 ghost use Rattle.base.specs.Number.{pick};
 ghost use Rattle.csv.specs.Csv.{isText};
 ghost use Rattle.csv.specs.Read.{plainValue, inner, fieldAt, rowEnd};
-ghost use Rattle.rowread.specs.Steps.{pieceOf, scanOf, isStop, FirstStop, lineOf};
+ghost use Rattle.rowread.specs.Steps.{pieceOf, scanOf, isStop, FirstStop, lineOf, atOnce, searched};
+use crate::NO_DELIMITER;
+use crate::SEARCHED;
+use crate::WITHOUT_QUOTE;
 use csv::COMMA;
 use csv::LF;
 use csv::QUOTE;
@@ -67,9 +70,9 @@ pub(crate) fn end_within(len: usize, i: usize, most: usize) -> usize
 }
 
 fn delimiter_index(b: u8, i: u8) -> u8
-    ensures { λ r. ⌜ r ≡ pick (isStop b) i 32 ⌝ }
+    ensures { λ r. ⌜ r ≡ pick (isStop b) i searched ⌝ }
 {
-    if is_delimiter(b) { i } else { 32 }
+    if is_delimiter(b) { i } else { NO_DELIMITER }
 }
 
 fn least(a: u8, b: u8) -> u8
@@ -80,10 +83,10 @@ fn least(a: u8, b: u8) -> u8
 
 // The index of the first delimiter of at most 32 bytes, or 32. It is computed as a minimum, so that many are tested at once.
 fn first_delimiter(v: &[u8]) -> u8
-    requires { ⌜ length (now v) ≤ 32 ⌝ }
+    requires { ⌜ length (now v) ≤ searched ⌝ }
     ensures { λ r. ⌜ FirstStop (now (v .entry)) r ⌝ }
 {
-    let mut n: u8 = 32;
+    let mut n: u8 = NO_DELIMITER;
     let mut i: usize = 0;
     while i < v.len() {
         n = least(delimiter_index(v[i], i as u8), n);
@@ -99,9 +102,9 @@ pub(crate) fn delimiter_from(t: &[u8], from: usize) -> usize
 {
     let mut i = from;
     while i < t.len() {
-        let end = end_within(t.len(), i, 32);
+        let end = end_within(t.len(), i, SEARCHED);
         let n = first_delimiter(&t[i..end]);
-        if n < 32 {
+        if n < NO_DELIMITER {
             return i + n as usize;
         }
         i = end;
@@ -111,7 +114,7 @@ pub(crate) fn delimiter_from(t: &[u8], from: usize) -> usize
 
 // How many of at most 64 bytes are b; the contract only bounds it.
 pub(crate) fn count_few(v: &[u8], b: u8) -> u8
-    requires { ⌜ length (now v) ≤ 64 ⌝ }
+    requires { ⌜ length (now v) ≤ atOnce ⌝ }
     ensures { λ r. ⌜ r ≤ length (now (v .entry)) ⌝ }
 {
     let mut n: u8 = 0;
@@ -129,10 +132,10 @@ pub(crate) fn count_few(v: &[u8], b: u8) -> u8
 pub(crate) fn has_few_quotes(t: &[u8], from: usize) -> bool
     requires { ⌜ from ≤ length (now t) ⌝ }
 {
-    if t.len() - from < 16 {
+    if t.len() - from < WITHOUT_QUOTE {
         return false;
     }
-    let end = from + 16;
+    let end = from + WITHOUT_QUOTE;
     count_few(&t[from..end], QUOTE) == 0
 }
 
