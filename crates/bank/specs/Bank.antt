@@ -12,8 +12,8 @@ use Rattle.refusal.specs.declared.Refusal.the-variants.{Region, Argument, Data}
 use Rattle.header.specs.declared.Bank.{Bank}
 use Rattle.header.specs.declared.Validated.{Validated}
 use Rattle.header.specs.declared.Validated.the-variants.{Good, Refused}
-use Rattle.region.specs.Region.{regionSize, bankOf, dataOf}
-use Rattle.header.specs.Header.{headerOf}
+use Rattle.region.specs.Region.{regionSize, lastBank, bankOf, dataOf}
+use Rattle.header.specs.Header.{generationOffset, headerOf}
 use Rattle.bank.specs.declared.Loaded.{Loaded}
 use Rattle.bank.specs.declared.Loaded.the-variants.{Found, Nothing, Refused as NotRead}
 
@@ -21,7 +21,7 @@ use Rattle.bank.specs.declared.Loaded.the-variants.{Found, Nothing, Refu
 unfoldable pub named : List ℕ → ℕ → Validated
 named region n =
     pick (eqb (length region) regionSize)
-    (pick (leb n 1) (headerOf n (bankOf region n)) (Refused Argument))
+    (pick (leb n lastBank) (headerOf n (bankOf region n)) (Refused Argument))
     (Refused Region)
 
 -- a bank's data
@@ -42,11 +42,11 @@ validated region n = thenData region (named region n)
 
 -- the generation word, as it is, from bad banks too
 unfoldable pub generation : List ℕ → ℕ → ℕ
-generation region n = word (bankOf region n) 8
+generation region n = word (bankOf region n) generationOffset
 
 -- bank 1 is tried first if its word is newer than bank 0's, otherwise bank 0
 unfoldable pub firstTried : List ℕ → ℕ
-firstTried region = pick (newer (generation region 1) (generation region 0)) 1 0
+firstTried region = pick (newer (generation region lastBank) (generation region 0)) lastBank 0
 
 abbrev pub orElse : Validated → Loaded → Loaded
 orElse (Good b) other = Found b
@@ -56,5 +56,5 @@ orElse (Refused r) other = other
 unfoldable pub loaded : List ℕ → Loaded
 loaded region =
     pick (eqb (length region) regionSize)
-    (orElse (validated region (firstTried region)) (orElse (validated region (1 - firstTried region)) Nothing))
+    (orElse (validated region (firstTried region)) (orElse (validated region (lastBank - firstTried region)) Nothing))
     (NotRead Region)

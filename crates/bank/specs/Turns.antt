@@ -11,7 +11,7 @@ use Rattle.refusal.specs.declared.Refusal.the-variants.{Region, Data, Turn as O
 use Rattle.header.specs.declared.Bank.{Bank}
 use Rattle.header.specs.declared.Validated.{Validated}
 use Rattle.header.specs.declared.Validated.the-variants.{Good, Refused as Bad}
-use Rattle.region.specs.Region.{regionSize, capacity, bankOf}
+use Rattle.region.specs.Region.{regionSize, capacity, lastBank, bankOf}
 use Rattle.header.specs.Header.{headerOf}
 use Rattle.bank.specs.declared.turns.Checking.{Checking}
 use Rattle.bank.specs.declared.turns.Progress.{Progress}
@@ -23,13 +23,17 @@ use Rattle.bank.specs.Bank.{named, validated, dataIn}
 abbrev pub stays : Checking → Progress → Turn
 stays s p = record { progress = p; next = s }
 
+-- a number of no bank
+abbrev pub noBank : ℕ
+noBank = 255
+
 -- the state before the first turn on bank n, and the one that a refused beginning gives, which every turn refuses
 abbrev pub fresh : ℕ → Checking
 fresh n = record { bank = n; position = 0; crc = 0 }
 
 abbrev pub begin : ℕ → Validated → Turn
 begin n (Good b) = stays (fresh n) (Hashed 0)
-begin n (Bad r) = stays (fresh 255) (Refused r)
+begin n (Bad r) = stays (fresh noBank) (Refused r)
 
 -- a beginning on bank n
 unfoldable pub started : List ℕ → ℕ → Turn
@@ -68,7 +72,7 @@ thenTurn region s n (Bad r) = stays s (Refused r)
 unfoldable pub turned : List ℕ → Checking → ℕ → Turn
 turned region s n =
     pick (eqb (length region) regionSize)
-    (pick (leb (s .bank) 1 && leb (s .position) capacity)
+    (pick (leb (s .bank) lastBank && leb (s .position) capacity)
     (thenTurn region s n (headerOf (s .bank) (bankOf region (s .bank))))
     (stays s (Refused OutOfTurn)))
     (stays s (Refused Region))

@@ -4,15 +4,18 @@ pub mod turns;
 ghost use mathlib.Core.Path.{_≡_};
 ghost use Prim.Native.Nat.{_-_, _≤_};
 ghost use lib.ListN.{length};
+ghost use Rattle.region.specs.Region.{lastBank};
 ghost use Rattle.bank.specs.Bank as Banks;
 use base::slice::part;
 use header::Bank;
+use header::GENERATION_OFFSET;
 use header::Validated;
 use header::header_of;
 use leaf::bytes::get;
 use leaf::crc::crc32;
 use leaf::generation::newer;
 use refusal::Refusal;
+use region::LAST_BANK;
 use region::REGION_SIZE;
 use region::SECTOR_SIZE;
 use region::bank_of;
@@ -30,7 +33,7 @@ pub fn header(region: &[u8], number: u32) -> Validated
     if region.len() != REGION_SIZE {
         return Validated::Refused(Refusal::Region);
     }
-    if 1 < number {
+    if LAST_BANK < number {
         return Validated::Refused(Refusal::Argument);
     }
     let l = bank_of(region, number);
@@ -73,14 +76,14 @@ fn generation(region: &[u8], number: u32) -> u32
     ensures { λ r. ⌜ r ≡ Banks.generation (now (region .entry)) number ⌝ }
 {
     let l = bank_of(region, number);
-    get(l, 8)
+    get(l, GENERATION_OFFSET)
 }
 
 fn first_tried(region: &[u8]) -> u32
-    ensures { λ r. ⌜ (r ≡ Banks.firstTried (now (region .entry))) × (r ≤ 1) ⌝ }
+    ensures { λ r. ⌜ (r ≡ Banks.firstTried (now (region .entry))) × (r ≤ lastBank) ⌝ }
 {
-    if newer(generation(region, 1), generation(region, 0)) {
-        1
+    if newer(generation(region, LAST_BANK), generation(region, 0)) {
+        LAST_BANK
     } else {
         0
     }
@@ -95,7 +98,7 @@ pub fn load(region: &[u8]) -> Loaded
     }
     let first = first_tried(region);
     let Validated::Good(b) = validate(region, first) else {
-        let Validated::Good(c) = validate(region, 1 - first) else {
+        let Validated::Good(c) = validate(region, LAST_BANK - first) else {
             return Loaded::Nothing;
         };
         return Loaded::Found(c);

@@ -14,7 +14,11 @@ use refusal::Refusal;
 use region::bank_of;
 ghost use Prim.Native.Nat.{_-_, _≤_, min};
 use region::CAPACITY_32;
+use region::LAST_BANK;
 use region::REGION_SIZE;
+
+// A number of no bank.
+pub const NO_BANK: u32 = 255;
 
 // The state of data checking on a bank.
 pub struct Checking {
@@ -51,7 +55,7 @@ pub fn check_start(region: &[u8], number: u32) -> Turn
         ),
         Validated::Refused(r) => stays(
             Checking {
-                bank: 255,
+                bank: NO_BANK,
                 position: 0,
                 crc: 0,
             },
@@ -99,7 +103,7 @@ pub fn check_turn(region: &[u8], s: Checking, n: u32) -> Turn
     if region.len() != REGION_SIZE {
         return stays(s, Progress::Refused(Refusal::Region));
     }
-    if !((s.bank <= 1) & (s.position <= CAPACITY_32)) {
+    if !((s.bank <= LAST_BANK) & (s.position <= CAPACITY_32)) {
         return stays(s, Progress::Refused(Refusal::Turn));
     }
     let l = bank_of(region, s.bank);

@@ -6,7 +6,7 @@ use lib.Dec.{leb, eqb}
 use lib.IntN.{ℤ, pos, negsuc}
 use lib.ListN.{length}
 use lib.Signed.{leZ}
-use Rattle.base.specs.Number.{pick}
+use Rattle.base.specs.Number.{pick, maxSigned}
 use Rattle.leaf.specs.Date.{validDate}
 use Rattle.refusal.specs.declared.Refusal.the-variants.{Region, Argument}
 use Rattle.record.specs.declared.Source.{Source}
@@ -29,7 +29,7 @@ namedIf fits region n = pick fits (named region n) (pick (eqb (length region) re
 
 -- the lowest signed value means unknown
 abbrev pub unknown : ℤ
-unknown = negsuc 9223372036854775807
+unknown = negsuc maxSigned
 
 abbrev pub daysOf : Days → List Day
 daysOf d = d .first ∷ d .second ∷ d .third ∷ []
