@@ -14,7 +14,8 @@ ghost use Rattle.writer.specs.declared.Stage.the-variants as Stages;
 ghost use Rattle.writer.specs.State as State;
 ghost use Rattle.due.specs.Due as Due;
 ghost use Rattle.commit.specs.Commit as Commit;
-ghost use Rattle.region.specs.Region.{regionSize};
+ghost use Rattle.header.specs.Header.{commitOffset};
+ghost use Rattle.region.specs.Region.{regionSize, lastBank};
 use bank::Loaded;
 use base::number::le;
 use flash::write;
@@ -25,6 +26,7 @@ use header::write::commit_bytes;
 use header::write::fit;
 use header::write::header_bytes;
 use leaf::generation::next;
+use record::DATES_SIZE_32;
 use record::Source;
 use record::VERSION;
 use refusal::Refusal;
@@ -100,7 +102,11 @@ pub fn routes_offset(ss: [Source; SOURCES]) -> u32
 pub fn key_length(offset: u32) -> u32
     ensures { λ r. ⌜ r ≡ State.keyLength offset ⌝ }
 {
-    if offset < 8 { 0 } else { offset - 8 }
+    if offset < DATES_SIZE_32 {
+        0
+    } else {
+        offset - DATES_SIZE_32
+    }
 }
 
 // The bank to be committed.
@@ -140,7 +146,7 @@ fn is_current(w: Writer, current: bool) -> bool
 }
 
 fn write_header(w: Writer, region: &mut [u8], b: Bank) -> Step
-    requires { ⌜ (length (now region) ≡ regionSize) × (b .number ≤ 1) ⌝ }
+    requires { ⌜ (length (now region) ≡ regionSize) × (b .number ≤ lastBank) ⌝ }
     ensures { λ r. ⌜ (r ≡ State.did (Due.withStage w Stages.HeaderWritten)) × (now (region .exit) ≡ performed (b .number) (writing 0 (headerBytes b (take (b .count) (w .sources)) blankWord) ∷ []) (now (region .entry))) ⌝ }
 {
     let ss = w.sources;
@@ -200,7 +206,7 @@ fn may_write_word(w: Writer) -> bool
 
 fn write_word(w: Writer, region: &mut [u8]) -> Step
     requires { ⌜ length (now region) ≡ regionSize ⌝ }
-    ensures { λ r. ⌜ (r ≡ State.did (Due.withStage w Stages.Committed)) × (now (region .exit) ≡ performed (State.target (w .beginning .active)) (writing 44 commitBytes ∷ []) (now (region .entry))) ⌝ }
+    ensures { λ r. ⌜ (r ≡ State.did (Due.withStage w Stages.Committed)) × (now (region .exit) ≡ performed (State.target (w .beginning .active)) (writing commitOffset commitBytes ∷ []) (now (region .entry))) ⌝ }
 {
     let b = w.beginning;
     let l = b.active;

@@ -8,7 +8,7 @@ use Rattle.base.specs.Number.{pick}
 use Rattle.refusal.specs.declared.Refusal.the-variants.{Region, Turn}
 use Rattle.base.specs.Lists.{fill}
 use Rattle.base.specs.Same.{same}
-use Rattle.region.specs.Region.{regionSize, sectorSize, bankOf}
+use Rattle.region.specs.Region.{regionSize, sectorSize, erasedByte, writeUnit, bankOf}
 use Rattle.bank.specs.declared.Loaded.{Loaded}
 use Rattle.bank.specs.declared.Loaded.the-variants.{Found, Nothing, Refused as NotRead}
 use Rattle.flash.specs.Flash.{Op, erase, write, performed}
@@ -24,7 +24,7 @@ use Rattle.writer.specs.State.{position, writeDue, dataDue, target, inRange, di
 
 -- "The last write is padded with 255 to a multiple of 4."
 unfoldable pub padded : List ℕ → List ℕ
-padded xs = xs ++ fill 255 ((4 - length xs % 4) % 4)
+padded xs = xs ++ fill erasedByte ((writeUnit - length xs % writeUnit) % writeUnit)
 
 -- the flash operation that is due, on the bank that is written
 abbrev pub opsOf : List ℕ → Stage → List Op

@@ -16,7 +16,7 @@ ghost use Rattle.writer.specs.declared.Stage.the-variants as Stages;
 ghost use Rattle.writer.specs.State as State;
 ghost use Rattle.writer.specs.Parts.{withSources, stepWith};
 ghost use Rattle.due.specs.Due as Due;
-ghost use Rattle.region.specs.Region.{regionSize, capacity, sectorSize, lastSector};
+ghost use Rattle.region.specs.Region.{regionSize, capacity, sectorSize, lastSector, erasedByte, writeUnit};
 ghost use Rattle.writer.specs.State.{tailSize, lastWrite};
 use bank::Loaded;
 use base::slice::part;
@@ -25,8 +25,10 @@ use flash::erase;
 use flash::write;
 use header::Bank;
 use refusal::Refusal;
+use region::ERASED_BYTE;
 use region::REGION_SIZE;
 use region::SECTOR_SIZE;
+use region::WRITE_UNIT;
 use region::bank_of;
 use writer::Answer;
 use writer::Operation;
@@ -45,12 +47,12 @@ use writer::parts_stay;
 use writer::step_with;
 use writer::target;
 
-// The tail's first n bytes, and 255 after them.
+// The tail's first n bytes, and erased bytes after them.
 fn filled(tail: [u8; TAIL_SIZE], n: usize) -> [u8; TAIL_SIZE]
     requires { ⌜ n ≤ tailSize ⌝ }
-    ensures { λ r. ⌜ r ≡ take n tail ++ fill 255 (tailSize - n) ⌝ }
+    ensures { λ r. ⌜ r ≡ take n tail ++ fill erasedByte (tailSize - n) ⌝ }
 {
-    let mut t = [255u8; TAIL_SIZE];
+    let mut t = [ERASED_BYTE; TAIL_SIZE];
     let mut i = 0;
     while i < n {
         t[i] = tail[i];
@@ -59,12 +61,12 @@ fn filled(tail: [u8; TAIL_SIZE], n: usize) -> [u8; TAIL_SIZE]
     t
 }
 
-// n rounded up to a multiple of 4.
+// n rounded up to a multiple of the write unit.
 fn padded_length(n: usize) -> usize
     requires { ⌜ n ≤ tailSize ⌝ }
-    ensures { λ r. ⌜ (r ≡ n + (4 - n % 4) % 4) × (r ≤ tailSize) ⌝ }
+    ensures { λ r. ⌜ (r ≡ n + (writeUnit - n % writeUnit) % writeUnit) × (r ≤ tailSize) ⌝ }
 {
-    n + (4 - n % 4) % 4
+    n + (WRITE_UNIT - n % WRITE_UNIT) % WRITE_UNIT
 }
 
 // Writes the tail's first n bytes, padded, at an offset of the data.
@@ -73,7 +75,7 @@ fn write_tail(region: &mut [u8], bank: u32, tail: [u8; TAIL_SIZE], a: u32, n: u3
     ensures { λ _. ⌜ now (region .exit) ≡ writtenIn (now (region .entry)) bank (sectorSize + a) (Due.padded (take n tail)) ⌝ }
 {
     let e = n as usize;
-    if e % 4 == 0 {
+    if e % WRITE_UNIT == 0 {
         write(region, bank, SECTOR_SIZE + a as usize, &tail[0..e]);
         return;
     }

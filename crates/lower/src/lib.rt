@@ -12,6 +12,7 @@ ghost use Rattle.record.specs.declared.Source.{Source};
 ghost use Rattle.writer.specs.State as State;
 ghost use Rattle.writer.specs.Parts.{withSources};
 ghost use Rattle.lower.specs.Lower as Lower;
+use base::number::WORD_BITS;
 use writer::NO_TABLE;
 use writer::Parts;
 use writer::TAIL_SIZE_32;
@@ -49,7 +50,7 @@ pub fn is_open(s: Tables) -> bool
 fn begun_in(begun: u32, table: u32) -> bool
     ensures { λ r. ⌜ r ≡ State.begunIn begun table ⌝ }
 {
-    if table < 32 {
+    if table < WORD_BITS {
         return (begun >> table) % 2 == 1;
     }
     false

@@ -13,8 +13,11 @@ ghost use Rattle.upper.specs.Upper as Upper;
 ghost use Rattle.region.specs.Region.{regionSize};
 use crate::MAX_BODY;
 use bank::Loaded;
+use base::number::BYTE_VALUES;
+use key::IDENTITY_MARK;
 use key::KeyAnswer;
 use key::MAX_IDENTITY;
+use key::PREFIX_SIZE;
 use lower::begin::started;
 use lower::is_open;
 use lower::may_append;
@@ -36,9 +39,9 @@ fn append_prefix(w: Writer, region: &mut [u8], identity: &[u8]) -> Writer
     if n == 0 {
         return w;
     }
-    let mut head = [255u8; 3];
-    head[1] = (n % 256) as u8;
-    head[2] = (n / 256 % 256) as u8;
+    let mut head = [IDENTITY_MARK; PREFIX_SIZE];
+    head[1] = (n % BYTE_VALUES) as u8;
+    head[2] = (n / BYTE_VALUES % BYTE_VALUES) as u8;
     let v = append_all(w, region, &head);
     append_all(v, region, identity)
 }

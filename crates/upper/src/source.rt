@@ -9,6 +9,8 @@ use header::SOURCES_32;
 use leaf::bytes::put;
 use lower::is_open;
 use lower::may_append;
+use record::DATE_SIZE;
+use record::DATES_SIZE;
 use record::Source;
 use refusal::Refusal;
 use region::REGION_SIZE;
@@ -20,12 +22,12 @@ use writer::did;
 use writer::stays;
 
 // A source's dates as they are appended.
-fn dates(s: Source) -> [u8; 8]
+fn dates(s: Source) -> [u8; DATES_SIZE]
     ensures { λ r. ⌜ r ≡ le32 (s .start) ++ le32 (s .end) ⌝ }
 {
-    let mut d = [0u8; 8];
+    let mut d = [0u8; DATES_SIZE];
     put(&mut d, 0, s.start);
-    put(&mut d, 4, s.end);
+    put(&mut d, DATE_SIZE, s.end);
     d
 }
 
@@ -50,7 +52,7 @@ pub fn source(w: Writer, region: &mut [u8], s: Source) -> Step
     if !may_append(w) | is_open(x) {
         return stays(w, Refusal::Turn);
     }
-    if (SOURCES_32 <= x.count) | !fits(w.taken, 8) {
+    if (SOURCES_32 <= x.count) | !fits(w.taken, DATES_SIZE) {
         return stays(w, Refusal::Full);
     }
     let v = run_source(w, region, s);

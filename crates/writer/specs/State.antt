@@ -5,7 +5,8 @@ use lib.Dec.{leb, ltb, eqb}
 use Rattle.base.specs.Number.{pick}
 use Rattle.leaf.specs.Generation.{next}
 use Rattle.refusal.specs.declared.Refusal.{Refusal}
-use Rattle.region.specs.Region.{capacity, sectorSize}
+use Rattle.region.specs.Region.{capacity, sectorSize, lastBank}
+use Rattle.record.specs.Record.{datesSize}
 use Rattle.header.specs.Header.{maxSources}
 use Rattle.bank.specs.declared.Loaded.{Loaded}
 use Rattle.bank.specs.declared.Loaded.the-variants.{Found, Nothing, Refused as NotRead}
@@ -54,7 +55,7 @@ stageOf comparing t = pick (isDue t) (Due (firstDue comparing t)) Idle
 
 -- The bank that isn't the active one, and the generation after the active one's; 0 and 0 with no active bank.
 unfoldable pub target : Loaded → ℕ
-target (Found b) = 1 - b .number
+target (Found b) = lastBank - b .number
 target Nothing = 0
 target (NotRead r) = 0
 
@@ -65,7 +66,7 @@ nextGeneration (NotRead r) = 0
 
 -- "The first source's Routes offset less 8 is the key length, or 0 if that offset is below 8."
 abbrev pub keyLength : ℕ → ℕ
-keyLength offset = offset - 8
+keyLength offset = offset - datesSize
 
 -- no table is open
 abbrev pub noTable : ℕ
@@ -82,7 +83,7 @@ begunIn begun table = eqb (begun / 2 ^ table % 2) 1
 
 -- the active bank's number is 0 or 1; the state of a refused beginning never passes
 unfoldable pub activeOk : Loaded → Bool
-activeOk (Found b) = leb (b .number) 1
+activeOk (Found b) = leb (b .number) lastBank
 activeOk Nothing = true
 activeOk (NotRead r) = false
 

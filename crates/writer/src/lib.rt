@@ -5,19 +5,21 @@ ghost use Rattle.writer.specs.State as State;
 ghost use Rattle.writer.specs.Parts.{partsOf, withSources, stepWith, partsDid, partsStay};
 use bank::Loaded;
 use base::table::LAST_TABLE;
+use base::table::TABLES;
 use header::SOURCES;
 use header::SOURCES_32;
 use record::Source;
 use refusal::Refusal;
 use region::CAPACITY_64;
+use region::LAST_BANK;
 use region::SECTOR_SIZE_32;
 
 // The tail's capacity.
 pub const TAIL_SIZE: usize = 256;
 
-pub const TAIL_SIZE_32: u32 = 256;
+pub const TAIL_SIZE_32: u32 = TAIL_SIZE as u32;
 // The table number that means that none is open.
-pub const NO_TABLE: u32 = 8;
+pub const NO_TABLE: u32 = TABLES as u32;
 
 // What is due: an erase of a sector of the bank (0 is the header's), a write of the tail into the data, or its comparison.
 pub enum Operation {
@@ -150,7 +152,7 @@ pub fn target(l: Loaded) -> u32
     ensures { λ r. ⌜ r ≡ State.target l ⌝ }
 {
     match l {
-        Loaded::Found(b) => { if b.number == 0 { 1 } else { 0 } }
+        Loaded::Found(b) => { if b.number == 0 { LAST_BANK } else { 0 } }
         Loaded::Nothing => 0,
         Loaded::Refused(_) => 0,
     }
@@ -160,7 +162,7 @@ fn active_ok(l: Loaded) -> bool
     ensures { λ r. ⌜ r ≡ State.activeOk l ⌝ }
 {
     match l {
-        Loaded::Found(b) => b.number <= 1,
+        Loaded::Found(b) => b.number <= LAST_BANK,
         Loaded::Nothing => true,
         Loaded::Refused(_) => false,
     }
