@@ -16,7 +16,7 @@ use mir.Syntax.{w64}
 use mir.Val.{SFits}
 use Rattle.base.specs.Number.{pick}
 use Rattle.bank.specs.Bank.{loaded}
-use Rattle.region.specs.Region.{regionSize, dataOf}
+use Rattle.region.specs.Region.{regionSize, lastBank, dataOf}
 use Rattle.header.specs.Types.{Bytes, Proper}
 use Rattle.flash.specs.Flash.{Op, size, torn, applied, performed}
 use Rattle.writer.specs.declared.Writer.{Writer}
@@ -106,7 +106,7 @@ pub record Torn : Type 0 where
   pub beginning : (r : Run) (comparing : Bool) (now : ℤ) (identity texts lengths : List ℕ) (before rest : List Op) (op : Op) (j : ℕ)
       → beginOps (r .region) comparing now identity texts lengths ≡ before ++ (op ∷ rest)
       → next r (beginKeyCut comparing now identity texts lengths (length before) j) .region ≡ torn (target (loaded (r .region))) j op (performed (target (loaded (r .region))) before (r .region))
-  pub whole : (n j : ℕ) (op : Op) (region : List ℕ) → n ≤ 1 → length region ≡ regionSize → size op ≤ j → torn n j op region ≡ applied n op region
+  pub whole : (n j : ℕ) (op : Op) (region : List ℕ) → n ≤ lastBank → length region ≡ regionSize → size op ≤ j → torn n j op region ≡ applied n op region
   pub number : (before rest : List Op) (op : Op) (j : ℕ) → doneAt (length before) j (before ++ (op ∷ rest)) ≡ length before + pick (leb (size op) j) 1 0
 
 -- A cut requires no more of a call's arguments than the call does, and nothing of k and j (proofs/Cuts.antt: cut-typed).
@@ -133,7 +133,7 @@ Sized (op ∷ ops) = (0 < size op) × Sized ops
 -- Document 01's cuts, "its first k operations whole, in order, .. the rest not at all", are those with no byte of the next operation done
 -- (proofs/Cuts.antt: between)
 pub record Between : Type 0 where
-  pub region : (n k : ℕ) (ops : List Op) (region : List ℕ) → n ≤ 1 → length region ≡ regionSize → cutAt n k 0 ops region ≡ performed n (take k ops) region
+  pub region : (n k : ℕ) (ops : List Op) (region : List ℕ) → n ≤ lastBank → length region ≡ regionSize → cutAt n k 0 ops region ≡ performed n (take k ops) region
   pub number : (k : ℕ) (ops : List Op) → Sized ops → doneAt k 0 ops ≡ length (take k ops)
 
 -- all of them: what `demand3_holds` promises

@@ -9,10 +9,10 @@ use lib.IntN.{pos}
 use lib.ListN.{length, drop}
 use Rattle.leaf.specs.Crc.{crc32}
 use Rattle.record.specs.declared.Source.{Source}
-use Rattle.record.specs.Record.{noBlock, stampSize, idSize, validatorSize, currentVersion}
+use Rattle.record.specs.Record.{noBlock, originalWords, stampSize, idSize, validatorSize, currentVersion}
 use Rattle.base.specs.Lists.{fill}
 use Rattle.header.specs.declared.Bank.{Bank}
-use Rattle.region.specs.Region.{regionSize, bankOf, dataOf, sectorSize}
+use Rattle.region.specs.Region.{regionSize, bankOf, dataOf, sectorSize, erasedByte}
 use Rattle.header.specs.WriteHeader.{headerBytes, commitBytes}
 use Rattle.header.specs.Types.{Bytes}
 use Rattle.bank.specs.declared.Loaded.{Loaded}
@@ -51,7 +51,7 @@ theSource =
       end = 20241231;
       present = 1;
       updated = pos 0;
-      original = fill 0 (maxTables * 2);
+      original = fill 0 (maxTables * originalWords);
       tables = fill noBlock maxTables;
       stamp = fill 0 stampSize;
       idlen = 0;
@@ -141,7 +141,7 @@ eraseCut = begin false (pos 0) ∷ (map call callsToClosing ++ (cut due 0 100 �
 abbrev pub CutInTheErase : Type 0
 CutInTheErase =
     (region : List ℕ) → length region ≡ regionSize
-    → (nextAll (found region) eraseCut .region ≡ withBank region (target (loaded region)) (fill 255 100 ++ drop 100 (bankOf region (target (loaded region)))))
+    → (nextAll (found region) eraseCut .region ≡ withBank region (target (loaded region)) (fill erasedByte 100 ++ drop 100 (bankOf region (target (loaded region)))))
     × (nextAll (found region) eraseCut .history .held ≡ loaded region)
 
 -- load answers G, by DEMAND 3
@@ -209,12 +209,12 @@ FiveOperations =
 
 -- Load finds no bank on an erased region.
 abbrev pub ErasedHasNone : Type 0
-ErasedHasNone = loaded (fill 255 regionSize) ≡ Nothing
+ErasedHasNone = loaded (fill erasedByte regionSize) ≡ Nothing
 
 -- On it load gives bank 0 of generation 0 after the whole update; none after a cut before the commit word or after three of its bytes; the
 -- bank with all four bytes written, whether the cut counts as inside that write (k = 0, j = 4) or as after it (k = 1, j = 0).
 abbrev pub onErased : Event → Loaded
-onErased last = loaded (nextAll (found (fill 255 regionSize)) (updateWith last) .region)
+onErased last = loaded (nextAll (found (fill erasedByte regionSize)) (updateWith last) .region)
 
 abbrev pub ErasedUpdate : Type 0
 ErasedUpdate =

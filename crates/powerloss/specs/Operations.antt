@@ -67,9 +67,13 @@ sectors n = (n + (sectorSize - 1)) / sectorSize
 abbrev pub writes : ℕ → ℕ
 writes n = (n + (tailSize - 1)) / tailSize
 
+-- commit writes the header, then the commit word
+abbrev pub commitWrites : ℕ
+commitWrites = 2
+
 -- an update of n bytes: the header sector's erase, those of the data's sectors, the data's writes, commit's two
 abbrev pub operationsOf : ℕ → ℕ
-operationsOf n = 1 + sectors n + writes n + 2
+operationsOf n = 1 + sectors n + writes n + commitWrites
 
 -- the operations of the update since its beginning; a cut drops the update
 abbrev pub startedBy : Answer → List Op → List Op → List Op
