@@ -4,7 +4,7 @@ ghost use Rattle.leaf.specs.Bytes as Bytes;
 ghost use Rattle.leaf.specs.Crc as Crc;
 ghost use Rattle.leaf.specs.Date as Dates;
 ghost use Rattle.leaf.specs.Generation as Generation;
-ghost use Rattle.base.specs.Number.{rotateLeft32};
+ghost use Rattle.base.specs.Number.{rotation, rotateLeft32};
 ghost use Rattle.bankcore.specs.LeafAnswers.{dateOrZero};
 use leaf::date::Date;
 use leaf::date::NewDate;
@@ -87,7 +87,7 @@ pub extern "C" fn tt_valid_date(d: u32) -> bool
 // x rotated left by 13.
 #[no_mangle]
 pub extern "C" fn tt_rotate13(x: u32) -> u32
-    ensures { λ r. ⌜ r ≡ rotateLeft32 13 x ⌝ }
+    ensures { λ r. ⌜ r ≡ rotateLeft32 rotation x ⌝ }
 {
     base::number::rotate13(x)
 }

@@ -17,13 +17,29 @@ done answer count = record { refusal = 0; answer = answer; count = count }
 abbrev pub refused : ℕ → UpdateNumbers
 refused r = record { refusal = r; answer = 0; count = 0 }
 
+-- the numbers of answers
+abbrev pub isDone : ℕ
+isDone = 0
+
+abbrev pub isAppended : ℕ
+isAppended = 1
+
+abbrev pub isNoneDue : ℕ
+isNoneDue = 2
+
+abbrev pub isSame : ℕ
+isSame = 3
+
+abbrev pub isDifferent : ℕ
+isDifferent = 4
+
 -- `count` is the number of bytes appended
 abbrev pub ofAnswer : Answer → UpdateNumbers
-ofAnswer Done = done 0 0
-ofAnswer (Took n) = done 1 n
-ofAnswer NoneDue = done 2 0
-ofAnswer Same = done 3 0
-ofAnswer Different = done 4 0
+ofAnswer Done = done isDone 0
+ofAnswer (Took n) = done isAppended n
+ofAnswer NoneDue = done isNoneDue 0
+ofAnswer Same = done isSame 0
+ofAnswer Different = done isDifferent 0
 ofAnswer (Refused r) = refused (numberOf r)
 
 abbrev pub isAnswer : Answer → Bool

@@ -5,11 +5,11 @@ use lib.Dec.{leb}
 use Rattle.writer.specs.declared.Writer.{Writer}
 use Rattle.writer.specs.State.{inRange}
 use Rattle.cstate.specs.declared.State.{State}
-use Rattle.cstate.specs.State.{activeKind, savedOf, isState, writerOf}
+use Rattle.cstate.specs.State.{someActive, activeKind, savedOf, isState, writerOf}
 
 -- a state whose beginning was not refused reads back
 abbrev pub ReadsBack : Type 0
-ReadsBack = (w : Writer) → leb (activeKind (w .beginning .active)) 1 ≡ true → writerOf (savedOf w) ≡ w
+ReadsBack = (w : Writer) → leb (activeKind (w .beginning .active)) someActive ≡ true → writerOf (savedOf w) ≡ w
 
 -- numbers that are no state read as one out of range
 abbrev pub NoState : Type 0

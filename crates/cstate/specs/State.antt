@@ -16,14 +16,43 @@ use Rattle.writer.specs.declared.Writer.{Writer}
 use Rattle.cstate.specs.declared.State.{State}
 use Rattle.cstate.specs.declared.StageNumbers.{StageNumbers}
 
+-- the numbers of stages
+abbrev pub idleStage : ℕ
+idleStage = 0
+
+abbrev pub eraseStage : ℕ
+eraseStage = 1
+
+abbrev pub writeStage : ℕ
+writeStage = 2
+
+abbrev pub compareStage : ℕ
+compareStage = 3
+
+abbrev pub headerWrittenStage : ℕ
+headerWrittenStage = 4
+
+abbrev pub committedStage : ℕ
+committedStage = 5
+
+-- the numbers of `active`: no active bank, one, and a beginning that was refused
+abbrev pub noActive : ℕ
+noActive = 0
+
+abbrev pub someActive : ℕ
+someActive = 1
+
+abbrev pub refusedActive : ℕ
+refusedActive = 2
+
 -- the stage's number, and its operation's two numbers
 abbrev pub stageKind : Stage → ℕ
-stageKind Idle = 0
-stageKind (Due (Erase k)) = 1
-stageKind (Due (Write a n)) = 2
-stageKind (Due (Compare a n)) = 3
-stageKind HeaderWritten = 4
-stageKind Committed = 5
+stageKind Idle = idleStage
+stageKind (Due (Erase k)) = eraseStage
+stageKind (Due (Write a n)) = writeStage
+stageKind (Due (Compare a n)) = compareStage
+stageKind HeaderWritten = headerWrittenStage
+stageKind Committed = committedStage
 
 abbrev pub stageFirst : Stage → ℕ
 stageFirst Idle = 0
@@ -46,9 +75,9 @@ stageNumbers s = record { kind = stageKind s; first = stageFirst s; second = sta
 
 -- the active bank: none, a bank, or a beginning that was refused
 abbrev pub activeKind : Loaded → ℕ
-activeKind Nothing = 0
-activeKind (Found b) = 1
-activeKind (NotRead r) = 2
+activeKind Nothing = noActive
+activeKind (Found b) = someActive
+activeKind (NotRead r) = refusedActive
 
 abbrev pub noBank : Bank
 noBank = record { number = 0; version = 0; generation = 0; length = 0; crc = 0; count = 0; key = 0; checked = pos 0 }
@@ -86,20 +115,20 @@ savedOf w =
 
 unfoldable pub stageOf : ℕ → ℕ → ℕ → Stage
 stageOf k a n =
-    pick (eqb k 1) (Due (Erase a))
-    (pick (eqb k 2) (Due (Write a n))
-    (pick (eqb k 3) (Due (Compare a n))
-    (pick (eqb k 4) HeaderWritten
-    (pick (eqb k 5) Committed Idle))))
+    pick (eqb k eraseStage) (Due (Erase a))
+    (pick (eqb k writeStage) (Due (Write a n))
+    (pick (eqb k compareStage) (Due (Compare a n))
+    (pick (eqb k headerWrittenStage) HeaderWritten
+    (pick (eqb k committedStage) Committed Idle))))
 
 abbrev pub kindsOk : ℕ → ℕ → Bool
-kindsOk stage active = leb stage 5 && leb active 1
+kindsOk stage active = leb stage committedStage && leb active someActive
 
 abbrev pub isState : State → Bool
 isState s = kindsOk (s .stage) (s .active)
 
 unfoldable pub activeOf : ℕ → ℕ → Bank → Loaded
-activeOf stage active b = pick (kindsOk stage active) (pick (eqb active 1) (Found b) Nothing) (NotRead Turn)
+activeOf stage active b = pick (kindsOk stage active) (pick (eqb active someActive) (Found b) Nothing) (NotRead Turn)
 
 abbrev pub isSet : ℕ → Bool
 isSet n = not (eqb n 0)

@@ -24,6 +24,37 @@ use writer::Taken;
 use writer::Writer;
 use writer::with_sources;
 
+// The numbers of stages.
+pub const IDLE_STAGE: u32 = 0;
+
+pub const ERASE_STAGE: u32 = 1;
+
+pub const WRITE_STAGE: u32 = 2;
+
+pub const COMPARE_STAGE: u32 = 3;
+
+pub const HEADER_WRITTEN_STAGE: u32 = 4;
+
+pub const COMMITTED_STAGE: u32 = 5;
+
+// The numbers of `active`: no active bank, one, and a beginning that was refused.
+pub const NO_ACTIVE: u32 = 0;
+
+pub const SOME_ACTIVE: u32 = 1;
+
+pub const REFUSED_ACTIVE: u32 = 2;
+
+// The numbers of answers.
+pub const IS_DONE: u32 = 0;
+
+pub const IS_APPENDED: u32 = 1;
+
+pub const IS_NONE_DUE: u32 = 2;
+
+pub const IS_SAME: u32 = 3;
+
+pub const IS_DIFFERENT: u32 = 4;
+
 // The stage is 0 idle, 1 an erase due, 2 a write due, 3 a comparison due, 4 header written, 5 committed. First is the due erase's sector
 // (0 is the header's), or the offset in the data of the due write or comparison, and second its length, without padding. Active is 0
 // with no active bank, 1 with one; with another number, or a stage above 5, calls meet 11. A flag is set if its number isn't 0.
@@ -49,25 +80,25 @@ pub struct State {
 fn stage_of(kind: u32, first: u32, second: u32) -> Stage
     ensures { λ r. ⌜ r ≡ Saved.stageOf kind first second ⌝ }
 {
-    if kind == 1 {
+    if kind == ERASE_STAGE {
         return Stage::Due(Operation::Erase { sector: first });
     }
-    if kind == 2 {
+    if kind == WRITE_STAGE {
         return Stage::Due(Operation::Write {
             offset: first,
             length: second,
         });
     }
-    if kind == 3 {
+    if kind == COMPARE_STAGE {
         return Stage::Due(Operation::Compare {
             offset: first,
             length: second,
         });
     }
-    if kind == 4 {
+    if kind == HEADER_WRITTEN_STAGE {
         return Stage::HeaderWritten;
     }
-    if kind == 5 {
+    if kind == COMMITTED_STAGE {
         return Stage::Committed;
     }
     Stage::Idle
@@ -76,8 +107,8 @@ fn stage_of(kind: u32, first: u32, second: u32) -> Stage
 fn active_of(stage: u32, active: u32, bank: Bank) -> Loaded
     ensures { λ r. ⌜ r ≡ Saved.activeOf stage active bank ⌝ }
 {
-    if (stage <= 5) & (active <= 1) {
-        if active == 1 {
+    if (stage <= COMMITTED_STAGE) & (active <= SOME_ACTIVE) {
+        if active == SOME_ACTIVE {
             return Loaded::Found(bank);
         }
         return Loaded::Nothing;
@@ -142,17 +173,17 @@ fn operation_numbers(o: Operation) -> StageNumbers
 {
     match o {
         Operation::Erase { sector } => StageNumbers {
-            kind: 1,
+            kind: ERASE_STAGE,
             first: sector,
             second: 0,
         },
         Operation::Write { offset, length } => StageNumbers {
-            kind: 2,
+            kind: WRITE_STAGE,
             first: offset,
             second: length,
         },
         Operation::Compare { offset, length } => StageNumbers {
-            kind: 3,
+            kind: COMPARE_STAGE,
             first: offset,
             second: length,
         },
@@ -164,18 +195,18 @@ fn stage_numbers(s: Stage) -> StageNumbers
 {
     match s {
         Stage::Idle => StageNumbers {
-            kind: 0,
+            kind: IDLE_STAGE,
             first: 0,
             second: 0,
         },
         Stage::Due(o) => operation_numbers(o),
         Stage::HeaderWritten => StageNumbers {
-            kind: 4,
+            kind: HEADER_WRITTEN_STAGE,
             first: 0,
             second: 0,
         },
         Stage::Committed => StageNumbers {
-            kind: 5,
+            kind: COMMITTED_STAGE,
             first: 0,
             second: 0,
         },
@@ -186,9 +217,9 @@ fn active_kind(l: Loaded) -> u32
     ensures { λ r. ⌜ r ≡ Saved.activeKind l ⌝ }
 {
     match l {
-        Loaded::Found(_) => 1,
-        Loaded::Nothing => 0,
-        Loaded::Refused(_) => 2,
+        Loaded::Found(_) => SOME_ACTIVE,
+        Loaded::Nothing => NO_ACTIVE,
+        Loaded::Refused(_) => REFUSED_ACTIVE,
     }
 }
 
@@ -303,11 +334,11 @@ fn of_answer(a: Answer) -> UpdateNumbers
     ensures { λ x. ⌜ x ≡ Answers.ofAnswer a ⌝ }
 {
     match a {
-        Answer::Done => done(0, 0),
-        Answer::Took(n) => done(1, n),
-        Answer::NoneDue => done(2, 0),
-        Answer::Same => done(3, 0),
-        Answer::Different => done(4, 0),
+        Answer::Done => done(IS_DONE, 0),
+        Answer::Took(n) => done(IS_APPENDED, n),
+        Answer::NoneDue => done(IS_NONE_DUE, 0),
+        Answer::Same => done(IS_SAME, 0),
+        Answer::Different => done(IS_DIFFERENT, 0),
         Answer::Refused(r) => refused(number_of(r)),
     }
 }
