@@ -22,7 +22,7 @@ use Rattle.bank.specs.declared.Loaded.the-variants.{Found, Nothing, Refused as 
 use Rattle.bank.specs.declared.turns.Progress.{Progress}
 use Rattle.bank.specs.declared.turns.Progress.the-variants.{Hashed, Yes, Refused as NoTurn}
 use Rattle.bank.specs.declared.turns.Turn.{Turn}
-use Rattle.snapshot.specs.declared.source.Asked.{Asked}
+use Rattle.snapshot.specs.declared.source.SourceAnswer.{SourceAnswer}
 use Rattle.snapshot.specs.declared.Outcome.{Outcome}
 use Rattle.snapshot.specs.declared.Outcome.the-variants.{Done, Refused as NoSource}
 use Rattle.snapshot.specs.declared.freshness.FreshAnswer.{FreshAnswer}
@@ -109,7 +109,7 @@ abbrev pub refusalOf : ℕ → Outcome → ℕ
 refusalOf room Done = pick (leb recordSize room) 0 (numberOf Small)
 refusalOf room (NoSource r) = numberOf r
 
-abbrev pub outputOf : List ℕ → Asked → Outcome → List ℕ
+abbrev pub outputOf : List ℕ → SourceAnswer → Outcome → List ℕ
 outputOf out a Done = written out 0 (sourceBytes (a .source))
 outputOf out a (NoSource r) = out
 

@@ -317,7 +317,7 @@ pub extern "C" fn tt_same_key(
     texts: &[u8],
     lengths: &[u32],
 ) -> MatchNumbers
-    ensures { λ r. ⌜ r ≡ Answers.ofMatch (Matches.askedKey (now (region .entry)) bank (now (identity .entry)) (now (texts .entry)) (now (lengths .entry))) ⌝ }
+    ensures { λ r. ⌜ r ≡ Answers.ofMatch (Matches.keyMatchAnswer (now (region .entry)) bank (now (identity .entry)) (now (texts .entry)) (now (lengths .entry))) ⌝ }
 {
     of_match(snapshot::keymatch::same_key(region, bank, identity, texts, lengths))
 }
@@ -341,7 +341,7 @@ pub extern "C" fn tt_fresh(
     wanted2: bool,
     at: i64,
 ) -> FreshNumbers
-    ensures { λ r. ⌜ r ≡ Answers.ofFresh (Freshness.askedFresh (now (region .entry)) bank (record { first = record { date = day0; wanted = wanted0 }; second = record { date = day1; wanted = wanted1 }; third = record { date = day2; wanted = wanted2 } }) at) ⌝ }
+    ensures { λ r. ⌜ r ≡ Answers.ofFresh (Freshness.freshAnswer (now (region .entry)) bank (record { first = record { date = day0; wanted = wanted0 }; second = record { date = day1; wanted = wanted1 }; third = record { date = day2; wanted = wanted2 } }) at) ⌝ }
 {
     let days = Days {
         first: day(day0, wanted0),
@@ -363,8 +363,8 @@ fn fits(room: usize) -> u32
 // Writes a source's record to the first 384 bytes of out, in version 3's form.
 #[no_mangle]
 pub extern "C" fn tt_source(region: &[u8], bank: u32, index: u32, out: &mut [u8]) -> u32
-    ensures { λ r. ⌜ r ≡ Answers.refusalOf (length (now (out .entry))) (Sources.askedSource (now (region .entry)) bank index .outcome) ⌝ }
-    ensures { λ _. ⌜ now (out .exit) ≡ Answers.outputOf (now (out .entry)) (Sources.askedSource (now (region .entry)) bank index) (Sources.askedSource (now (region .entry)) bank index .outcome) ⌝ }
+    ensures { λ r. ⌜ r ≡ Answers.refusalOf (length (now (out .entry))) (Sources.sourceAnswer (now (region .entry)) bank index .outcome) ⌝ }
+    ensures { λ _. ⌜ now (out .exit) ≡ Answers.outputOf (now (out .entry)) (Sources.sourceAnswer (now (region .entry)) bank index) (Sources.sourceAnswer (now (region .entry)) bank index .outcome) ⌝ }
 {
     let small = fits(out.len());
     let a = snapshot::source::source(region, bank, index);
@@ -389,9 +389,9 @@ pub extern "C" fn tt_bank_row(
     out: &mut [u8],
     ends: &mut [usize],
 ) -> BankRowNumbers
-    ensures { λ r. ⌜ r ≡ Answers.ofBankRow (Rows.askedRow (now (region .entry)) bank source table place (length (now (out .entry))) (length (now (ends .entry)))) ⌝ }
-    ensures { λ _. ⌜ now (out .exit) ≡ Stored.after (Rows.askedRow (now (region .entry)) bank source table place (length (now (out .entry))) (length (now (ends .entry)))) (Stored.joined (Rows.valuesIn (now (region .entry)) bank source table place)) (now (out .entry)) ⌝ }
-    ensures { λ _. ⌜ now (ends .exit) ≡ Stored.after (Rows.askedRow (now (region .entry)) bank source table place (length (now (out .entry))) (length (now (ends .entry)))) (Stored.endsOf 0 (Rows.valuesIn (now (region .entry)) bank source table place)) (now (ends .entry)) ⌝ }
+    ensures { λ r. ⌜ r ≡ Answers.ofBankRow (Rows.bankRowAnswer (now (region .entry)) bank source table place (length (now (out .entry))) (length (now (ends .entry)))) ⌝ }
+    ensures { λ _. ⌜ now (out .exit) ≡ Stored.after (Rows.bankRowAnswer (now (region .entry)) bank source table place (length (now (out .entry))) (length (now (ends .entry)))) (Stored.joined (Rows.valuesIn (now (region .entry)) bank source table place)) (now (out .entry)) ⌝ }
+    ensures { λ _. ⌜ now (ends .exit) ≡ Stored.after (Rows.bankRowAnswer (now (region .entry)) bank source table place (length (now (out .entry))) (length (now (ends .entry)))) (Stored.endsOf 0 (Rows.valuesIn (now (region .entry)) bank source table place)) (now (ends .entry)) ⌝ }
 {
     of_bank_row(snapshot::rows::bank_row(region, bank, source, table, place, out, ends))
 }

@@ -22,8 +22,8 @@ use Rattle.bank.proofs.Sequence.{named-passes}
 use Rattle.snapshot.specs.declared.freshness.Days.{Days}
 use Rattle.snapshot.specs.declared.freshness.FreshAnswer.the-variants.{Fresh, Refused}
 use Rattle.snapshot.specs.declared.Outcome.the-variants.{Done}
-use Rattle.snapshot.specs.Source.{sourceIn, refuse, thenSource, askedSource, sourcesIn, refuseAll, thenSources, askedSources}
-use Rattle.snapshot.specs.Freshness.{namedIf, daysOf, isDay, freshness, thenFresh, askedFresh}
+use Rattle.snapshot.specs.Source.{sourceIn, refuse, thenSource, sourceAnswer, sourcesIn, refuseAll, thenSources, sourcesAnswer}
+use Rattle.snapshot.specs.Freshness.{namedIf, daysOf, isDay, freshness, thenFresh, freshAnswer}
 
 pub bound : (i k : ℕ) → k ≤ 384 → i * k ≤ i * 384
 bound i k h = rw (mul-comm i k, mul-comm i 384) (mul-le-mul-right i h)
@@ -42,27 +42,27 @@ module _ (region : List ℕ) (n : ℕ) where
   unfit e = rw e
 
   module _ (i : ℕ) where
-    pub source-done : (b : Bank) → named region n ≡ Good b → ltb i (b .count) ≡ true → record { outcome = Done; source = sourceIn region b i } ≡ askedSource region n i
-    unfolding askedSource
+    pub source-done : (b : Bank) → named region n ≡ Good b → ltb i (b .count) ≡ true → record { outcome = Done; source = sourceIn region b i } ≡ sourceAnswer region n i
+    unfolding sourceAnswer
     source-done b h e = sym (ap (thenSource region i) h ∙ rw e)
 
-    pub source-past : (b : Bank) → named region n ≡ Good b → ltb i (b .count) ≡ false → refuse NoSuchSource ≡ askedSource region n i
-    unfolding askedSource
+    pub source-past : (b : Bank) → named region n ≡ Good b → ltb i (b .count) ≡ false → refuse NoSuchSource ≡ sourceAnswer region n i
+    unfolding sourceAnswer
     source-past b h e = sym (ap (thenSource region i) h ∙ rw e)
 
-    pub source-bad : (r : Refusal) → named region n ≡ Bad r → refuse r ≡ askedSource region n i
-    unfolding askedSource
+    pub source-bad : (r : Refusal) → named region n ≡ Bad r → refuse r ≡ sourceAnswer region n i
+    unfolding sourceAnswer
     source-bad r h = sym (ap (thenSource region i) h)
 
   pub sources-done : (b : Bank) (l : List ℕ) (t : List Source) → named region n ≡ Good b → l ≡ bankOf region (b .number)
-      → t ≡ recordsOf (b .version) l (b .count) ++ fill noSource (3 - b .count) → record { outcome = Done; sources = t } ≡ askedSources region n
-  unfolding askedSources sourcesIn
+      → t ≡ recordsOf (b .version) l (b .count) ++ fill noSource (3 - b .count) → record { outcome = Done; sources = t } ≡ sourcesAnswer region n
+  unfolding sourcesAnswer sourcesIn
   sources-done b l t h e f =
       ap (λ (x : List Source). record { outcome = Done; sources = x }) (f ∙ ap (λ (x : List ℕ). recordsOf (b .version) x (b .count) ++ fill noSource (3 - b .count)) e)
       ∙ sym (ap (thenSources region) h)
 
-  pub sources-bad : (r : Refusal) → named region n ≡ Bad r → refuseAll r ≡ askedSources region n
-  unfolding askedSources
+  pub sources-bad : (r : Refusal) → named region n ≡ Bad r → refuseAll r ≡ sourcesAnswer region n
+  unfolding sourcesAnswer
   sources-bad r h = sym (ap (thenSources region) h)
 
 -- a bank that passed has at most three sources
@@ -76,10 +76,10 @@ pub few : (fits : Bool) (region : List ℕ) (n : ℕ) (b : Bank) → namedIf fit
 few fits region n b h = count-by fits (eqb (length region) regionSize) region n b refl h
 
 module _ (region : List ℕ) (n : ℕ) (days : Days) (now : ℤ) where
-  pub fresh-good : (b : Bank) → namedIf (each isDay (daysOf days)) region n ≡ Good b → Fresh (freshness region b days now) ≡ askedFresh region n days now
-  unfolding askedFresh
+  pub fresh-good : (b : Bank) → namedIf (each isDay (daysOf days)) region n ≡ Good b → Fresh (freshness region b days now) ≡ freshAnswer region n days now
+  unfolding freshAnswer
   fresh-good b h = sym (ap (thenFresh region days now) h)
 
-  pub fresh-bad : (r : Refusal) → namedIf (each isDay (daysOf days)) region n ≡ Bad r → Refused r ≡ askedFresh region n days now
-  unfolding askedFresh
+  pub fresh-bad : (r : Refusal) → namedIf (each isDay (daysOf days)) region n ≡ Bad r → Refused r ≡ freshAnswer region n days now
+  unfolding freshAnswer
   fresh-bad r h = sym (ap (thenFresh region days now) h)

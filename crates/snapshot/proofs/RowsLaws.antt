@@ -19,12 +19,12 @@ use Rattle.header.proofs.Laws.{passed}
 use Rattle.bank.specs.Bank.{named}
 use Rattle.bank.proofs.Sequence.{named-passes}
 use Rattle.snapshot.specs.declared.Outcome.the-variants.{Done, Refused as NoSource}
-use Rattle.snapshot.specs.Source.{sourceIn, thenSource, askedSource}
+use Rattle.snapshot.specs.Source.{sourceIn, thenSource, sourceAnswer}
 use Rattle.snapshot.specs.Freshness.{namedIf}
 use Rattle.row.specs.Columns.{columnCount}
 use Rattle.rowread.specs.declared.ReadAnswer.the-variants.{Refused}
 use Rattle.rowread.specs.Stored.{valuesAt, readAnswer}
-use Rattle.snapshot.specs.Rows.{bytesOf, tableIn, thenRow, askedRow, thenValues, valuesIn}
+use Rattle.snapshot.specs.Rows.{bytesOf, tableIn, thenRow, bankRowAnswer, thenValues, valuesIn}
 use Rattle.base.specs.Table.{lastTable}
 
 -- a bank that is named has that number
@@ -37,11 +37,11 @@ record There (region : List ℕ) (n i : ℕ) : Type 0 where
   bank : Bank
   is-named : named region n ≡ Good bank
   below : ltb i (bank .count) ≡ true
-  is-source : askedSource region n i .source ≡ sourceIn region bank i
+  is-source : sourceAnswer region n i .source ≡ sourceIn region bank i
 
 module _ (region : List ℕ) (n i : ℕ) where
   there-by : (v : Validated) → named region n ≡ v → thenSource region i v .outcome ≡ Done → There region n i
-  unfolding askedSource
+  unfolding sourceAnswer
   there-by (Bad r) e q = absurd (let z : _≡_ {A = ℕ} 0 1 = cc in omega arith)
   there-by (Good b) e q = go (ltb i (b .count)) refl q
     where
@@ -49,17 +49,17 @@ module _ (region : List ℕ) (n i : ℕ) where
       go true h j = record { bank = b; is-named = e; below = h; is-source = ap (λ (x : Validated). thenSource region i x .source) e ∙ rw h }
       go false h j = absurd (let z : _≡_ {A = ℕ} 0 1 = cc in omega arith)
 
-  there : askedSource region n i .outcome ≡ Done → There region n i
-  unfolding askedSource
+  there : sourceAnswer region n i .outcome ≡ Done → There region n i
+  unfolding sourceAnswer
   there q = there-by (named region n) refl q
 
   module _ (t place room slots : ℕ) where
-    pub no-region : leb t lastTable ≡ false → eqb (length region) regionSize ≡ false → Refused Region ≡ askedRow region n i t place room slots
-    unfolding askedRow namedIf
+    pub no-region : leb t lastTable ≡ false → eqb (length region) regionSize ≡ false → Refused Region ≡ bankRowAnswer region n i t place room slots
+    unfolding bankRowAnswer namedIf
     no-region h e = rw (h, e)
 
-    pub no-table : leb t lastTable ≡ false → eqb (length region) regionSize ≡ true → Refused Argument ≡ askedRow region n i t place room slots
-    unfolding askedRow namedIf
+    pub no-table : leb t lastTable ≡ false → eqb (length region) regionSize ≡ true → Refused Argument ≡ bankRowAnswer region n i t place room slots
+    unfolding bankRowAnswer namedIf
     no-table h e = rw (h, e)
 
     named-too : leb t lastTable ≡ true → (v : Validated) → named region n ≡ v → namedIf (leb t lastTable) region n ≡ v
@@ -67,16 +67,16 @@ module _ (region : List ℕ) (n i : ℕ) where
     named-too h v e = rw h e
 
     pub is-answer : (b : Bank) → leb t lastTable ≡ true → named region n ≡ Good b → ltb i (b .count) ≡ true
-        → readAnswer (tableIn region b i t) (columnCount t) place room slots ≡ askedRow region n i t place room slots
-    unfolding askedRow
+        → readAnswer (tableIn region b i t) (columnCount t) place room slots ≡ bankRowAnswer region n i t place room slots
+    unfolding bankRowAnswer
     is-answer b h e l = sym (ap (thenRow region i t place room slots) (named-too h (Good b) e) ∙ rw l)
 
     pub is-values : (b : Bank) → leb t lastTable ≡ true → named region n ≡ Good b → valuesAt (tableIn region b i t) (columnCount t) place ≡ valuesIn region n i t place
     unfolding valuesIn
     is-values b h e = sym (ap (thenValues region i t place) (named-too h (Good b) e))
 
-    pub refused : leb t lastTable ≡ true → (r : Refusal) → askedSource region n i .outcome ≡ NoSource r → Refused r ≡ askedRow region n i t place room slots
-    unfolding askedSource askedRow
+    pub refused : leb t lastTable ≡ true → (r : Refusal) → sourceAnswer region n i .outcome ≡ NoSource r → Refused r ≡ bankRowAnswer region n i t place room slots
+    unfolding sourceAnswer bankRowAnswer
     refused h r q = by (named region n) refl q
       where
         by : (v : Validated) → named region n ≡ v → thenSource region i v .outcome ≡ NoSource r → Refused r ≡ thenRow region i t place room slots (namedIf (leb t lastTable) region n)
@@ -88,16 +88,16 @@ module _ (region : List ℕ) (n i : ℕ) where
             go false l m = let k : NoSuchSource ≡ r = cc in sym (ap (thenRow region i t place room slots) (named-too h (Good b) e) ∙ rw l (ap Refused k))
 
 -- the table that is read is the one asked for
-its-table : (region : List ℕ) (n i t : ℕ) (s : There region n i) → bytesOf region n (getD (askedSource region n i .source .tables) t noBlock) ≡ tableIn region (s .bank) i t
+its-table : (region : List ℕ) (n i t : ℕ) (s : There region n i) → bytesOf region n (getD (sourceAnswer region n i .source .tables) t noBlock) ≡ tableIn region (s .bank) i t
 its-table region n i t s = rw (s .is-source, its-number region n (s .bank) (s .is-named))
 
 -- if the source is there and the table's bytes are read, answer and values are those asked for
 pub record IsRow (region : List ℕ) (n i t place room slots : ℕ) (stored : List ℕ) (width : ℕ) : Type 0 where
-  pub answer : readAnswer stored width place room slots ≡ askedRow region n i t place room slots
+  pub answer : readAnswer stored width place room slots ≡ bankRowAnswer region n i t place room slots
   pub values : valuesAt stored width place ≡ valuesIn region n i t place
 
-pub is-row : (region : List ℕ) (n i t place room slots : ℕ) (stored : List ℕ) (width : ℕ) → leb t lastTable ≡ true → askedSource region n i .outcome ≡ Done
-    → stored ≡ bytesOf region n (getD (askedSource region n i .source .tables) t noBlock) → width ≡ columnCount t → IsRow region n i t place room slots stored width
+pub is-row : (region : List ℕ) (n i t place room slots : ℕ) (stored : List ℕ) (width : ℕ) → leb t lastTable ≡ true → sourceAnswer region n i .outcome ≡ Done
+    → stored ≡ bytesOf region n (getD (sourceAnswer region n i .source .tables) t noBlock) → width ≡ columnCount t → IsRow region n i t place room slots stored width
 is-row region n i t place room slots stored width h q e w =
     let s = there region n i q in
     let k : stored ≡ tableIn region (s .bank) i t = e ∙ its-table region n i t s in

@@ -12,7 +12,7 @@ use Rattle.snapshot.specs.Source.{sourceIn}
 use Rattle.row.specs.Columns.{columnsOf, columnCount, namesLine}
 use Rattle.rowread.specs.declared.ReadAnswer.the-variants.{Stored, End}
 use Rattle.rowread.specs.Claims.{AllFit, tableOf}
-use Rattle.snapshot.specs.Rows.{tableIn, askedRow, valuesIn}
+use Rattle.snapshot.specs.Rows.{tableIn, bankRowAnswer, valuesIn}
 use Rattle.base.specs.Table.{lastTable}
 
 abbrev Text : Type 0
@@ -20,8 +20,8 @@ Text = List ℕ
 
 -- from a place on, rows of a table of a bank are read one by one, each at the place that the read before it gave, up to the table's end
 pub data BankReads (region : Text) (n i t room slots : ℕ) : ℕ → List (List Text) → Type 0 where
-  atEnd : {place : ℕ} → askedRow region n i t place room slots ≡ End → BankReads region n i t room slots place []
-  onward : {place next size : ℕ} {vs : List Text} {rows : List (List Text)} → askedRow region n i t place room slots ≡ Stored next size
+  atEnd : {place : ℕ} → bankRowAnswer region n i t place room slots ≡ End → BankReads region n i t room slots place []
+  onward : {place next size : ℕ} {vs : List Text} {rows : List (List Text)} → bankRowAnswer region n i t place room slots ≡ Stored next size
       → valuesIn region n i t place ≡ vs → BankReads region n i t room slots next rows → BankReads region n i t room slots place (vs ∷ rows)
 
 -- if a table of a bank that passes 3 to 6 has the bytes that a writer gives it, a names line and rows, then the names are read at place 0,

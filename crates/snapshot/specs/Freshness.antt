@@ -94,5 +94,5 @@ thenFresh region days now (Bad r) = Refused r
 abbrev pub isDay : Day → Bool
 isDay d = validDate (d .date)
 
-unfoldable pub askedFresh : List ℕ → ℕ → Days → ℤ → FreshAnswer
-askedFresh region n days now = thenFresh region days now (namedIf (each isDay (daysOf days)) region n)
+unfoldable pub freshAnswer : List ℕ → ℕ → Days → ℤ → FreshAnswer
+freshAnswer region n days now = thenFresh region days now (namedIf (each isDay (daysOf days)) region n)

@@ -21,5 +21,5 @@ thenMatch region identity texts lengths (Good b) = matchAnswer (keyIn region b) 
 thenMatch region identity texts lengths (Bad r) = Refused r
 
 -- 1, 2 (bank and picks), 3 to 6, 8, then the match
-unfoldable pub askedKey : List ℕ → ℕ → Text → Text → List ℕ → SameKey
-askedKey region n identity texts lengths = thenMatch region identity texts lengths (namedIf (fit texts lengths) region n)
+unfoldable pub keyMatchAnswer : List ℕ → ℕ → Text → Text → List ℕ → SameKey
+keyMatchAnswer region n identity texts lengths = thenMatch region identity texts lengths (namedIf (fit texts lengths) region n)

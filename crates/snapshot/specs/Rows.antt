@@ -34,8 +34,8 @@ thenRow region i t place room slots (Good b) =
 thenRow region i t place room slots (Bad r) = Refused r
 
 -- 1, 2 (bank and table), 3 to 6, 6 at or past the count, 14, 9
-unfoldable pub askedRow : List ℕ → ℕ → ℕ → ℕ → ℕ → ℕ → ℕ → ReadAnswer
-askedRow region n i t place room slots = thenRow region i t place room slots (namedIf (leb t lastTable) region n)
+unfoldable pub bankRowAnswer : List ℕ → ℕ → ℕ → ℕ → ℕ → ℕ → ℕ → ReadAnswer
+bankRowAnswer region n i t place room slots = thenRow region i t place room slots (namedIf (leb t lastTable) region n)
 
 -- the values of the row at a place; the outputs get them only if the answer is `Stored`
 abbrev pub thenValues : List ℕ → ℕ → ℕ → ℕ → Validated → List (List ℕ)

@@ -15,23 +15,23 @@ use Rattle.region.specs.Region.{bankOf}
 use Rattle.header.specs.Header.{recordAt, recordsOf, recordsOffset, maxSources}
 use Rattle.bank.specs.Bank.{named}
 use Rattle.snapshot.specs.declared.Outcome.the-variants.{Done, Refused}
-use Rattle.snapshot.specs.declared.source.Asked.{Asked}
+use Rattle.snapshot.specs.declared.source.SourceAnswer.{SourceAnswer}
 use Rattle.snapshot.specs.declared.source.Records.{Records}
 
 -- the record at an index of a bank
 unfoldable pub sourceIn : List ℕ → Bank → ℕ → Source
 sourceIn region b i = recordAt (b .version) (bankOf region (b .number)) (recordsOffset + i * sourceSize (b .version))
 
-abbrev pub refuse : Refusal → Asked
+abbrev pub refuse : Refusal → SourceAnswer
 refuse r = record { outcome = Refused r; source = noSource }
 
-abbrev pub thenSource : List ℕ → ℕ → Validated → Asked
+abbrev pub thenSource : List ℕ → ℕ → Validated → SourceAnswer
 thenSource region i (Good b) = pick (ltb i (b .count)) (record { outcome = Done; source = sourceIn region b i }) (refuse NoSuchSource)
 thenSource region i (Bad r) = refuse r
 
 -- 1, 2, 3 to 6, and 6 at or past the count
-unfoldable pub askedSource : List ℕ → ℕ → ℕ → Asked
-askedSource region n i = thenSource region i (named region n)
+unfoldable pub sourceAnswer : List ℕ → ℕ → ℕ → SourceAnswer
+sourceAnswer region n i = thenSource region i (named region n)
 
 -- all sources: the records below the count, and zeros after them
 unfoldable pub sourcesIn : List ℕ → Bank → List Source
@@ -45,5 +45,5 @@ thenSources region (Good b) = record { outcome = Done; sources = sourcesIn regio
 thenSources region (Bad r) = refuseAll r
 
 -- 1, 2, 3 to 6
-unfoldable pub askedSources : List ℕ → ℕ → Records
-askedSources region n = thenSources region (named region n)
+unfoldable pub sourcesAnswer : List ℕ → ℕ → Records
+sourcesAnswer region n = thenSources region (named region n)

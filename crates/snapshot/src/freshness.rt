@@ -191,7 +191,7 @@ fn are_days(d: Days) -> bool
 
 // How fresh a bank is at time `at`, for three days.
 pub fn fresh(region: &[u8], number: u32, days: Days, at: i64) -> FreshAnswer
-    ensures { λ r. ⌜ r ≡ Fresh.askedFresh (now (region .entry)) number days at ⌝ }
+    ensures { λ r. ⌜ r ≡ Fresh.freshAnswer (now (region .entry)) number days at ⌝ }
 {
     let fits = are_days(days);
     let h = header_if(fits, region, number);

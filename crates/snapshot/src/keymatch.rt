@@ -26,7 +26,7 @@ pub fn same_key(
     texts: &[u8],
     lengths: &[u32],
 ) -> SameKey
-    ensures { λ r. ⌜ r ≡ Keys.askedKey (now (region .entry)) number (now (identity .entry)) (now (texts .entry)) (now (lengths .entry)) ⌝ }
+    ensures { λ r. ⌜ r ≡ Keys.keyMatchAnswer (now (region .entry)) number (now (identity .entry)) (now (texts .entry)) (now (lengths .entry)) ⌝ }
 {
     let fit = picks_fit(texts, lengths);
     let h = header_if(fit, region, number);

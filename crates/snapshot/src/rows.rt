@@ -4,7 +4,7 @@ ghost use Prim.Native.Nat.{_≤_};
 ghost use lib.ListN.{length, getD};
 ghost use Rattle.record.specs.Record.{noBlock};
 ghost use Rattle.rowread.specs.Stored.{joined, endsOf, after};
-ghost use Rattle.snapshot.specs.Rows.{bytesOf, valuesIn, askedRow};
+ghost use Rattle.snapshot.specs.Rows.{bytesOf, valuesIn, bankRowAnswer};
 ghost use Rattle.base.specs.Table.{lastTable};
 use crate::Outcome;
 use base::slice::part;
@@ -48,7 +48,7 @@ pub fn bank_row(
     out: &mut [u8],
     ends: &mut [usize],
 ) -> ReadAnswer
-    ensures { λ r. ⌜ (r ≡ askedRow (now (region .entry)) number source table place (length (now (out .entry))) (length (now (ends .entry)))) × (now (out .exit) ≡ after r (joined (valuesIn (now (region .entry)) number source table place)) (now (out .entry))) × (now (ends .exit) ≡ after r (endsOf 0 (valuesIn (now (region .entry)) number source table place)) (now (ends .entry))) ⌝ }
+    ensures { λ r. ⌜ (r ≡ bankRowAnswer (now (region .entry)) number source table place (length (now (out .entry))) (length (now (ends .entry)))) × (now (out .exit) ≡ after r (joined (valuesIn (now (region .entry)) number source table place)) (now (out .entry))) × (now (ends .exit) ≡ after r (endsOf 0 (valuesIn (now (region .entry)) number source table place)) (now (ends .entry))) ⌝ }
 {
     if LAST_TABLE < table {
         if region.len() != REGION_SIZE {

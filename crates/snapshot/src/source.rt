@@ -20,7 +20,7 @@ use refusal::Refusal;
 use region::bank_of;
 
 // A source; zeros on a refusal.
-pub struct Asked {
+pub struct SourceAnswer {
     pub outcome: Outcome,
     pub source: Source,
 }
@@ -31,11 +31,11 @@ pub struct Records {
     pub sources: [Source; SOURCES],
 }
 
-fn refuse(r: Refusal) -> Asked
+fn refuse(r: Refusal) -> SourceAnswer
     ensures { λ x. ⌜ x ≡ Sources.refuse r ⌝ }
 {
     let source = no_source();
-    Asked {
+    SourceAnswer {
         outcome: Outcome::Refused(r),
         source,
     }
@@ -50,15 +50,15 @@ fn source_in(region: &[u8], b: Bank, i: u32) -> Source
 }
 
 // The source at an index.
-pub fn source(region: &[u8], number: u32, i: u32) -> Asked
-    ensures { λ r. ⌜ r ≡ Sources.askedSource (now (region .entry)) number i ⌝ }
+pub fn source(region: &[u8], number: u32, i: u32) -> SourceAnswer
+    ensures { λ r. ⌜ r ≡ Sources.sourceAnswer (now (region .entry)) number i ⌝ }
 {
     let h = header(region, number);
     match h {
         Validated::Good(b) => {
             if i < b.count {
                 let source = source_in(region, b, i);
-                return Asked {
+                return SourceAnswer {
                     outcome: Outcome::Done,
                     source,
                 };
@@ -99,7 +99,7 @@ fn records_at(l: &[u8], version: u32, n: usize) -> [Source; SOURCES]
 
 // All sources of a bank.
 pub fn sources(region: &[u8], number: u32) -> Records
-    ensures { λ r. ⌜ r ≡ Sources.askedSources (now (region .entry)) number ⌝ }
+    ensures { λ r. ⌜ r ≡ Sources.sourcesAnswer (now (region .entry)) number ⌝ }
 {
     let h = header(region, number);
     match h {

@@ -1,5 +1,5 @@
 -- The three days as a struct, then the contract of `fresh`; the time is held as it is, since it fits an i64.
-use Rattle.snapshot.specs.Freshness.{askedFresh}
+use Rattle.snapshot.specs.Freshness.{freshAnswer}
 use Rattle.bankcore.specs.BankAnswers.{ofFresh}
 use mir.ValLaws.{toZ-ofZ}
 use mir.Syntax.{w64}
@@ -30,7 +30,7 @@ returns c =
     let s = d .before .before .before .before in
     let a = s .args in
     c .of-fresh .ensures
-    ∙ ap ofFresh (f .fresh .ensures ∙ (λ i. askedFresh (a .region .now) (a .bank) (record { first = d .before .before .day .ensures i; second = d .before .day2 .ensures i; third = d .day3 .ensures i }) (toZ-ofZ w64 (a .at) (s .fits .at) i)))
+    ∙ ap ofFresh (f .fresh .ensures ∙ (λ i. freshAnswer (a .region .now) (a .bank) (record { first = d .before .before .day .ensures i; second = d .before .day2 .ensures i; third = d .day3 .ensures i }) (toZ-ofZ w64 (a .at) (s .fits .at) i)))
 
 pub tt-fresh-spec : {M : Type 1} → statement M
 tt-fresh-spec =

@@ -1,7 +1,7 @@
 -- Two cases: the record is written if the output holds 384 bytes, and is refused as too small else; or the refusal of `source`, with the
 -- output unchanged.
-use Rattle.snapshot.specs.Source.{askedSource}
-use Rattle.snapshot.specs.declared.source.Asked.{Asked}
+use Rattle.snapshot.specs.Source.{sourceAnswer}
+use Rattle.snapshot.specs.declared.source.SourceAnswer.{SourceAnswer}
 use Rattle.record.specs.Record.{sourceBytes}
 use Rattle.leaf.specs.Bytes.{written}
 use lib.ListN.{length}
@@ -40,9 +40,9 @@ returns c =
     let f = s .before in
     let a = f .before .before .before .args in
     let out = a .out .now in
-    let e = sym (ap (λ (x : Asked). x .outcome) (s .source .ensures)) ∙ t .enum-told .given .1 in (
+    let e = sym (ap (λ (x : SourceAnswer). x .outcome) (s .source .ensures)) ∙ t .enum-told .given .1 in (
       f .fits2 .ensures ∙ sym (ap (refusalOf (length out)) e),
-      k .encode .ensures ∙ ap (λ (x : Asked). written out 0 (sourceBytes (x .source))) (s .source .ensures) ∙ sym (ap (outputOf out (askedSource (a .region .now) (a .bank) (a .index))) e),
+      k .encode .ensures ∙ ap (λ (x : SourceAnswer). written out 0 (sourceBytes (x .source))) (s .source .ensures) ∙ sym (ap (outputOf out (sourceAnswer (a .region .now) (a .bank) (a .index))) e),
     )
 
 returns-2 : tie.Need-returns-2
@@ -51,8 +51,8 @@ returns-2 c =
     let s = o .before .before in
     let a = s .before .before .before .before .args in
     let out = a .out .now in
-    let e = sym (ap (λ (x : Asked). x .outcome) (s .source .ensures)) ∙ o .o .given .1 in
-    (c .number-of .ensures ∙ sym (ap (refusalOf (length out)) e), sym (ap (outputOf out (askedSource (a .region .now) (a .bank) (a .index))) e))
+    let e = sym (ap (λ (x : SourceAnswer). x .outcome) (s .source .ensures)) ∙ o .o .given .1 in
+    (c .number-of .ensures ∙ sym (ap (refusalOf (length out)) e), sym (ap (outputOf out (sourceAnswer (a .region .now) (a .bank) (a .index))) e))
 
 pub tt-source-spec : {M : Type 1} → statement M
 tt-source-spec =

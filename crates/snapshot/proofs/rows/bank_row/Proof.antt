@@ -5,7 +5,7 @@ use mathlib.Core.Path.{refl, sym, ap, _∙_}
 use borrow.Author.Tests.{eq-eqb, ne-eqb, lt-leb, le-leb}
 use lib.ListN.{length, getD}
 use Rattle.record.specs.Record.{noBlock}
-use Rattle.snapshot.specs.declared.source.Asked.{Asked}
+use Rattle.snapshot.specs.declared.source.SourceAnswer.{SourceAnswer}
 use Rattle.rowread.specs.Stored.{joined, endsOf, after}
 use Rattle.snapshot.specs.Rows.{bytesOf}
 use Rattle.snapshot.proofs.RowsLaws.{no-region, no-table, refused, is-row}
@@ -59,8 +59,8 @@ returns-3 c =
     let m = b .before .before in
     let s = m .before .before in
     let a = s .before .before .before .before .before .args in
-    let e = sym (ap (λ (x : Asked). x .outcome) (s .source .ensures)) ∙ m .enum-told .given .1 in
-    let k = b .block-of .ensures ∙ ap (λ (x : Asked). getD (x .source .tables) (a .table) noBlock) (s .source .ensures) in
+    let e = sym (ap (λ (x : SourceAnswer). x .outcome) (s .source .ensures)) ∙ m .enum-told .given .1 in
+    let k = b .block-of .ensures ∙ ap (λ (x : SourceAnswer). getD (x .source .tables) (a .table) noBlock) (s .source .ensures) in
     let l =
     is-row (a .region .now) (a .number) (a .source) (a .table) (a .place) (length (a .out .now)) (length (a .ends .now)) _ _ (le-leb (a .table) 7 (s .before .if1 .left)) e
     (t .bytes-of .ensures ∙ ap (bytesOf (a .region .now) (a .number)) k) (w .column-count .ensures) in
@@ -76,7 +76,7 @@ returns-4 c =
     let s = o .before .before in
     let a = s .before .before .before .before .before .args in
     let h = le-leb (a .table) 7 (s .before .if1 .left) in
-    let e = sym (ap (λ (x : Asked). x .outcome) (s .source .ensures)) ∙ o .o .given .1 in
+    let e = sym (ap (λ (x : SourceAnswer). x .outcome) (s .source .ensures)) ∙ o .o .given .1 in
     (refused (a .region .now) (a .number) (a .source) (a .table) (a .place) (length (a .out .now)) (length (a .ends .now)) h _ e, refl, refl)
 
 pub bank-row-spec : {M : Type 1} → statement M
