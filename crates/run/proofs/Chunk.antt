@@ -32,7 +32,7 @@ use Rattle.writer.specs.declared.Answer.the-variants.{Took}
 use Rattle.lower.proofs.Laws.{bytes-took, took-some, takes-fits}
 use Rattle.run.specs.Run.{lowerStep, lowerOps, ranWriter, ranRegion}
 use Rattle.run.specs.Appends.{dues, appends}
-use Rattle.run.specs.Parts.{Ran, Appended, countOf}
+use Rattle.run.specs.Parts.{Ran, AfterAppend, countOf}
 use Rattle.flash.specs.Flash.{performed}
 use Rattle.run.proofs.Laws.{quiet, quiet-settled, quiet-dues-writer, quiet-dues-ran, then-writer, then-region, fed-all-writer, fed-all-region}
 use Rattle.region.specs.Region.{capacity}
@@ -238,7 +238,7 @@ module _ (region : List ℕ) (w : Writer) (bs : List ℕ) (m : mayAppend w ≡ t
 
 -- the same on parts
 pub chunk-parts : (region : List ℕ) (p : Parts) (bs : List ℕ) → ((ss : List Source) → mayAppend (withSources p ss) ≡ true) → isDue (p .taken) ≡ false → position (p .taken) + length bs ≤ capacity → 1 ≤ length bs
-    → (n : ℕ) → n ≡ min (length bs) (tailSize - p .taken .fill) → (s : PartsStep) → ((ss : List Source) → stepWith s ss ≡ bytesStep (withSources p ss) bs) → (q : Parts) (r : List ℕ) → Ran region (s .parts) dues q r → Appended region p bs n q r
+    → (n : ℕ) → n ≡ min (length bs) (tailSize - p .taken .fill) → (s : PartsStep) → ((ss : List Source) → stepWith s ss ≡ bytesStep (withSources p ss) bs) → (q : Parts) (r : List ℕ) → Ran region (s .parts) dues q r → AfterAppend region p bs n q r
 chunk-parts region p bs m d k l n e s f q r g = (at [] .0, at [] .1, λ ss. (at ss .2, at ss .3))
   where
     at : (ss : List Source) → (1 ≤ n) × (n ≤ length bs) × (ranWriter r (withSources q ss) (appends (drop n bs)) ≡ ranWriter region (withSources p ss) (appends bs)) × (ranRegion r (withSources q ss) (appends (drop n bs)) ≡ ranRegion region (withSources p ss) (appends bs))
@@ -277,7 +277,7 @@ module _ (p : Parts) (bs : List ℕ) (s : PartsStep) (f : (ss : List Source) →
 
 -- the same, known from the call's answer
 pub chunk-counted : (region : List ℕ) (p : Parts) (bs : List ℕ) (s : PartsStep) (f : (ss : List Source) → stepWith s ss ≡ bytesStep (withSources p ss) bs) (n : ℕ) → n ≡ countOf (s .answer) → (n ≡ 0 → ⊥)
-    → (q : Parts) (r : List ℕ) → Ran region (s .parts) dues q r → Appended region p bs n q r
+    → (q : Parts) (r : List ℕ) → Ran region (s .parts) dues q r → AfterAppend region p bs n q r
 chunk-counted region p bs s f n e h q r g =
     let k = some-count n (countOf (s .answer)) e h in
     let c = parts-counted p bs s f k [] in

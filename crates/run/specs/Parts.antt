@@ -16,8 +16,8 @@ abbrev pub Ran : List ℕ → Parts → List Lower → Parts → List ℕ → Ty
 Ran region p cs q after = (ss : List Source) → (withSources q ss ≡ ranWriter region (withSources p ss) cs) × (after ≡ ranRegion region (withSources p ss) cs)
 
 -- parts q and a region: appending the bytes after the first n to these ends as appending all of them to parts p does
-abbrev pub Appended : List ℕ → Parts → List ℕ → ℕ → Parts → List ℕ → Type 0
-Appended region p bs n q after =
+abbrev pub AfterAppend : List ℕ → Parts → List ℕ → ℕ → Parts → List ℕ → Type 0
+AfterAppend region p bs n q after =
     (1 ≤ n) × (n ≤ length bs)
     × ((ss : List Source) → (ranWriter after (withSources q ss) (appends (drop n bs)) ≡ ranWriter region (withSources p ss) (appends bs)) × (ranRegion after (withSources q ss) (appends (drop n bs)) ≡ ranRegion region (withSources p ss) (appends bs)))
 

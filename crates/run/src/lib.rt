@@ -73,20 +73,20 @@ pub fn flush(w: Writer, region: &mut [u8]) -> Writer
 }
 
 // How many bytes were appended, and the parts after that.
-struct Appended {
+struct AfterAppend {
     n: usize,
     parts: Parts,
 }
 
 // Appends the first byte.
-fn append_one(p: Parts, region: &mut [u8], bytes: &[u8]) -> Appended
+fn append_one(p: Parts, region: &mut [u8], bytes: &[u8]) -> AfterAppend
     requires { ⌜ 1 ≤ length (now bytes) ⌝ }
-    ensures { λ r. ⌜ Partly.Appended (now (region .entry)) p (now (bytes .entry)) (r .n) (r .parts) (now (region .exit)) ⌝ }
+    ensures { λ r. ⌜ Partly.AfterAppend (now (region .entry)) p (now (bytes .entry)) (r .n) (r .parts) (now (region .exit)) ⌝ }
 {
     let one = &bytes[0..1];
     let s = append_parts(p, one);
     let q = flush_parts(s.parts, region);
-    Appended { n: 1, parts: q }
+    AfterAppend { n: 1, parts: q }
 }
 
 // How many bytes a call appended.
@@ -104,9 +104,9 @@ fn count_of(a: Answer) -> usize
 }
 
 // Appends the first bytes: as many as the lower layer takes of all, or one. The lower call tests the state's range.
-fn append_some(p: Parts, region: &mut [u8], bytes: &[u8]) -> Appended
+fn append_some(p: Parts, region: &mut [u8], bytes: &[u8]) -> AfterAppend
     requires { ⌜ 1 ≤ length (now bytes) ⌝ }
-    ensures { λ r. ⌜ Partly.Appended (now (region .entry)) p (now (bytes .entry)) (r .n) (r .parts) (now (region .exit)) ⌝ }
+    ensures { λ r. ⌜ Partly.AfterAppend (now (region .entry)) p (now (bytes .entry)) (r .n) (r .parts) (now (region .exit)) ⌝ }
 {
     let s = append_parts(p, bytes);
     let answer = s.answer;
@@ -115,7 +115,7 @@ fn append_some(p: Parts, region: &mut [u8], bytes: &[u8]) -> Appended
         return append_one(p, region, bytes);
     }
     let q = flush_parts(s.parts, region);
-    Appended { n, parts: q }
+    AfterAppend { n, parts: q }
 }
 
 fn append_all_parts(p: Parts, region: &mut [u8], bytes: &[u8]) -> Parts
