@@ -9,10 +9,10 @@ use lib.ListN.{length, take}
 use Rattle.base.specs.Number.{pick}
 use Rattle.refusal.specs.declared.Refusal.the-variants.{Full, Turn}
 use Rattle.writer.specs.declared.Writer.{Writer}
-use Rattle.writer.specs.declared.Answer.the-variants.{Took}
+use Rattle.writer.specs.declared.Answer.the-variants.{Appended}
 use Rattle.writer.specs.declared.Step.{Step}
 use Rattle.writer.specs.State.{stays, position, isDue}
-use Rattle.lower.specs.Lower.{mayAppend, accepted, withBytes, took, bytesStep}
+use Rattle.lower.specs.Lower.{mayAppend, accepted, withBytes, appended, bytesStep}
 use Rattle.due.specs.Due.{dueStep}
 use Rattle.due.proofs.Laws.{due-rest}
 use Rattle.cstate.specs.declared.State.{State}
@@ -50,7 +50,7 @@ same : (x : UpdateStep) {tail : List ℕ} → x .state .tail ≡ tail → with-t
 same x p = sym (λ i. with-tail (p i) x)
 
 module _ (w : Writer) where
-  refused-by : (m f d : Bool) (n : ℕ) (v : Writer) → let s = pick m (pick f (pick d (record { answer = Took 0; writer = w }) (record { answer = Took n; writer = v })) (stays w Full)) (stays w Turn) in isAnswer (s .answer) ≡ false → s .writer .tail ≡ w .tail
+  refused-by : (m f d : Bool) (n : ℕ) (v : Writer) → let s = pick m (pick f (pick d (record { answer = Appended 0; writer = w }) (record { answer = Appended n; writer = v })) (stays w Full)) (stays w Turn) in isAnswer (s .answer) ≡ false → s .writer .tail ≡ w .tail
   refused-by true true true n v e = refl
   refused-by true true false n v e = absurd (false≢true (sym e))
   refused-by true false d n v e = refl
@@ -58,7 +58,7 @@ module _ (w : Writer) where
 
   -- refused bytes leave the tail
   refused-tail : (xs : List ℕ) → isAnswer (bytesStep w xs .answer) ≡ false → bytesStep w xs .writer .tail ≡ w .tail
-  unfolding bytesStep took
+  unfolding bytesStep appended
   refused-tail xs e =
       let n = accepted (w .taken) (length xs) in
       refused-by (mayAppend w) (leb (position (w .taken) + length xs) capacity) (isDue (w .taken)) n (withBytes w (take n xs)) e

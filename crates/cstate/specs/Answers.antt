@@ -4,7 +4,7 @@ use Prim.Native.Nat.{ℕ}
 use Rattle.base.specs.Number.{pick}
 use Rattle.refusal.specs.Refusal.{numberOf}
 use Rattle.writer.specs.declared.Answer.{Answer}
-use Rattle.writer.specs.declared.Answer.the-variants.{Done, Took, NoneDue, Same, Different, Refused}
+use Rattle.writer.specs.declared.Answer.the-variants.{Done, Appended, NoneDue, Same, Different, Refused}
 use Rattle.writer.specs.declared.Step.{Step}
 use Rattle.cstate.specs.declared.State.{State}
 use Rattle.cstate.specs.declared.UpdateNumbers.{UpdateNumbers}
@@ -36,7 +36,7 @@ isDifferent = 4
 -- `count` is the number of bytes appended
 abbrev pub ofAnswer : Answer → UpdateNumbers
 ofAnswer Done = done isDone 0
-ofAnswer (Took n) = done isAppended n
+ofAnswer (Appended n) = done isAppended n
 ofAnswer NoneDue = done isNoneDue 0
 ofAnswer Same = done isSame 0
 ofAnswer Different = done isDifferent 0
@@ -44,7 +44,7 @@ ofAnswer (Refused r) = refused (numberOf r)
 
 abbrev pub isAnswer : Answer → Bool
 isAnswer Done = true
-isAnswer (Took n) = true
+isAnswer (Appended n) = true
 isAnswer NoneDue = true
 isAnswer Same = true
 isAnswer Different = true

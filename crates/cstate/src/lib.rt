@@ -335,7 +335,7 @@ fn of_answer(a: Answer) -> UpdateNumbers
 {
     match a {
         Answer::Done => done(IS_DONE, 0),
-        Answer::Took(n) => done(IS_APPENDED, n),
+        Answer::Appended(n) => done(IS_APPENDED, n),
         Answer::NoneDue => done(IS_NONE_DUE, 0),
         Answer::Same => done(IS_SAME, 0),
         Answer::Different => done(IS_DIFFERENT, 0),
@@ -349,7 +349,7 @@ fn is_answer(a: Answer) -> bool
 {
     match a {
         Answer::Done => true,
-        Answer::Took(_) => true,
+        Answer::Appended(_) => true,
         Answer::NoneDue => true,
         Answer::Same => true,
         Answer::Different => true,

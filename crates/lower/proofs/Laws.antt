@@ -14,8 +14,8 @@ use Rattle.writer.specs.declared.Writer.{Writer}
 use Rattle.base.proofs.Bools.{and-left}
 use Rattle.writer.specs.State.{did, stays, position, isOpen, begunIn, isDue, inRange, tailSize}
 use Rattle.writer.proofs.Laws.{ranged, fill-fits, position-fits}
-use Rattle.lower.specs.Lower.{mayAppend, mayBegin, withSource, sourceStep, withTable, tableStep, withEnd, endStep, withClosed, closeStep, accepted, withBytes, took, bytesStep}
-use Rattle.writer.specs.declared.Answer.the-variants.{Took}
+use Rattle.lower.specs.Lower.{mayAppend, mayBegin, withSource, sourceStep, withTable, tableStep, withEnd, endStep, withClosed, closeStep, accepted, withBytes, appended, bytesStep}
+use Rattle.writer.specs.declared.Answer.the-variants.{Appended}
 use Rattle.region.specs.Region.{capacity}
 use Rattle.base.specs.Table.{lastTable}
 use Rattle.header.specs.Header.{maxSources}
@@ -64,9 +64,9 @@ module _ (w : Writer) where
   close-turn e = rw e
 
 module _ (w : Writer) (xs : List ℕ) where
-  pub bytes-took : mayAppend w ≡ true → position (w .taken) + length xs ≤ capacity → took w xs ≡ bytesStep w xs
+  pub bytes-appended : mayAppend w ≡ true → position (w .taken) + length xs ≤ capacity → appended w xs ≡ bytesStep w xs
   unfolding bytesStep
-  bytes-took e h = rw (e, le-leb (position (w .taken) + length xs) capacity h)
+  bytes-appended e h = rw (e, le-leb (position (w .taken) + length xs) capacity h)
 
   pub bytes-full : mayAppend w ≡ true → capacity < position (w .taken) + length xs → stays w Full ≡ bytesStep w xs
   unfolding bytesStep
@@ -77,13 +77,13 @@ module _ (w : Writer) (xs : List ℕ) where
   bytes-turn e = rw e
 
 module _ (w : Writer) (xs : List ℕ) where
-  pub took-none : isDue (w .taken) ≡ true → record { answer = Took 0; writer = w } ≡ took w xs
-  unfolding took
-  took-none e = rw e
+  pub appended-none : isDue (w .taken) ≡ true → record { answer = Appended 0; writer = w } ≡ appended w xs
+  unfolding appended
+  appended-none e = rw e
 
-  pub took-some : (n : ℕ) (v : Writer) → isDue (w .taken) ≡ false → n ≡ accepted (w .taken) (length xs) → v ≡ withBytes w (take n xs) → record { answer = Took n; writer = v } ≡ took w xs
-  unfolding took
-  took-some n v e h k = rw (e, ← h) (ap (λ (x : Writer). record { answer = Took n; writer = x }) k)
+  pub appended-some : (n : ℕ) (v : Writer) → isDue (w .taken) ≡ false → n ≡ accepted (w .taken) (length xs) → v ≡ withBytes w (take n xs) → record { answer = Appended n; writer = v } ≡ appended w xs
+  unfolding appended
+  appended-some n v e h k = rw (e, ← h) (ap (λ (x : Writer). record { answer = Appended n; writer = x }) k)
 
 -- the tail and the position of a state that may append
 pub takes-fits : (w : Writer) → mayAppend w ≡ true → (w .taken .fill ≤ tailSize) × (position (w .taken) ≤ capacity)

@@ -1,2 +1,2 @@
 pub mod Lower
-pub mod Took
+pub mod Appended

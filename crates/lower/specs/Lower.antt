@@ -24,7 +24,7 @@ use Rattle.writer.specs.declared.Taken.{Taken}
 use Rattle.writer.specs.declared.Tables.{Tables}
 use Rattle.writer.specs.declared.Writer.{Writer}
 use Rattle.writer.specs.declared.Answer.{Answer}
-use Rattle.writer.specs.declared.Answer.the-variants.{Done, Took, Refused}
+use Rattle.writer.specs.declared.Answer.the-variants.{Done, Appended, Refused}
 use Rattle.writer.specs.declared.Step.{Step}
 use Rattle.writer.specs.State.{did, stays, tailSize, position, isDue, stageOf, noTable, isOpen, begunIn, inRange}
 use Rattle.base.specs.Table.{maxTables, lastTable}
@@ -126,16 +126,16 @@ withBytes w xs =
       tail = sets (w .tail) (w .taken .fill) xs;
     }
 
-unfoldable pub took : Writer → List ℕ → Step
-took w xs =
+unfoldable pub appended : Writer → List ℕ → Step
+appended w xs =
     pick (isDue (w .taken))
-    (record { answer = Took 0; writer = w })
-    (record { answer = Took (accepted (w .taken) (length xs)); writer = withBytes w (take (accepted (w .taken) (length xs)) xs) })
+    (record { answer = Appended 0; writer = w })
+    (record { answer = Appended (accepted (w .taken) (length xs)); writer = withBytes w (take (accepted (w .taken) (length xs)) xs) })
 
 unfoldable pub bytesStep : Writer → List ℕ → Step
 bytesStep w xs =
     pick (mayAppend w)
-    (pick (leb (position (w .taken) + length xs) capacity) (took w xs) (stays w Full))
+    (pick (leb (position (w .taken) + length xs) capacity) (appended w xs) (stays w Full))
     (stays w Turn)
 
 -- Table end: fixes offset, length and CRC of the open table's block.

@@ -8,7 +8,7 @@ ghost use Rattle.record.specs.declared.Source.{Source};
 ghost use Rattle.writer.specs.Parts.{withSources, stepWith};
 ghost use Rattle.writer.specs.declared.Answer.the-variants as Answers;
 ghost use Rattle.lower.specs.Lower as Lower;
-ghost use Rattle.lower.specs.Took.{partsTook, stepTook};
+ghost use Rattle.lower.specs.Appended.{partsAppended, stepAppended};
 ghost use Rattle.writer.specs.State.{tailSize};
 use crate::accepted;
 use crate::may_append_parts;
@@ -44,7 +44,7 @@ fn tail_with(tail: [u8; TAIL_SIZE], at: usize, bytes: &[u8]) -> [u8; TAIL_SIZE]
 }
 
 // The answer, how many bytes are appended and at which offset of the tail, and what else they change.
-struct Took {
+struct Appended {
     answer: Answer,
     n: usize,
     at: usize,
@@ -54,13 +54,13 @@ struct Took {
 }
 
 // No byte is appended.
-fn none_taken(p: Parts, answer: Answer) -> Took
+fn none_appended(p: Parts, answer: Answer) -> Appended
     ensures { λ r. ⌜ r ≡ record { answer = answer; n = 0; at = 0; stage = p .stage; taken = p .taken; tables = p .tables } ⌝ }
 {
     let stage = p.stage;
     let taken = p.taken;
     let tables = p.tables;
-    Took {
+    Appended {
         answer,
         n: 0,
         at: 0,
@@ -71,9 +71,9 @@ fn none_taken(p: Parts, answer: Answer) -> Took
 }
 
 // The first n bytes are appended.
-fn first_taken(p: Parts, bytes: &[u8], n: usize) -> Took
+fn first_appended(p: Parts, bytes: &[u8], n: usize) -> Appended
     requires { ⌜ (n ≤ length (now bytes)) × (p .taken .fill + n ≤ tailSize) ⌝ }
-    ensures { λ r. ⌜ (r .answer ≡ Answers.Took n) × (r .n ≡ n) × (r .at + r .n ≤ tailSize) × ((ss : List Source) → withSources (partsTook p r (now (bytes .entry))) ss ≡ Lower.withBytes (withSources p ss) (take n (now (bytes .entry)))) ⌝ }
+    ensures { λ r. ⌜ (r .answer ≡ Answers.Appended n) × (r .n ≡ n) × (r .at + r .n ≤ tailSize) × ((ss : List Source) → withSources (partsAppended p r (now (bytes .entry))) ss ≡ Lower.withBytes (withSources p ss) (take n (now (bytes .entry)))) ⌝ }
 {
     let t = p.taken;
     let x = p.tables;
@@ -87,8 +87,8 @@ fn first_taken(p: Parts, bytes: &[u8], n: usize) -> Took
     };
     let tables = Tables { crc: crcs.b, ..x };
     let stage = stage_of(b.comparing, taken);
-    Took {
-        answer: Answer::Took(n as u32),
+    Appended {
+        answer: Answer::Appended(n as u32),
         n,
         at: t.fill as usize,
         stage,
@@ -97,27 +97,27 @@ fn first_taken(p: Parts, bytes: &[u8], n: usize) -> Took
     }
 }
 
-fn append_some(p: Parts, bytes: &[u8]) -> Took
+fn append_some(p: Parts, bytes: &[u8]) -> Appended
     requires { ⌜ p .taken .fill ≤ tailSize ⌝ }
-    ensures { λ r. ⌜ (r .n ≤ length (now (bytes .entry))) × (r .at + r .n ≤ tailSize) × ((ss : List Source) → stepWith (stepTook p r (now (bytes .entry))) ss ≡ Lower.took (withSources p ss) (now (bytes .entry))) ⌝ }
+    ensures { λ r. ⌜ (r .n ≤ length (now (bytes .entry))) × (r .at + r .n ≤ tailSize) × ((ss : List Source) → stepWith (stepAppended p r (now (bytes .entry))) ss ≡ Lower.appended (withSources p ss) (now (bytes .entry))) ⌝ }
 {
     if is_due(p.taken) {
-        return none_taken(p, Answer::Took(0));
+        return none_appended(p, Answer::Appended(0));
     }
     let n = accepted(p.taken, bytes.len());
-    first_taken(p, bytes, n)
+    first_appended(p, bytes, n)
 }
 
-fn append_any(p: Parts, offered: &[u8]) -> Took
-    ensures { λ r. ⌜ (r .n ≤ length (now (offered .entry))) × (r .at + r .n ≤ tailSize) × ((ss : List Source) → stepWith (stepTook p r (now (offered .entry))) ss ≡ Lower.bytesStep (withSources p ss) (now (offered .entry))) ⌝ }
+fn append_any(p: Parts, offered: &[u8]) -> Appended
+    ensures { λ r. ⌜ (r .n ≤ length (now (offered .entry))) × (r .at + r .n ≤ tailSize) × ((ss : List Source) → stepWith (stepAppended p r (now (offered .entry))) ss ≡ Lower.bytesStep (withSources p ss) (now (offered .entry))) ⌝ }
 {
     let t = p.taken;
     if !may_append_parts(p) {
-        return none_taken(p, Answer::Refused(Refusal::Turn));
+        return none_appended(p, Answer::Refused(Refusal::Turn));
     }
     let free = CAPACITY - (t.written + t.fill) as usize;
     if free < offered.len() {
-        return none_taken(p, Answer::Refused(Refusal::Full));
+        return none_appended(p, Answer::Refused(Refusal::Full));
     }
     append_some(p, offered)
 }

@@ -126,7 +126,7 @@ fn operate(u: Update, region: &mut [u8]) -> Update {
 // How many bytes were appended; 0 for any other answer.
 fn taken(a: Answer) -> usize {
     match a {
-        Answer::Took(k) => k as usize,
+        Answer::Appended(k) => k as usize,
         _ => 0,
     }
 }

@@ -20,13 +20,13 @@ use Rattle.writer.specs.declared.Operation.the-variants.{Erase, Write, Compare}
 use Rattle.writer.specs.declared.Stage.{Stage}
 use Rattle.writer.specs.declared.Stage.the-variants.{Idle, Due, HeaderWritten, Committed}
 use Rattle.writer.specs.declared.Answer.{Answer}
-use Rattle.writer.specs.declared.Answer.the-variants.{Done, Took, NoneDue, Same, Different, Refused}
+use Rattle.writer.specs.declared.Answer.the-variants.{Done, Appended, NoneDue, Same, Different, Refused}
 use Rattle.writer.specs.declared.Taken.{Taken}
 use Rattle.writer.specs.declared.Writer.{Writer}
 use Rattle.writer.specs.declared.Step.{Step}
 use Rattle.writer.specs.State.{position, isDue, writeDue, dataDue, stageOk, stays}
 use Rattle.writer.proofs.Laws.{ranged}
-use Rattle.lower.specs.Lower.{mayAppend, accepted, withBytes, took, bytesStep}
+use Rattle.lower.specs.Lower.{mayAppend, accepted, withBytes, appended, bytesStep}
 use Rattle.due.specs.Due.{operated, stepOf}
 use Rattle.run.specs.Run.{Lower, bytes, due, lowerStep, lowerOps, lowerRegion}
 use Rattle.run.specs.Appends.{dues, appends}
@@ -56,7 +56,7 @@ writerAfter region w = lowerStep region w due .writer
 due-nothing : (x : Answer) (u : Update) → updateAfter due x u ≡ u
 unfolding updateAfter
 due-nothing Done u = refl
-due-nothing (Took n) u = refl
+due-nothing (Appended n) u = refl
 due-nothing NoneDue u = refl
 due-nothing Same u = refl
 due-nothing Different u = refl
@@ -181,26 +181,26 @@ dues-update region w cs u =
 
 -- ---- a byte
 
-took-one : (x : ℕ) (w : Writer) (a f d : Bool) (n : ℕ) → a ≡ true → f ≡ true → d ≡ false → n ≡ 1
-    → pick {A = Step} a (pick f (pick d (record { answer = Took 0; writer = w }) (record { answer = Took n; writer = withBytes w (take n (x ∷ [])) })) (stays w Full)) (stays w Turn)
-    ≡ record { answer = Took 1; writer = withBytes w (x ∷ []) }
-took-one x w a f d n p q r s = rw (p, q, r, s)
+appended-one : (x : ℕ) (w : Writer) (a f d : Bool) (n : ℕ) → a ≡ true → f ≡ true → d ≡ false → n ≡ 1
+    → pick {A = Step} a (pick f (pick d (record { answer = Appended 0; writer = w }) (record { answer = Appended n; writer = withBytes w (take n (x ∷ [])) })) (stays w Full)) (stays w Turn)
+    ≡ record { answer = Appended 1; writer = withBytes w (x ∷ []) }
+appended-one x w a f d n p q r s = rw (p, q, r, s)
 
 pub may-append : (hd : Loaded) (region : List ℕ) (w : Writer) (u : Update) → Open region hd w u → w .taken .closed ≡ false → mayAppend w ≡ true
 may-append hd region w u o e = rw (o .tied .range, e)
 
 byte-step : (hd : Loaded) (region : List ℕ) (w : Writer) (u : Update) (x : ℕ) → Open region hd w u → w .taken .closed ≡ false → isDue (w .taken) ≡ false → position (w .taken) + 1 ≤ capacity
-    → bytesStep w (x ∷ []) ≡ record { answer = Took 1; writer = withBytes w (x ∷ []) }
-unfolding bytesStep took
+    → bytesStep w (x ∷ []) ≡ record { answer = Appended 1; writer = withBytes w (x ∷ []) }
+unfolding bytesStep appended
 byte-step hd region w u x o e d p =
-    took-one x w (mayAppend w) (leb (position (w .taken) + 1) capacity) (isDue (w .taken)) (accepted (w .taken) 1) (may-append hd region w u o e) (le-leb (position (w .taken) + 1) capacity p) d
+    appended-one x w (mayAppend w) (leb (position (w .taken) + 1) capacity) (isDue (w .taken)) (accepted (w .taken) 1) (may-append hd region w u o e) (le-leb (position (w .taken) + 1) capacity p) d
     (omega (arith, idle-room (w .taken) d (ranged w (o .tied .range) .taken)))
 
 takes-more : (x : ℕ) (xs : List ℕ) (u : Update) → takes xs (takes (x ∷ []) u) ≡ takes (x ∷ xs) u
 takes-more x xs u =
     ap (λ (l : List ℕ). record { number = u .number; generation = u .generation; now = u .now; data· = l; notes = u .notes; checked = u .checked }) (append-assoc (u .data·) (x ∷ []) xs)
 
-byte-update : (region : List ℕ) (w : Writer) (u : Update) (x : ℕ) (cs : List Lower) → bytesStep w (x ∷ []) ≡ record { answer = Took 1; writer = withBytes w (x ∷ []) }
+byte-update : (region : List ℕ) (w : Writer) (u : Update) (x : ℕ) (cs : List Lower) → bytesStep w (x ∷ []) ≡ record { answer = Appended 1; writer = withBytes w (x ∷ []) }
     → ranUpdate region w (bytes (x ∷ []) ∷ cs) u ≡ ranUpdate region (withBytes w (x ∷ [])) cs (takes (x ∷ []) u)
 unfolding ranUpdate lowerOps lowerStep performed updateAfter
 byte-update region w u x cs e = ap (λ (s : Step). ranUpdate region (s .writer) cs (updateAfter (bytes (x ∷ [])) (s .answer) u)) e

@@ -39,10 +39,10 @@ use Rattle.writer.specs.declared.Stage.the-variants.{Idle, Due, HeaderWritten, 
 use Rattle.writer.specs.declared.Taken.{Taken}
 use Rattle.writer.specs.declared.Tables.{Tables}
 use Rattle.writer.specs.declared.Answer.{Answer}
-use Rattle.writer.specs.declared.Answer.the-variants.{Done, Took}
+use Rattle.writer.specs.declared.Answer.the-variants.{Done, Appended}
 use Rattle.writer.specs.declared.Writer.{Writer}
 use Rattle.writer.specs.State.{isDue, dataDue, firstDue, stageOf, target, nextGeneration, begunIn, activeOk, takenOk, tablesOk, operationOk, stageOk, inRange, tailSize}
-use Rattle.lower.specs.Lower.{answerOf, started, begun, withSource, sourceStep, withTable, tableStep, withBytes, took, bytesStep, withEnd, endStep, withClosed, closeStep, emptied, withBlock, pastEnd}
+use Rattle.lower.specs.Lower.{answerOf, started, begun, withSource, sourceStep, withTable, tableStep, withBytes, appended, bytesStep, withEnd, endStep, withClosed, closeStep, emptied, withBlock, pastEnd}
 use Rattle.due.specs.Due.{padded, dueOps, operated, dueStep}
 use Rattle.commit.specs.declared.Stamp.the-variants.{Missing}
 use Rattle.commit.specs.Commit.{bankFor, recordsFor, commitStep, commitOps, wordStep, wordOps}
@@ -82,8 +82,8 @@ Does c region w x w′ ops = (lowerStep region w c ≡ record { answer = x; writ
 
 module _ (hd : Loaded) (ok : activeOk hd ≡ true) (region : List ℕ) (ss : List Source) (tail : List ℕ) (a b : ℕ) where
   does-key : Does (bytes key) region (st hd Idle (tk 0 0 a false) (tb 0 8 0 b 0) ss tail)
-      (Took 1) (st hd Idle (tk 0 1 (crc32 a key) false) (tb 0 8 0 (crc32 b key) 0) ss (sets tail 0 key)) []
-  unfolding lowerStep lowerOps bytesStep took withBytes stageOf inRange takenOk tablesOk stageOk isDue
+      (Appended 1) (st hd Idle (tk 0 1 (crc32 a key) false) (tb 0 8 0 (crc32 b key) 0) ss (sets tail 0 key)) []
+  unfolding lowerStep lowerOps bytesStep appended withBytes stageOf inRange takenOk tablesOk stageOk isDue
   does-key = rw ok (refl, refl)
 
   does-source : Does (source theSource) region (st hd Idle (tk 0 1 a false) (tb 0 8 0 b 0) ss tail)
@@ -92,8 +92,8 @@ module _ (hd : Loaded) (ok : activeOk hd ≡ true) (region : List ℕ) (ss : Lis
   does-source = rw ok (refl, refl)
 
   does-dates : Does (bytes dates) region (st hd Idle (tk 0 1 a false) (tb 1 8 0 b 0) ss tail)
-      (Took 8) (st hd Idle (tk 0 9 (crc32 a dates) false) (tb 1 8 0 (crc32 b dates) 0) ss (sets tail 1 dates)) []
-  unfolding lowerStep lowerOps bytesStep took withBytes stageOf inRange takenOk tablesOk stageOk isDue
+      (Appended 8) (st hd Idle (tk 0 9 (crc32 a dates) false) (tb 1 8 0 (crc32 b dates) 0) ss (sets tail 1 dates)) []
+  unfolding lowerStep lowerOps bytesStep appended withBytes stageOf inRange takenOk tablesOk stageOk isDue
   does-dates = rw ok (refl, refl)
 
   does-table : Does (table 0) region (st hd Idle (tk 0 9 a false) (tb 1 8 0 b 0) ss tail) Done (st hd Idle (tk 0 9 a false) (tb 1 0 9 0 1) ss tail) []
@@ -101,8 +101,8 @@ module _ (hd : Loaded) (ok : activeOk hd ≡ true) (region : List ℕ) (ss : Lis
   does-table = rw ok (refl, refl)
 
   does-routes : Does (bytes routes) region (st hd Idle (tk 0 9 a false) (tb 1 0 9 b 1) ss tail)
-      (Took 3) (st hd Idle (tk 0 12 (crc32 a routes) false) (tb 1 0 9 (crc32 b routes) 1) ss (sets tail 9 routes)) []
-  unfolding lowerStep lowerOps bytesStep took withBytes stageOf inRange takenOk tablesOk stageOk isDue
+      (Appended 3) (st hd Idle (tk 0 12 (crc32 a routes) false) (tb 1 0 9 (crc32 b routes) 1) ss (sets tail 9 routes)) []
+  unfolding lowerStep lowerOps bytesStep appended withBytes stageOf inRange takenOk tablesOk stageOk isDue
   does-routes = rw ok (refl, refl)
 
   does-end : Does end region (st hd Idle (tk 0 12 a false) (tb 1 0 9 b 1) ss tail)

@@ -19,14 +19,14 @@ use Rattle.flash.specs.Flash.{Op, write}
 use Rattle.writer.specs.declared.Operation.the-variants.{Erase, Write, Compare}
 use Rattle.writer.specs.declared.Stage.{Stage}
 use Rattle.writer.specs.declared.Stage.the-variants.{Idle, Due, HeaderWritten, Committed}
-use Rattle.writer.specs.declared.Answer.the-variants.{Took, Same, Different}
+use Rattle.writer.specs.declared.Answer.the-variants.{Appended, Same, Different}
 use Rattle.writer.specs.declared.Taken.{Taken}
 use Rattle.writer.specs.declared.Beginning.{Beginning}
 use Rattle.writer.specs.declared.Writer.{Writer}
 use Rattle.writer.specs.declared.Step.{Step}
 use Rattle.writer.specs.State.{isDue, writeDue, dataDue, firstDue, stageOf, isOpen, operationOk, inRange, takenOk, stageOk, did, stays, tailSize}
 use Rattle.writer.proofs.Laws.{Ranged, ranged, fill-fits}
-use Rattle.lower.specs.Lower.{mayAppend, mayBegin, withSource, sourceStep, withTable, tableStep, accepted, takenMore, withBytes, took, bytesStep, withEnd, endStep, closedTaken, withClosed, closeStep}
+use Rattle.lower.specs.Lower.{mayAppend, mayBegin, withSource, sourceStep, withTable, tableStep, accepted, takenMore, withBytes, appended, bytesStep, withEnd, endStep, closedTaken, withClosed, closeStep}
 use Rattle.due.specs.Due.{opsOf, operated, withStage, stepOf, dueStep}
 use Rattle.commit.specs.declared.Stamp.{Stamp}
 use Rattle.commit.specs.Commit.{bankFor, recordsFor, isIdle, isHeaderWritten, mayCommit, isCurrent, commitStep, commitOps, wordStep, wordOps}
@@ -197,15 +197,15 @@ module _ (region : List ℕ) (w : Writer) (ops m : ℕ) (l : length region ≡ r
       subst (λ (s : Stage). Tally (w .beginning .comparing) s (w .taken .written) m)
       (only-idle (w .beginning .comparing) (w .taken) (w .stage) (own .stage) (open-of e) d) (quiet q)
 
-  took-tally : (n : ℕ) (xs : List ℕ) (d : Bool) → mayAppend w ≡ true → isDue (w .taken) ≡ d → m ≡ ops + 0
-      → TallyOf m (pick {A = Step} d (record { answer = Took 0; writer = w }) (record { answer = Took n; writer = withBytes w (take n xs) }) .writer)
+  appended-tally : (n : ℕ) (xs : List ℕ) (d : Bool) → mayAppend w ≡ true → isDue (w .taken) ≡ d → m ≡ ops + 0
+      → TallyOf m (pick {A = Step} d (record { answer = Appended 0; writer = w }) (record { answer = Appended n; writer = withBytes w (take n xs) }) .writer)
   unfolding withBytes
-  took-tally n xs true e d q = quiet q
-  took-tally n xs false e d q = stage-tally (w .beginning .comparing) (takenMore (w .taken) (take n xs)) m (none-due e d q)
+  appended-tally n xs true e d q = quiet q
+  appended-tally n xs false e d q = stage-tally (w .beginning .comparing) (takenMore (w .taken) (take n xs)) m (none-due e d q)
 
-  bytes-tally : (xs : List ℕ) (a f : Bool) → mayAppend w ≡ a → m ≡ ops + 0 → TallyOf m (pick a (pick f (took w xs) (stays w Full)) (stays w Turn) .writer)
-  unfolding took
-  bytes-tally xs true true e q = took-tally (accepted (w .taken) (length xs)) xs (isDue (w .taken)) e refl q
+  bytes-tally : (xs : List ℕ) (a f : Bool) → mayAppend w ≡ a → m ≡ ops + 0 → TallyOf m (pick a (pick f (appended w xs) (stays w Full)) (stays w Turn) .writer)
+  unfolding appended
+  bytes-tally xs true true e q = appended-tally (accepted (w .taken) (length xs)) xs (isDue (w .taken)) e refl q
   bytes-tally xs true false e q = quiet q
   bytes-tally xs false f e q = quiet q
 

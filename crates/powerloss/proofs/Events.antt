@@ -20,7 +20,7 @@ use Rattle.flash.specs.Flash.{Op}
 use Rattle.writer.specs.declared.Stage.{Stage}
 use Rattle.writer.specs.declared.Stage.the-variants.{Committed}
 use Rattle.writer.specs.declared.Answer.{Answer}
-use Rattle.writer.specs.declared.Answer.the-variants.{Done, Took, NoneDue, Same, Different, Refused}
+use Rattle.writer.specs.declared.Answer.the-variants.{Done, Appended, NoneDue, Same, Different, Refused}
 use Rattle.writer.specs.declared.Writer.{Writer}
 use Rattle.writer.specs.State.{position, inRange, stageOk}
 use Rattle.writer.proofs.Laws.{ranged}
@@ -70,7 +70,7 @@ TallyIn (some w) ops = TallyOf ops w
 started-tally : (x : Answer) (w : Writer) (s : Option Writer) (first old : List Op) → (x ≡ Done → TallyOf (length first) w) → TallyIn s (length old)
     → TallyIn (stateAfter x w s) (length (startedBy x first old))
 started-tally Done w s first old f h = f refl
-started-tally (Took n) w s first old f h = h
+started-tally (Appended n) w s first old f h = h
 started-tally NoneDue w s first old f h = h
 started-tally Same w s first old f h = h
 started-tally Different w s first old f h = h

@@ -30,7 +30,7 @@ use Rattle.flash.specs.Flash.{Op, write, torn, applied, performed}
 use Rattle.flash.proofs.Laws.{torn-whole}
 use Rattle.writer.specs.declared.Stage.the-variants.{Committed}
 use Rattle.writer.specs.declared.Answer.{Answer}
-use Rattle.writer.specs.declared.Answer.the-variants.{Done, Took, NoneDue, Same, Different, Refused}
+use Rattle.writer.specs.declared.Answer.the-variants.{Done, Appended, NoneDue, Same, Different, Refused}
 use Rattle.writer.specs.declared.Writer.{Writer}
 use Rattle.writer.specs.State.{isDue, target, activeOk, takenOk, stageOk, did, stays, tailSize}
 use Rattle.lower.specs.Lower.{started, begun, answerOf}
@@ -247,7 +247,7 @@ begin-by : (c : Bool) (now : ℤ) (region : List ℕ) (s : Option Writer) (hd : 
     })
 unfolding afterBegin
 begin-by c now region s hd rs v im f h Done e = record { kept = h .kept; open· = begun-open region hd rs im c now f (h .kept) e }
-begin-by c now region s hd rs v im f h (Took n) e = h
+begin-by c now region s hd rs v im f h (Appended n) e = h
 begin-by c now region s hd rs v im f h NoneDue e = h
 begin-by c now region s hd rs v im f h Same e = h
 begin-by c now region s hd rs v im f h Different e = h

@@ -7,7 +7,7 @@ use Rattle.record.specs.declared.Source.{Source}
 use Rattle.bank.specs.declared.Loaded.{Loaded}
 use Rattle.flash.specs.Flash.{Op, applied, performed}
 use Rattle.writer.specs.declared.Answer.{Answer}
-use Rattle.writer.specs.declared.Answer.the-variants.{Done, Took, NoneDue, Same, Different, Refused}
+use Rattle.writer.specs.declared.Answer.the-variants.{Done, Appended, NoneDue, Same, Different, Refused}
 use Rattle.writer.specs.declared.Writer.{Writer}
 use Rattle.writer.specs.State.{target}
 use Rattle.run.specs.Run.{Lower, source, table, bytes, end, close, due, unchanged, commit, word, lowerStep, lowerOps, lowerRegion, ranWriter, ranRegion, ranOps}
@@ -42,15 +42,15 @@ same-number due Done u = refl
 same-number unchanged Done u = refl
 same-number (commit s c) Done u = refl
 same-number word Done u = refl
-same-number (source s) (Took n) u = refl
-same-number (table t) (Took n) u = refl
-same-number (bytes xs) (Took n) u = refl
-same-number end (Took n) u = refl
-same-number close (Took n) u = refl
-same-number due (Took n) u = refl
-same-number unchanged (Took n) u = refl
-same-number (commit s c) (Took n) u = refl
-same-number word (Took n) u = refl
+same-number (source s) (Appended n) u = refl
+same-number (table t) (Appended n) u = refl
+same-number (bytes xs) (Appended n) u = refl
+same-number end (Appended n) u = refl
+same-number close (Appended n) u = refl
+same-number due (Appended n) u = refl
+same-number unchanged (Appended n) u = refl
+same-number (commit s c) (Appended n) u = refl
+same-number word (Appended n) u = refl
 same-number c NoneDue u = refl
 same-number c Same u = refl
 same-number c Different u = refl

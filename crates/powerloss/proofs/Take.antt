@@ -21,14 +21,14 @@ use Rattle.bank.specs.declared.Loaded.{Loaded}
 use Rattle.writer.specs.declared.Stage.{Stage}
 use Rattle.writer.specs.declared.Stage.the-variants.{Idle, Due, HeaderWritten, Committed}
 use Rattle.writer.specs.declared.Operation.the-variants.{Erase, Write, Compare}
-use Rattle.writer.specs.declared.Answer.the-variants.{Took}
+use Rattle.writer.specs.declared.Answer.the-variants.{Appended}
 use Rattle.writer.specs.declared.Taken.{Taken}
 use Rattle.writer.specs.declared.Tables.{Tables}
 use Rattle.writer.specs.declared.Writer.{Writer}
 use Rattle.writer.specs.declared.Step.{Step}
 use Rattle.writer.specs.State.{position, isDue, stageOf, isOpen, inRange, tablesOk, stageOk, did, stays, tailSize}
 use Rattle.writer.proofs.Laws.{Ranged, ranged, fill-fits, open-table}
-use Rattle.lower.specs.Lower.{mayAppend, accepted, takenMore, withBytes, took, bytesStep, closedTaken, withClosed, closeStep}
+use Rattle.lower.specs.Lower.{mayAppend, accepted, takenMore, withBytes, appended, bytesStep, closedTaken, withClosed, closeStep}
 use Rattle.run.specs.Run.{bytes, close}
 use Rattle.powerloss.specs.History.{Update, recordsAfter, takes, updateAfter}
 use Rattle.powerloss.proofs.Bytes.{bytes-take, bytes-sets}
@@ -149,24 +149,24 @@ module _ (region : List ℕ) (hd : Loaded) (w : Writer) (u : Update) (o : Open r
             (mode-more (w .beginning .comparing) (w .stage) region hd (w .beginning .active) t (w .tail) u ys st (omega (arith, o .tied .tailed .length·)) (o .mode));
       }
 
-  none-taken : Open region hd w (takes [] u)
-  none-taken = subst (Open region hd w) (sym (takes-nil u)) o
+  none-appended : Open region hd w (takes [] u)
+  none-appended = subst (Open region hd w) (sym (takes-nil u)) o
 
-  took-by : (xs : List ℕ) → Bytes xs → w .taken .closed ≡ false → position (w .taken) + length xs ≤ capacity → (n : ℕ) → n ≡ accepted (w .taken) (length xs) → (d : Bool) → isDue (w .taken) ≡ d
-      → Open region hd (pick {A = Step} d (record { answer = Took 0; writer = w }) (record { answer = Took n; writer = withBytes w (take n xs) }) .writer)
-      (updateAfter (bytes xs) (pick {A = Step} d (record { answer = Took 0; writer = w }) (record { answer = Took n; writer = withBytes w (take n xs) }) .answer) u)
+  appended-by : (xs : List ℕ) → Bytes xs → w .taken .closed ≡ false → position (w .taken) + length xs ≤ capacity → (n : ℕ) → n ≡ accepted (w .taken) (length xs) → (d : Bool) → isDue (w .taken) ≡ d
+      → Open region hd (pick {A = Step} d (record { answer = Appended 0; writer = w }) (record { answer = Appended n; writer = withBytes w (take n xs) }) .writer)
+      (updateAfter (bytes xs) (pick {A = Step} d (record { answer = Appended 0; writer = w }) (record { answer = Appended n; writer = withBytes w (take n xs) }) .answer) u)
   unfolding updateAfter
-  took-by xs b e p n r true d = none-taken
-  took-by xs b e p n r false d =
+  appended-by xs b e p n r true d = none-appended
+  appended-by xs b e p n r false d =
       let l = length-take n xs in
       let f = fill-fits (w .taken) (own .taken) in
       with-bytes (take n xs) (bytes-take n xs b) e d (omega arith) (omega arith)
 
   bytes-by : (xs : List ℕ) → Bytes xs → (a f : Bool) → mayAppend w ≡ a → leb (position (w .taken) + length xs) capacity ≡ f
-      → Open region hd (pick a (pick f (took w xs) (stays w Full)) (stays w Turn) .writer) (updateAfter (bytes xs) (pick a (pick f (took w xs) (stays w Full)) (stays w Turn) .answer) u)
-  unfolding updateAfter took
+      → Open region hd (pick a (pick f (appended w xs) (stays w Full)) (stays w Turn) .writer) (updateAfter (bytes xs) (pick a (pick f (appended w xs) (stays w Full)) (stays w Turn) .answer) u)
+  unfolding updateAfter appended
   bytes-by xs b true true e f =
-      took-by xs b (may-open e) (leb-true (position (w .taken) + length xs) capacity f) (accepted (w .taken) (length xs)) refl (isDue (w .taken)) refl
+      appended-by xs b (may-open e) (leb-true (position (w .taken) + length xs) capacity f) (accepted (w .taken) (length xs)) refl (isDue (w .taken)) refl
   bytes-by xs b true false e f = o
   bytes-by xs b false f′ e f = o
 

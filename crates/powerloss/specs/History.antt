@@ -13,7 +13,7 @@ use Rattle.header.specs.declared.Bank.{Bank}
 use Rattle.bank.specs.declared.Loaded.{Loaded}
 use Rattle.bank.specs.declared.Loaded.the-variants.{Found}
 use Rattle.writer.specs.declared.Answer.{Answer}
-use Rattle.writer.specs.declared.Answer.the-variants.{Done, Took, NoneDue, Same, Different, Refused}
+use Rattle.writer.specs.declared.Answer.the-variants.{Done, Appended, NoneDue, Same, Different, Refused}
 use Rattle.writer.specs.State.{target, nextGeneration, keyLength}
 use Rattle.lower.specs.Lower.{emptied, pastEnd, withBlock}
 use Rattle.commit.specs.Commit.{checkedTime, routesOffset}
@@ -101,21 +101,21 @@ noted due u = u
 noted unchanged u = u
 noted word u = u
 
-abbrev pub tookSome : Lower → ℕ → Update → Update
-tookSome (bytes xs) n u = takes (take n xs) u
-tookSome (source s) n u = u
-tookSome (table t) n u = u
-tookSome end n u = u
-tookSome close n u = u
-tookSome due n u = u
-tookSome unchanged n u = u
-tookSome (commit stamp current) n u = u
-tookSome word n u = u
+abbrev pub appendedSome : Lower → ℕ → Update → Update
+appendedSome (bytes xs) n u = takes (take n xs) u
+appendedSome (source s) n u = u
+appendedSome (table t) n u = u
+appendedSome end n u = u
+appendedSome close n u = u
+appendedSome due n u = u
+appendedSome unchanged n u = u
+appendedSome (commit stamp current) n u = u
+appendedSome word n u = u
 
 -- "Refused calls .. change nothing."
 unfoldable pub updateAfter : Lower → Answer → Update → Update
 updateAfter c Done u = noted c u
-updateAfter c (Took n) u = tookSome c n u
+updateAfter c (Appended n) u = appendedSome c n u
 updateAfter c NoneDue u = u
 updateAfter c Same u = u
 updateAfter c Different u = u
@@ -135,7 +135,7 @@ isWord (commit stamp current) = false
 
 abbrev pub isDone : Answer → Bool
 isDone Done = true
-isDone (Took n) = false
+isDone (Appended n) = false
 isDone NoneDue = false
 isDone Same = false
 isDone Different = false
@@ -173,7 +173,7 @@ upperNoted closing u = u
 
 unfoldable pub upperAfter : Upper → Answer → Update → Update
 upperAfter c Done u = takes (taken c) (upperNoted c u)
-upperAfter c (Took n) u = u
+upperAfter c (Appended n) u = u
 upperAfter c NoneDue u = u
 upperAfter c Same u = u
 upperAfter c Different u = u
@@ -186,7 +186,7 @@ afterUpper c a h (some u) = withOpen (some (upperAfter c a u)) h
 -- an answered beginning opens an update; a refused one leaves what is open
 unfoldable pub afterBegin : ℤ → List ℕ → Answer → History → History
 afterBegin now key Done h = withOpen (some (takes key (opened (h .held) now))) h
-afterBegin now key (Took n) h = h
+afterBegin now key (Appended n) h = h
 afterBegin now key NoneDue h = h
 afterBegin now key Same h = h
 afterBegin now key Different h = h

@@ -14,7 +14,7 @@ use Rattle.record.specs.declared.Source.{Source}
 use Rattle.base.specs.Number.{pick}
 use Rattle.flash.specs.Flash.{Op, size, torn, applied}
 use Rattle.writer.specs.declared.Answer.{Answer}
-use Rattle.writer.specs.declared.Answer.the-variants.{Done, Took, NoneDue, Same, Different, Refused}
+use Rattle.writer.specs.declared.Answer.the-variants.{Done, Appended, NoneDue, Same, Different, Refused}
 use Rattle.writer.specs.declared.Writer.{Writer}
 use Rattle.writer.specs.State.{target}
 use Rattle.lower.specs.Lower.{begun, started}
@@ -123,7 +123,7 @@ onUpperCut c k j r (some w) =
 -- a refused beginning leaves the state unchanged
 abbrev pub stateAfter : Answer → Writer → Option Writer → Option Writer
 stateAfter Done w old = some w
-stateAfter (Took n) w old = old
+stateAfter (Appended n) w old = old
 stateAfter NoneDue w old = old
 stateAfter Same w old = old
 stateAfter Different w old = old

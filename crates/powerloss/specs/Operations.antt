@@ -15,7 +15,7 @@ use Rattle.header.specs.Types.{Bytes}
 use Rattle.flash.specs.Flash.{Op}
 use Rattle.writer.specs.declared.Stage.the-variants.{Committed}
 use Rattle.writer.specs.declared.Answer.{Answer}
-use Rattle.writer.specs.declared.Answer.the-variants.{Done, Took, NoneDue, Same, Different, Refused}
+use Rattle.writer.specs.declared.Answer.the-variants.{Done, Appended, NoneDue, Same, Different, Refused}
 use Rattle.writer.specs.declared.Taken.{Taken}
 use Rattle.writer.specs.declared.Writer.{Writer}
 use Rattle.writer.specs.State.{tailSize, position, isDue}
@@ -78,7 +78,7 @@ operationsOf n = 1 + sectors n + writes n + commitWrites
 -- the operations of the update since its beginning; a cut drops the update
 abbrev pub startedBy : Answer → List Op → List Op → List Op
 startedBy Done first old = first
-startedBy (Took n) first old = old
+startedBy (Appended n) first old = old
 startedBy NoneDue first old = old
 startedBy Same first old = old
 startedBy Different first old = old

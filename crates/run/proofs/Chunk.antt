@@ -25,11 +25,11 @@ use Rattle.writer.specs.declared.Writer.{Writer}
 use Rattle.writer.specs.declared.Step.{Step}
 use Rattle.writer.specs.State.{position, isDue, stageOf, aligned, takenOk, tablesOk, operationOk, stageOk, inRange, tailSize, stays}
 use Rattle.writer.proofs.Laws.{ranged}
-use Rattle.lower.specs.Lower.{mayAppend, accepted, takenMore, withBytes, took, bytesStep}
+use Rattle.lower.specs.Lower.{mayAppend, accepted, takenMore, withBytes, appended, bytesStep}
 use Rattle.base.specs.Number.{pick}
 use Rattle.refusal.specs.declared.Refusal.the-variants.{Full, Turn}
-use Rattle.writer.specs.declared.Answer.the-variants.{Took}
-use Rattle.lower.proofs.Laws.{bytes-took, took-some, takes-fits}
+use Rattle.writer.specs.declared.Answer.the-variants.{Appended}
+use Rattle.lower.proofs.Laws.{bytes-appended, appended-some, takes-fits}
 use Rattle.run.specs.Run.{lowerStep, lowerOps, ranWriter, ranRegion}
 use Rattle.run.specs.Appends.{dues, appends}
 use Rattle.run.specs.Parts.{Ran, AfterAppend, countOf}
@@ -151,7 +151,7 @@ module _ (w : Writer) (y : ℕ) (xs : List ℕ) where
 
 module _ (w : Writer) (xs : List ℕ) (m : mayAppend w ≡ true) (d : isDue (w .taken) ≡ false) (k : position (w .taken) + length xs ≤ capacity) where
   pub all-taken : (n : ℕ) → n ≡ accepted (w .taken) (length xs) → bytesStep w xs .writer ≡ withBytes w (take n xs)
-  all-taken n e = sym (ap (λ (s : Step). s .writer) (took-some w xs n (withBytes w (take n xs)) d e refl ∙ bytes-took w xs m k))
+  all-taken n e = sym (ap (λ (s : Step). s .writer) (appended-some w xs n (withBytes w (take n xs)) d e refl ∙ bytes-appended w xs m k))
 
 byte-taken : (w : Writer) (y : ℕ) → mayAppend w ≡ true → isDue (w .taken) ≡ false → w .taken .fill + 1 ≤ tailSize → position (w .taken) + 1 ≤ capacity → bytesStep w (y ∷ []) .writer ≡ withBytes w (y ∷ [])
 byte-taken w y m d h k = let e : 1 ≡ min 1 (tailSize - w .taken .fill) = omega arith in all-taken w (y ∷ []) m d (omega arith) 1 e
@@ -248,15 +248,15 @@ chunk-parts region p bs m d k l n e s f q r g = (at [] .0, at [] .1, λ ss. (at 
 
 pub counted : (w : Writer) (bs : List ℕ) → 1 ≤ countOf (bytesStep w bs .answer)
     → (mayAppend w ≡ true) × (isDue (w .taken) ≡ false) × (position (w .taken) + length bs ≤ capacity) × (countOf (bytesStep w bs .answer) ≡ min (length bs) (tailSize - w .taken .fill))
-unfolding bytesStep took
+unfolding bytesStep appended
 counted w bs = go (mayAppend w) refl (leb (position (w .taken) + length bs) capacity) refl (isDue (w .taken)) refl
   where
     some : Step
-    some = record { answer = Took (accepted (w .taken) (length bs)); writer = withBytes w (take (accepted (w .taken) (length bs)) bs) }
+    some = record { answer = Appended (accepted (w .taken) (length bs)); writer = withBytes w (take (accepted (w .taken) (length bs)) bs) }
 
     go : (m : Bool) → mayAppend w ≡ m → (l : Bool) → leb (position (w .taken) + length bs) capacity ≡ l → (d : Bool) → isDue (w .taken) ≡ d
-        → 1 ≤ countOf (pick m (pick l (pick d (record { answer = Took 0; writer = w }) some) (stays w Full)) (stays w Turn) .answer)
-        → (mayAppend w ≡ true) × (isDue (w .taken) ≡ false) × (position (w .taken) + length bs ≤ capacity) × (countOf (pick m (pick l (pick d (record { answer = Took 0; writer = w }) some) (stays w Full)) (stays w Turn) .answer) ≡ min (length bs) (tailSize - w .taken .fill))
+        → 1 ≤ countOf (pick m (pick l (pick d (record { answer = Appended 0; writer = w }) some) (stays w Full)) (stays w Turn) .answer)
+        → (mayAppend w ≡ true) × (isDue (w .taken) ≡ false) × (position (w .taken) + length bs ≤ capacity) × (countOf (pick m (pick l (pick d (record { answer = Appended 0; writer = w }) some) (stays w Full)) (stays w Turn) .answer) ≡ min (length bs) (tailSize - w .taken .fill))
     go true em true el false ed h = (em, ed, leb-true _ _ el, refl)
     go true em true el true ed h = absurd (omega (arith, h))
     go true em false el d ed h = absurd (omega (arith, h))

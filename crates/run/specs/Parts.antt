@@ -5,7 +5,7 @@ use Prim.Native.Nat.{ℕ, _≤_}
 use lib.ListN.{length, drop}
 use Rattle.record.specs.declared.Source.{Source}
 use Rattle.writer.specs.declared.Answer.{Answer}
-use Rattle.writer.specs.declared.Answer.the-variants.{Done, Took, NoneDue, Same, Different, Refused}
+use Rattle.writer.specs.declared.Answer.the-variants.{Done, Appended, NoneDue, Same, Different, Refused}
 use Rattle.writer.specs.declared.Parts.{Parts}
 use Rattle.writer.specs.Parts.{withSources}
 use Rattle.run.specs.Run.{Lower, ranWriter, ranRegion}
@@ -23,7 +23,7 @@ AfterAppend region p bs n q after =
 
 -- how many bytes a call appended
 abbrev pub countOf : Answer → ℕ
-countOf (Took n) = n
+countOf (Appended n) = n
 countOf Done = 0
 countOf NoneDue = 0
 countOf Same = 0

@@ -95,7 +95,7 @@ fn count_of(a: Answer) -> usize
 {
     match a {
         Answer::Done => 0,
-        Answer::Took(n) => n as usize,
+        Answer::Appended(n) => n as usize,
         Answer::NoneDue => 0,
         Answer::Same => 0,
         Answer::Different => 0,

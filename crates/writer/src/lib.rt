@@ -73,7 +73,7 @@ pub struct Writer {
 // A call's answer: done, n bytes appended, no operation due, the update the same as the active bank or not, or a refusal.
 pub enum Answer {
     Done,
-    Took(u32),
+    Appended(u32),
     NoneDue,
     Same,
     Different,

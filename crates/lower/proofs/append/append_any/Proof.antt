@@ -4,9 +4,9 @@ use mathlib.Core.Path.{sym, ap, _∙_}
 use mathlib.Core.List.{[]}
 use native.Mathlib.Omega.{arith}
 use Rattle.writer.specs.Parts.{withSources, stepWith}
-use Rattle.lower.proofs.Laws.{takes-fits, bytes-took, bytes-full, bytes-turn}
-use Rattle.lower.specs.declared.append.Took.{Took}
-use Rattle.lower.specs.Took.{stepTook}
+use Rattle.lower.proofs.Laws.{takes-fits, bytes-appended, bytes-full, bytes-turn}
+use Rattle.lower.specs.declared.append.Appended.{Appended}
+use Rattle.lower.specs.Appended.{stepAppended}
 use borrow.Author.Tests.{not-true, not-false}
 use borrow.Author.Needs.{needs}
 use Rattle.lower.proofs.append.append_any.Statement.{statement}
@@ -15,18 +15,18 @@ use Rattle.lower.proofs.append.append_any.Tie as tie
 may-append-parts-requires : tie.Need-may-append-parts-requires
 may-append-parts-requires c κs = search needs
 
-none-taken-requires : tie.Need-none-taken-requires
-none-taken-requires c κs = search needs
+none-appended-requires : tie.Need-none-appended-requires
+none-appended-requires c κs = search needs
 
 returns : tie.Need-returns
 returns c =
     let m = c .before .before in
-    let e = c .none-taken .ensures in
+    let e = c .none-appended .ensures in
     let a = m .before .before .before .args in
-    let n = ap (λ (t : Took). t .n) e in (
+    let n = ap (λ (t : Appended). t .n) e in (
       omega (arith, n),
-      omega (arith, n, ap (λ (t : Took). t .at) e),
-      λ ss. ap (λ (t : Took). stepWith (stepTook (a .p) t (a .offered .now)) ss) e ∙ bytes-turn (withSources (a .p) ss) (a .offered .now) (sym (m .may-append-parts .ensures ss) ∙ not-true _ (c .before .if1 .taken)),
+      omega (arith, n, ap (λ (t : Appended). t .at) e),
+      λ ss. ap (λ (t : Appended). stepWith (stepAppended (a .p) t (a .offered .now)) ss) e ∙ bytes-turn (withSources (a .p) ss) (a .offered .now) (sym (m .may-append-parts .ensures ss) ∙ not-true _ (c .before .if1 .taken)),
     )
 
 add-free : tie.Need-add-free
@@ -44,18 +44,18 @@ sub-free c =
     let a = m .before .before .before .args in
     omega (arith, takes-fits (withSources (a .p) []) (sym (m .may-append-parts .ensures []) ∙ not-false _ (c .before .if1 .left)) .1)
 
-none-taken-requires-2 : tie.Need-none-taken-requires-2
-none-taken-requires-2 c κs = search needs
+none-appended-requires-2 : tie.Need-none-appended-requires-2
+none-appended-requires-2 c κs = search needs
 
 returns-2 : tie.Need-returns-2
 returns-2 c =
     let m = c .before .before .before .before in
-    let e = c .none-taken2 .ensures in
+    let e = c .none-appended2 .ensures in
     let a = m .before .before .before .args in
-    let n = ap (λ (t : Took). t .n) e in (
+    let n = ap (λ (t : Appended). t .n) e in (
       omega (arith, n),
-      omega (arith, n, ap (λ (t : Took). t .at) e),
-      λ ss. ap (λ (t : Took). stepWith (stepTook (a .p) t (a .offered .now)) ss) e ∙ bytes-full (withSources (a .p) ss) (a .offered .now) (sym (m .may-append-parts .ensures ss) ∙ not-false _ (c .before .before .before .if1 .left)) (omega (arith, c .before .if2 .taken)),
+      omega (arith, n, ap (λ (t : Appended). t .at) e),
+      λ ss. ap (λ (t : Appended). stepWith (stepAppended (a .p) t (a .offered .now)) ss) e ∙ bytes-full (withSources (a .p) ss) (a .offered .now) (sym (m .may-append-parts .ensures ss) ∙ not-false _ (c .before .before .before .if1 .left)) (omega (arith, c .before .if2 .taken)),
     )
 
 append-some-requires : tie.Need-append-some-requires
@@ -72,7 +72,7 @@ returns-3 c =
     let p = takes-fits (withSources (a .p) []) (sym (m .may-append-parts .ensures []) ∙ not-false _ (c .before .before .before .if1 .left)) .1 in (
       t .0,
       t .1,
-      λ ss. t .2 ss ∙ bytes-took (withSources (a .p) ss) (a .offered .now) (sym (m .may-append-parts .ensures ss) ∙ not-false _ (c .before .before .before .if1 .left)) (omega (arith, c .before .if2 .left, p)),
+      λ ss. t .2 ss ∙ bytes-appended (withSources (a .p) ss) (a .offered .now) (sym (m .may-append-parts .ensures ss) ∙ not-false _ (c .before .before .before .if1 .left)) (omega (arith, c .before .if2 .left, p)),
     )
 
 pub append-any-spec : {M : Type 1} → statement M
@@ -80,12 +80,12 @@ append-any-spec =
     tie.close
     (tie.spec
     may-append-parts-requires
-    none-taken-requires
+    none-appended-requires
     returns
     add-free
     cast-free
     sub-free
-    none-taken-requires-2
+    none-appended-requires-2
     returns-2
     append-some-requires
     returns-3)

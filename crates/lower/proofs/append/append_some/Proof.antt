@@ -1,10 +1,10 @@
--- While an operation is due none is appended (`took-none`); else the first n that fit are (`took-some`).
+-- While an operation is due none is appended (`appended-none`); else the first n that fit are (`appended-some`).
 use mathlib.Core.Path.{sym, ap, _∙_}
 use native.Mathlib.Omega.{arith}
 use Rattle.writer.specs.Parts.{withSources, stepWith}
-use Rattle.lower.proofs.Laws.{took-none, took-some}
-use Rattle.lower.specs.declared.append.Took.{Took}
-use Rattle.lower.specs.Took.{partsTook, stepTook}
+use Rattle.lower.proofs.Laws.{appended-none, appended-some}
+use Rattle.lower.specs.declared.append.Appended.{Appended}
+use Rattle.lower.specs.Appended.{partsAppended, stepAppended}
 use borrow.Author.Needs.{needs}
 use Rattle.lower.proofs.append.append_some.Statement.{statement}
 use Rattle.lower.proofs.append.append_some.Tie as tie
@@ -12,29 +12,29 @@ use Rattle.lower.proofs.append.append_some.Tie as tie
 is-due-requires : tie.Need-is-due-requires
 is-due-requires c κs = search needs
 
-none-taken-requires : tie.Need-none-taken-requires
-none-taken-requires c κs = search needs
+none-appended-requires : tie.Need-none-appended-requires
+none-appended-requires c κs = search needs
 
 returns : tie.Need-returns
 returns c =
-    let e = c .none-taken .ensures in
+    let e = c .none-appended .ensures in
     let d = c .before .before in
     let a = d .before .before .args in
-    let n = ap (λ (t : Took). t .n) e in (
+    let n = ap (λ (t : Appended). t .n) e in (
       omega (arith, n),
-      omega (arith, n, ap (λ (t : Took). t .at) e),
-      λ ss. ap (λ (t : Took). stepWith (stepTook (a .p) t (a .bytes .now)) ss) e ∙ took-none (withSources (a .p) ss) (a .bytes .now) (sym (d .is-due .ensures) ∙ c .before .if1 .taken),
+      omega (arith, n, ap (λ (t : Appended). t .at) e),
+      λ ss. ap (λ (t : Appended). stepWith (stepAppended (a .p) t (a .bytes .now)) ss) e ∙ appended-none (withSources (a .p) ss) (a .bytes .now) (sym (d .is-due .ensures) ∙ c .before .if1 .taken),
     )
 
 accepted-requires : tie.Need-accepted-requires
 accepted-requires c κs = search needs
 
-first-taken-requires : tie.Need-first-taken-requires
-first-taken-requires c κs = search needs
+first-appended-requires : tie.Need-first-appended-requires
+first-appended-requires c κs = search needs
 
 returns-2 : tie.Need-returns-2
 returns-2 c =
-    let f = c .first-taken in
+    let f = c .first-appended in
     let r = c .before .accepted in
     let d = c .before .before .before in
     let a = d .before .before .args in
@@ -42,8 +42,8 @@ returns-2 c =
       omega (arith, f .ensures .1, r .ensures .1),
       f .ensures .2,
       λ ss.
-          let v = withSources (partsTook (a .p) (f .result) xs) ss in
-          (λ i. record { answer = f .ensures .0 i; writer = v }) ∙ took-some (withSources (a .p) ss) xs (r .result) v (sym (d .is-due .ensures) ∙ c .before .before .if1 .left) (r .ensures .0) (f .ensures .3 ss),
+          let v = withSources (partsAppended (a .p) (f .result) xs) ss in
+          (λ i. record { answer = f .ensures .0 i; writer = v }) ∙ appended-some (withSources (a .p) ss) xs (r .result) v (sym (d .is-due .ensures) ∙ c .before .before .if1 .left) (r .ensures .0) (f .ensures .3 ss),
     )
 
 pub append-some-spec : {M : Type 1} → statement M
@@ -51,8 +51,8 @@ append-some-spec =
     tie.close
     (tie.spec
     is-due-requires
-    none-taken-requires
+    none-appended-requires
     returns
     accepted-requires
-    first-taken-requires
+    first-appended-requires
     returns-2)

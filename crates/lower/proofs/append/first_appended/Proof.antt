@@ -8,8 +8,8 @@ use Rattle.leaf.specs.Crc.{crc32}
 use Rattle.writer.specs.State.{stageOf}
 use Rattle.lower.specs.Lower.{withBytes}
 use borrow.Author.Needs.{needs}
-use Rattle.lower.proofs.append.first_taken.Statement.{statement}
-use Rattle.lower.proofs.append.first_taken.Tie as tie
+use Rattle.lower.proofs.append.first_appended.Statement.{statement}
+use Rattle.lower.proofs.append.first_appended.Tie as tie
 
 sub-some : tie.Need-sub-some
 sub-some c = search needs
@@ -64,8 +64,8 @@ returns c =
       },
     )
 
-pub first-taken-spec : {M : Type 1} → statement M
-first-taken-spec =
+pub first-appended-spec : {M : Type 1} → statement M
+first-appended-spec =
     tie.close
     (tie.spec
     sub-some
