@@ -14,7 +14,7 @@ use Rattle.writer.specs.declared.Writer.{Writer}
 use Rattle.writer.specs.State.{isDue, inRange}
 use Rattle.run.specs.Run.{Lower, bytes, ranWriter, ranRegion}
 use Rattle.run.specs.Appends.{dues, appends}
-use Rattle.upper.specs.Upper.{Upper, taken, lowerOf, runOf, refusalOf, runIf, upperRun, answered, upperStep}
+use Rattle.upper.specs.Upper.{Upper, appendedBytes, lowerOf, runOf, refusalOf, runIf, upperRun, answered, upperStep}
 use Rattle.powerloss.specs.History.{Update, isDone}
 use Rattle.powerloss.specs.Machine.{Image, nextAll, found}
 use Rattle.powerloss.specs.Claim.{UpperTyped, Reached, Settled}
@@ -22,7 +22,7 @@ use Rattle.powerloss.proofs.Bytes.{bytes-nil, bytes-cons}
 use Rattle.powerloss.proofs.Inv.{Kept, Open, State}
 use Rattle.powerloss.proofs.Runs.{AllPlain, ran}
 use Rattle.powerloss.proofs.Appends.{three}
-use Rattle.powerloss.proofs.Uppers.{plain-append, plain-dues, plain-lower, bytes-taken, inv-found, inv-all}
+use Rattle.powerloss.proofs.Uppers.{plain-append, plain-dues, plain-lower, bytes-appended, inv-found, inv-all}
 
 abbrev isState : Option Writer → Bool
 isState none = false
@@ -77,8 +77,8 @@ module _ (hd : Loaded) (rs : List Source) (im : Image) (region : List ℕ) (w : 
   run-ends : (c : Upper) → UpperTyped c → Ends (runOf c)
   unfolding runOf
   run-ends c p =
-      subst Ends (append-assoc dues (lowerOf c) (dues ++ appends (taken c)))
-      (ends (dues ++ lowerOf c) (taken c) (plain-append dues (lowerOf c) plain-dues (plain-lower c p)) (bytes-taken c p))
+      subst Ends (append-assoc dues (lowerOf c) (dues ++ appends (appendedBytes c)))
+      (ends (dues ++ lowerOf c) (appendedBytes c) (plain-append dues (lowerOf c) plain-dues (plain-lower c p)) (bytes-appended c p))
 
   settled-by : (c : Upper) → UpperTyped c → (x : Option Refusal) → answered x (ranWriter region w (runIf x (runOf c))) .answer ≡ Done → isDue (answered x (ranWriter region w (runIf x (runOf c))) .writer .taken) ≡ false
   settled-by c p none e = still-after (runOf c) (run-ends c p)

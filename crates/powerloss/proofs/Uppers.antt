@@ -36,7 +36,7 @@ use Rattle.lower.specs.Lower.{mayAppend, mayBegin, started, answerOf, withSourc
 use Rattle.lower.proofs.Laws.{source-done, table-done, end-done, close-done}
 use Rattle.run.specs.Run.{Lower, source, table, end, close, lowerStep, lowerOps, ranWriter, ranRegion, ranOps}
 use Rattle.run.specs.Appends.{dues, appends}
-use Rattle.upper.specs.Upper.{Upper, sourceWithDates, tableWithNames, row, tableEnd, closing, taken, lowerOf, runOf, argumentOk, orderOk, rowOk, sourceFits, allFits, refusalOf, runIf, upperRun, answered, upperStep, upperRegion, upperOps, beginRefusal, keyBytes, beginRun, beganWith, beginStep, beginRegion, beginOps}
+use Rattle.upper.specs.Upper.{Upper, sourceWithDates, tableWithNames, row, tableEnd, closing, appendedBytes, lowerOf, runOf, argumentOk, orderOk, rowOk, sourceFits, allFits, refusalOf, runIf, upperRun, answered, upperStep, upperRegion, upperOps, beginRefusal, keyBytes, beginRun, beganWith, beginStep, beginRegion, beginOps}
 use Rattle.powerloss.specs.History.{Update, sourceNote, tableNote, endNote, opened, takes, notesOf, updateAfter, upperNoted, upperAfter, afterUpper, afterBegin}
 use Rattle.powerloss.specs.Machine.{cutAt, Image, Run, Event, begin, beginCut, call, cut, beginKey, beginKeyCut, upper, upperCut, onUpper, onUpperCut, stateAfter, next, nextAll, found}
 use Rattle.powerloss.specs.Claim.{UpperTyped, Typed, AllTyped, Demand3}
@@ -50,13 +50,13 @@ use Rattle.powerloss.proofs.Runs.{ranUpdate, AllPlain, Ran, ran}
 use Rattle.powerloss.proofs.Appends.{Now, regionThree, writerThree, Three, three, dues-update, may-append, appends-update, dues-appends}
 use Rattle.header.specs.Header.{maxSources}
 
-pub bytes-taken : (c : Upper) → UpperTyped c → Bytes (taken c)
-unfolding taken
-bytes-taken (sourceWithDates s) p = bytes-dates (s .start) (s .end)
-bytes-taken (tableWithNames t) p = bytes-names t
-bytes-taken (row texts lengths) p = bytes-row texts lengths p
-bytes-taken tableEnd p = bytes-nil
-bytes-taken closing p = bytes-nil
+pub bytes-appended : (c : Upper) → UpperTyped c → Bytes (appendedBytes c)
+unfolding appendedBytes
+bytes-appended (sourceWithDates s) p = bytes-dates (s .start) (s .end)
+bytes-appended (tableWithNames t) p = bytes-names t
+bytes-appended (row texts lengths) p = bytes-row texts lengths p
+bytes-appended tableEnd p = bytes-nil
+bytes-appended closing p = bytes-nil
 
 -- ---- the run of a call
 
@@ -82,8 +82,8 @@ plain-lower closing p = (tt, tt)
 pub plain-run : (c : Upper) → UpperTyped c → AllPlain (runOf c)
 unfolding runOf
 plain-run c p =
-    plain-append dues (lowerOf c ++ (dues ++ appends (taken c))) plain-dues
-    (plain-append (lowerOf c) (dues ++ appends (taken c)) (plain-lower c p) (plain-append dues (appends (taken c)) plain-dues (plain-appends (taken c) (bytes-taken c p))))
+    plain-append dues (lowerOf c ++ (dues ++ appends (appendedBytes c))) plain-dues
+    (plain-append (lowerOf c) (dues ++ appends (appendedBytes c)) (plain-lower c p) (plain-append dues (appends (appendedBytes c)) plain-dues (plain-appends (appendedBytes c) (bytes-appended c p))))
 
 module _ (hd : Loaded) (rs : List Source) (im : Image) (region : List ℕ) (w : Writer) (u : Update) (h : Now hd rs im region w u) where
   -- one call that is answered and does no operation
@@ -177,43 +177,43 @@ module _ (hd : Loaded) (rs : List Source) (im : Image) (region : List ℕ) (w : 
   open-of : mayAppend w ≡ true → w .taken .closed ≡ false
   open-of m = not-true (w .taken .closed) (and-right (inRange w) (not (w .taken .closed)) m)
 
-  fits-of : (c : Upper) → allFits w c ≡ true → position (writerThree region w .taken) + length (taken c) ≤ capacity
-  fits-of c e = omega (arith, t3 .position·, leb-true (position (w .taken) + length (taken c)) capacity (and-right (sourceFits w c) (leb (position (w .taken) + length (taken c)) capacity) e))
+  fits-of : (c : Upper) → allFits w c ≡ true → position (writerThree region w .taken) + length (appendedBytes c) ≤ capacity
+  fits-of c e = omega (arith, t3 .position·, leb-true (position (w .taken) + length (appendedBytes c)) capacity (and-right (sourceFits w c) (leb (position (w .taken) + length (appendedBytes c)) capacity) e))
 
-  run-update : (c : Upper) → UpperTyped c → Accepted w c → ranUpdate region w (runOf c) u ≡ takes (taken c) (upperNoted c u)
+  run-update : (c : Upper) → UpperTyped c → Accepted w c → ranUpdate region w (runOf c) u ≡ takes (appendedBytes c) (upperNoted c u)
   unfolding runOf
   run-update (sourceWithDates s) p a =
       let m = and-left (mayAppend w) (not (isOpen (w .tables))) (a .order) in
       let n = and-right (mayAppend w) (not (isOpen (w .tables))) (a .order) in
       let c = sourceWithDates s in
-      dues-update region w (source s ∷ (dues ++ appends (taken c))) u
-      ∙ source-run hd rs im (regionThree region w) (writerThree region w) u (t3 .now) (t3 .closed ∙ open-of m) s (taken c) p
+      dues-update region w (source s ∷ (dues ++ appends (appendedBytes c))) u
+      ∙ source-run hd rs im (regionThree region w) (writerThree region w) u (t3 .now) (t3 .closed ∙ open-of m) s (appendedBytes c) p
       (subst (λ (x : Tables). not (isOpen x) ≡ true) (sym (t3 .tables)) n)
-      (subst (λ (x : Tables). x .count < maxSources) (sym (t3 .tables)) (ltb-true (w .tables .count) 3 (and-left (ltb (w .tables .count) 3) (leb (position (w .taken) + length (taken c)) capacity) (a .fits))))
-      (fits-of c (a .fits)) (bytes-taken c p)
+      (subst (λ (x : Tables). x .count < maxSources) (sym (t3 .tables)) (ltb-true (w .tables .count) 3 (and-left (ltb (w .tables .count) 3) (leb (position (w .taken) + length (appendedBytes c)) capacity) (a .fits))))
+      (fits-of c (a .fits)) (bytes-appended c p)
   run-update (tableWithNames t) p a =
       let m = and-left (mayAppend w) (mayBegin (w .tables) t) (a .order) in
       let n = and-right (mayAppend w) (mayBegin (w .tables) t) (a .order) in
       let c = tableWithNames t in
-      dues-update region w (table t ∷ (dues ++ appends (taken c))) u
-      ∙ table-run hd rs im (regionThree region w) (writerThree region w) u (t3 .now) (t3 .closed ∙ open-of m) t (taken c) (leb-true t 7 (a .argument))
+      dues-update region w (table t ∷ (dues ++ appends (appendedBytes c))) u
+      ∙ table-run hd rs im (regionThree region w) (writerThree region w) u (t3 .now) (t3 .closed ∙ open-of m) t (appendedBytes c) (leb-true t 7 (a .argument))
       (subst (λ (x : Tables). mayBegin x t ≡ true) (sym (t3 .tables)) n)
-      (fits-of c (a .fits)) (bytes-taken c p)
+      (fits-of c (a .fits)) (bytes-appended c p)
   run-update (row texts lengths) p a =
       let m = and-left (mayAppend w) (isOpen (w .tables)) (a .order) in
       let c = row texts lengths in
-      dues-update region w (dues ++ appends (taken c)) u
-      ∙ dues-appends hd rs im (taken c) (regionThree region w) (writerThree region w) u (t3 .now) (t3 .closed ∙ open-of m) (fits-of c (a .fits)) (bytes-taken c p)
+      dues-update region w (dues ++ appends (appendedBytes c)) u
+      ∙ dues-appends hd rs im (appendedBytes c) (regionThree region w) (writerThree region w) u (t3 .now) (t3 .closed ∙ open-of m) (fits-of c (a .fits)) (bytes-appended c p)
   run-update tableEnd p a =
       let m = and-left (mayAppend w) (isOpen (w .tables)) (a .order) in
       let n = and-right (mayAppend w) (isOpen (w .tables)) (a .order) in
-      unfold taken in
+      unfold appendedBytes in
       (dues-update region w (end ∷ (dues ++ appends [])) u
       ∙ end-run hd rs im (regionThree region w) (writerThree region w) u (t3 .now) (t3 .closed ∙ open-of m) (subst (λ (x : Tables). isOpen x ≡ true) (sym (t3 .tables)) n))
   run-update closing p a =
       let m = and-left (mayAppend w) (not (isOpen (w .tables))) (a .order) in
       let n = and-right (mayAppend w) (not (isOpen (w .tables))) (a .order) in
-      unfold taken in
+      unfold appendedBytes in
       (dues-update region w (close ∷ (dues ++ appends [])) u
       ∙ close-run hd rs im (regionThree region w) (writerThree region w) u (t3 .now) (t3 .closed ∙ open-of m) (subst (λ (x : Tables). not (isOpen x) ≡ true) (sym (t3 .tables)) n))
 

@@ -18,7 +18,7 @@ use Rattle.writer.specs.State.{target, nextGeneration, keyLength}
 use Rattle.lower.specs.Lower.{emptied, pastEnd, withBlock}
 use Rattle.commit.specs.Commit.{checkedTime, routesOffset}
 use Rattle.run.specs.Run.{Lower, source, table, bytes, end, close, due, unchanged, commit, word}
-use Rattle.upper.specs.Upper.{Upper, sourceWithDates, tableWithNames, row, tableEnd, closing, taken}
+use Rattle.upper.specs.Upper.{Upper, sourceWithDates, tableWithNames, row, tableEnd, closing, appendedBytes}
 use Rattle.record.specs.Record.{currentVersion}
 
 -- "Source, table and table end calls note their arguments and the count of bytes before any of their own."
@@ -172,7 +172,7 @@ upperNoted tableEnd u = notesOf (endNote (length (u .data·))) u
 upperNoted closing u = u
 
 unfoldable pub upperAfter : Upper → Answer → Update → Update
-upperAfter c Done u = takes (taken c) (upperNoted c u)
+upperAfter c Done u = takes (appendedBytes c) (upperNoted c u)
 upperAfter c (Appended n) u = u
 upperAfter c NoneDue u = u
 upperAfter c Same u = u

@@ -40,12 +40,12 @@ pub data Upper : Type 0 where
   closing : Upper
 
 -- the bytes that a call appends: "a source's dates", a table's names line, a row
-unfoldable pub taken : Upper → List ℕ
-taken (sourceWithDates s) = le32 (s .start) ++ le32 (s .end)
-taken (tableWithNames t) = namesLine t
-taken (row texts lengths) = rowOf (passedValues texts lengths)
-taken tableEnd = []
-taken closing = []
+unfoldable pub appendedBytes : Upper → List ℕ
+appendedBytes (sourceWithDates s) = le32 (s .start) ++ le32 (s .end)
+appendedBytes (tableWithNames t) = namesLine t
+appendedBytes (row texts lengths) = rowOf (passedValues texts lengths)
+appendedBytes tableEnd = []
+appendedBytes closing = []
 
 -- the lower call of the same name
 abbrev pub lowerOf : Upper → List Lower
@@ -57,7 +57,7 @@ lowerOf closing = close ∷ []
 
 -- the run: what was due before is done first
 unfoldable pub runOf : Upper → List Lower
-runOf u = dues ++ (lowerOf u ++ (dues ++ appends (taken u)))
+runOf u = dues ++ (lowerOf u ++ (dues ++ appends (appendedBytes u)))
 
 -- refusals 2, 11, 14 and 10
 abbrev pub argumentOk : Upper → Bool
@@ -89,7 +89,7 @@ sourceFits w tableEnd = true
 sourceFits w closing = true
 
 abbrev pub allFits : Writer → Upper → Bool
-allFits w u = sourceFits w u && leb (position (w .taken) + length (taken u)) capacity
+allFits w u = sourceFits w u && leb (position (w .taken) + length (appendedBytes u)) capacity
 
 -- the refusal, if any
 unfoldable pub refusalOf : List ℕ → Writer → Upper → Option Refusal

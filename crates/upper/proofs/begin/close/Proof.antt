@@ -3,7 +3,7 @@ use mathlib.Core.Path.{refl, _∙_}
 use mathlib.Core.Bool.{not}
 use native.Mathlib.Omega.{arith}
 use Rattle.writer.specs.State.{isOpen}
-use Rattle.upper.specs.Upper.{closing, taken}
+use Rattle.upper.specs.Upper.{closing, appendedBytes}
 use Rattle.upper.proofs.Laws.{none-fits, upper-done, upper-turn, upper-region}
 use Rattle.base.proofs.Guards.{one-fails-not, both-hold-not}
 use borrow.Author.Needs.{needs}
@@ -47,7 +47,7 @@ same-length : tie.Need-same-length
 same-length c = search needs
 
 returns-3 : tie.Need-returns-3
-unfolding taken
+unfolding appendedBytes
 returns-3 c =
     let x = c .before .before .before in
     let t = x .before .before in

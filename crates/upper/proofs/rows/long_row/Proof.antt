@@ -10,7 +10,7 @@ use Rattle.writer.specs.Parts.{withSources, stepWith}
 use Rattle.writer.specs.State.{position}
 use Rattle.run.specs.Run.{ranWriter, ranRegion}
 use Rattle.run.specs.Appends.{dues, appends}
-use Rattle.upper.specs.Upper.{row, taken, runOf}
+use Rattle.upper.specs.Upper.{row, appendedBytes, runOf}
 use Rattle.upper.proofs.Laws.{row-not, row-written, row-length, row-there, upper-done, upper-full, upper-row}
 use borrow.Author.Tests.{not-true, not-false}
 use borrow.Author.Needs.{needs}
@@ -49,7 +49,7 @@ parts-stay-requires-2 : tie.Need-parts-stay-requires-2
 parts-stay-requires-2 c κs = search needs
 
 returns-2 : tie.Need-returns-2
-unfolding taken
+unfolding appendedBytes
 returns-2 c = λ ss.
     let r = c .before .before .before .before .before .before .before in
     let s = r .before .before .before .before .before .before in
@@ -80,7 +80,7 @@ same-length : tie.Need-same-length
 same-length c = search needs
 
 returns-3 : tie.Need-returns-3
-unfolding taken runOf
+unfolding appendedBytes runOf
 returns-3 c = λ ss.
     let r = c .before .before .before .before .before .before .before .before .before .before .before .before in
     let s = r .before .before .before .before .before .before in

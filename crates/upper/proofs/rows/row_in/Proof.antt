@@ -11,7 +11,7 @@ use Rattle.writer.specs.Parts.{withSources, stepWith}
 use Rattle.writer.specs.State.{position}
 use Rattle.run.specs.Run.{ranWriter, ranRegion}
 use Rattle.run.specs.Appends.{dues, appends}
-use Rattle.upper.specs.Upper.{row, taken, runOf}
+use Rattle.upper.specs.Upper.{row, appendedBytes, runOf}
 use Rattle.upper.proofs.Laws.{row-written, row-length, row-there, upper-done, upper-full}
 use borrow.Author.Tests.{not-true, not-false}
 use borrow.Author.Needs.{needs}
@@ -51,7 +51,7 @@ parts-stay-requires : tie.Need-parts-stay-requires
 parts-stay-requires c κs = search needs
 
 returns-2 : tie.Need-returns-2
-unfolding taken
+unfolding appendedBytes
 returns-2 c = λ ss.
     let r = c .before .before .before .before .before .before .before in
     let s = r .before .before .before .before .before .before in
@@ -82,7 +82,7 @@ same-length-2 : tie.Need-same-length-2
 same-length-2 c = search needs
 
 returns-3 : tie.Need-returns-3
-unfolding taken runOf
+unfolding appendedBytes runOf
 returns-3 c = λ ss.
     let r = c .before .before .before .before .before .before .before .before .before .before .before .before in
     let s = r .before .before .before .before .before .before in

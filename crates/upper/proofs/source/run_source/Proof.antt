@@ -5,7 +5,7 @@ use Prim.Native.Nat.{ℕ}
 use Rattle.leaf.specs.Bytes.{le32}
 use Rattle.run.specs.Run.{source, lowerStep, ranWriter, ranRegion}
 use Rattle.run.specs.Appends.{dues, appends}
-use Rattle.upper.specs.Upper.{taken, runOf}
+use Rattle.upper.specs.Upper.{appendedBytes, runOf}
 use Rattle.upper.proofs.Laws.{still-source, call-writer, call-region}
 use borrow.Author.Needs.{needs}
 use Rattle.upper.proofs.source.run_source.Statement.{statement}
@@ -30,7 +30,7 @@ same-length : tie.Need-same-length
 same-length c = search needs
 
 returns : tie.Need-returns
-unfolding runOf taken lowerStep
+unfolding runOf appendedBytes lowerStep
 returns c =
     let z = c .before .before .flush-append in
     let e = c .before .before .before .before .before in

@@ -2,7 +2,7 @@
 use mathlib.Core.Path.{refl, _∙_}
 use native.Mathlib.Omega.{arith}
 use Rattle.leaf.specs.Bytes.{le32}
-use Rattle.upper.specs.Upper.{sourceWithDates, taken}
+use Rattle.upper.specs.Upper.{sourceWithDates, appendedBytes}
 use Rattle.upper.proofs.Laws.{source-fits, source-full, upper-done, upper-full, upper-turn, upper-region}
 use Rattle.base.proofs.Guards.{one-fails-not, both-hold-not}
 use borrow.Author.Needs.{needs}
@@ -43,7 +43,7 @@ stays-requires-3 : tie.Need-stays-requires-3
 stays-requires-3 c κs = search needs
 
 returns-3 : tie.Need-returns-3
-unfolding taken le32
+unfolding appendedBytes le32
 returns-3 c =
     let t = c .before in
     let f = t .before in
@@ -64,7 +64,7 @@ same-length : tie.Need-same-length
 same-length c = search needs
 
 returns-4 : tie.Need-returns-4
-unfolding taken le32
+unfolding appendedBytes le32
 returns-4 c =
     let x = c .before .before .before in
     let t = x .before .before in

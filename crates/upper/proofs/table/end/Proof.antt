@@ -2,7 +2,7 @@
 use mathlib.Core.Path.{refl, _∙_}
 use native.Mathlib.Omega.{arith}
 use Rattle.writer.specs.State.{isOpen}
-use Rattle.upper.specs.Upper.{tableEnd, taken}
+use Rattle.upper.specs.Upper.{tableEnd, appendedBytes}
 use Rattle.upper.proofs.Laws.{none-fits, upper-done, upper-turn, upper-region}
 use Rattle.base.proofs.Guards.{one-fails, both-hold}
 use borrow.Author.Needs.{needs}
@@ -46,7 +46,7 @@ same-length : tie.Need-same-length
 same-length c = search needs
 
 returns-3 : tie.Need-returns-3
-unfolding taken
+unfolding appendedBytes
 returns-3 c =
     let x = c .before .before .before in
     let t = x .before .before in

@@ -1,7 +1,7 @@
 -- Due calls, the lower call, due calls: the run of the call (`call-writer`, `call-region`).
 use Rattle.run.specs.Run.{end, lowerStep}
 use Rattle.run.specs.Appends.{dues, appends}
-use Rattle.upper.specs.Upper.{taken, runOf}
+use Rattle.upper.specs.Upper.{appendedBytes, runOf}
 use Rattle.upper.proofs.Laws.{still-end, call-writer, call-region}
 use borrow.Author.Needs.{needs}
 use Rattle.upper.proofs.table.run_end.Statement.{statement}
@@ -20,7 +20,7 @@ same-length : tie.Need-same-length
 same-length c = search needs
 
 returns : tie.Need-returns
-unfolding runOf appends taken lowerStep
+unfolding runOf appends appendedBytes lowerStep
 returns c =
     let z = c .before .before .flush2 in
     let e = c .before .before .before .before in

@@ -8,7 +8,7 @@ use borrow.Author.Tests.{not-true, not-false, le-leb, lt-leb}
 use Rattle.writer.specs.State.{position}
 use Rattle.run.specs.Run.{table, ranWriter, ranRegion}
 use Rattle.run.specs.Appends.{dues, appends}
-use Rattle.upper.specs.Upper.{tableWithNames, taken, runOf}
+use Rattle.upper.specs.Upper.{tableWithNames, appendedBytes, runOf}
 use Rattle.upper.proofs.Laws.{upper-done, upper-full, upper-turn, upper-argument, upper-region}
 use Rattle.base.proofs.Guards.{one-fails, both-hold}
 use borrow.Author.Needs.{needs}
@@ -62,7 +62,7 @@ stays-requires-4 : tie.Need-stays-requires-4
 stays-requires-4 c κs = search needs
 
 returns-4 : tie.Need-returns-4
-unfolding taken
+unfolding appendedBytes
 returns-4 c =
     let t = c .before in
     let f = t .before in
@@ -85,7 +85,7 @@ same-length : tie.Need-same-length
 same-length c = search needs
 
 returns-5 : tie.Need-returns-5
-unfolding taken runOf
+unfolding appendedBytes runOf
 returns-5 c =
     let x = c .before .before .before in
     let t = x .before .before in
