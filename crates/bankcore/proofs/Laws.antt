@@ -60,8 +60,8 @@ module _ (w : Writer) where
   refused-tail : (xs : List ℕ) → isAnswer (bytesStep w xs .answer) ≡ false → bytesStep w xs .writer .tail ≡ w .tail
   unfolding bytesStep appended
   refused-tail xs e =
-      let n = accepted (w .taken) (length xs) in
-      refused-by (mayAppend w) (leb (position (w .taken) + length xs) capacity) (isDue (w .taken)) n (withBytes w (take n xs)) e
+      let n = accepted (w .contents) (length xs) in
+      refused-by (mayAppend w) (leb (position (w .contents) + length xs) capacity) (isDue (w .contents)) n (withBytes w (take n xs)) e
 
 module _ (w : Writer) (was : State) where
   tail-by : (b : Bool) → (b ≡ false → w .tail ≡ was .tail) → pick b (savedOf w) was .tail ≡ w .tail

@@ -41,8 +41,8 @@ bankFor w stamp =
       number = target (w .beginning .active);
       version = currentVersion;
       generation = nextGeneration (w .beginning .active);
-      length = w .taken .written;
-      crc = w .taken .crc;
+      length = w .contents .written;
+      crc = w .contents .crc;
       count = w .tables .count;
       key = keyLength (routesOffset (w .sources));
       checked = checkedTime stamp (w .beginning .now);
@@ -65,7 +65,7 @@ isHeaderWritten Committed = false
 
 -- the first call: 1; 11 before closing, while an operation is due, or once it was answered; 12; 13
 abbrev pub mayCommit : Writer → Bool
-mayCommit w = inRange w && (w .taken .closed && isIdle (w .stage))
+mayCommit w = inRange w && (w .contents .closed && isIdle (w .stage))
 
 abbrev pub isCurrent : Writer → Bool → Bool
 isCurrent w current = not (w .beginning .comparing) && current

@@ -35,8 +35,8 @@ sameSource a b = eqb (a .start) (b .start) && (eqb (a .end) (b .end) && sameEach
 
 abbrev pub sameBank : List ℕ → Writer → Bank → Bool
 sameBank region w b =
-    not (w .taken .different)
-    && (eqb (w .taken .written) (b .length)
+    not (w .contents .different)
+    && (eqb (w .contents .written) (b .length)
     && (eqb (w .tables .count) (b .count)
     && (eqb (keyLength (routesOffset (w .sources))) (b .key)
     && sameEach sameSource (recordsFor w) (recordsOf (b .version) (bankOf region (b .number)) (w .tables .count)))))
@@ -48,7 +48,7 @@ isUnchanged region w (NotRead r) = false
 
 -- 1, then 11 in writing mode, before closing, or while a call is due
 abbrev pub mayAsk : Writer → Bool
-mayAsk w = inRange w && (w .beginning .comparing && (w .taken .closed && isIdle (w .stage)))
+mayAsk w = inRange w && (w .beginning .comparing && (w .contents .closed && isIdle (w .stage)))
 
 unfoldable pub unchangedStep : List ℕ → Writer → Step
 unchangedStep region w =

@@ -115,7 +115,7 @@ fn bank_for(w: Writer, stamp: Stamp) -> Bank
 {
     let b = w.beginning;
     let l = b.active;
-    let t = w.taken;
+    let t = w.contents;
     let x = w.tables;
     let ss = w.sources;
     Bank {
@@ -133,7 +133,7 @@ fn bank_for(w: Writer, stamp: Stamp) -> Bank
 fn may_commit(w: Writer) -> bool
     ensures { λ r. ⌜ r ≡ Commit.mayCommit w ⌝ }
 {
-    let t = w.taken;
+    let t = w.contents;
     let s = w.stage;
     in_range(w) & (t.closed & is_idle(s))
 }

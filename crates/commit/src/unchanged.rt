@@ -77,7 +77,7 @@ fn same_bank(region: &[u8], w: Writer, b: Bank) -> bool
     requires { ⌜ w .tables .count ≤ maxSources ⌝ }
     ensures { λ r. ⌜ r ≡ Unchanged.sameBank (now (region .entry)) w b ⌝ }
 {
-    let t = w.taken;
+    let t = w.contents;
     let x = w.tables;
     let ss = w.sources;
     let l = bank_of(region, b.number);
@@ -101,7 +101,7 @@ fn may_ask(w: Writer) -> bool
     ensures { λ r. ⌜ r ≡ Unchanged.mayAsk w ⌝ }
 {
     let b = w.beginning;
-    let t = w.taken;
+    let t = w.contents;
     let s = w.stage;
     in_range(w) & (b.comparing & (t.closed & is_idle(s)))
 }

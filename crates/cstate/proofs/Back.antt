@@ -45,7 +45,7 @@ reads-back w h =
     λ i. record {
       stage = stage-back (w .stage) i;
       beginning = record { active = active-back (stageKind (w .stage)) (w .beginning .active) (stage-kind (w .stage)) h i; comparing = flag-back (w .beginning .comparing) i; now = w .beginning .now };
-      taken = record { written = w .taken .written; fill = w .taken .fill; crc = w .taken .crc; different = flag-back (w .taken .different) i; closed = flag-back (w .taken .closed) i };
+      contents = record { written = w .contents .written; fill = w .contents .fill; crc = w .contents .crc; different = flag-back (w .contents .different) i; closed = flag-back (w .contents .closed) i };
       tables = w .tables;
       sources = w .sources;
       tail = w .tail;

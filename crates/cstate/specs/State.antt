@@ -101,11 +101,11 @@ savedOf w =
       bank = bankIn (w .beginning .active);
       now = w .beginning .now;
       comparing = flag (w .beginning .comparing);
-      written = w .taken .written;
-      fill = w .taken .fill;
-      crc = w .taken .crc;
-      different = flag (w .taken .different);
-      closed = flag (w .taken .closed);
+      written = w .contents .written;
+      fill = w .contents .fill;
+      crc = w .contents .crc;
+      different = flag (w .contents .different);
+      closed = flag (w .contents .closed);
       tables = w .tables;
       sources = w .sources;
       tail = w .tail;
@@ -138,7 +138,7 @@ writerOf s =
     record {
       stage = stageOf (s .stage) (s .first) (s .second);
       beginning = record { active = activeOf (s .stage) (s .active) (s .bank); comparing = isSet (s .comparing); now = s .now };
-      taken = record { written = s .written; fill = s .fill; crc = s .crc; different = isSet (s .different); closed = isSet (s .closed) };
+      contents = record { written = s .written; fill = s .fill; crc = s .crc; different = isSet (s .different); closed = isSet (s .closed) };
       tables = s .tables;
       sources = s .sources;
       tail = s .tail;

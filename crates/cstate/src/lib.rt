@@ -13,6 +13,7 @@ use refusal::Refusal;
 use refusal::number_of;
 use writer::Answer;
 use writer::Beginning;
+use writer::Contents;
 use writer::Operation;
 use writer::Parts;
 use writer::PartsStep;
@@ -20,7 +21,6 @@ use writer::Stage;
 use writer::Step;
 use writer::TAIL_SIZE;
 use writer::Tables;
-use writer::Taken;
 use writer::Writer;
 use writer::with_sources;
 
@@ -134,7 +134,7 @@ pub fn parts_of(s: State) -> Parts
         comparing: is_set(s.comparing),
         now: s.now,
     };
-    let taken = Taken {
+    let contents = Contents {
         written: s.written,
         fill: s.fill,
         crc: s.crc,
@@ -146,7 +146,7 @@ pub fn parts_of(s: State) -> Parts
     Parts {
         stage,
         beginning,
-        taken,
+        contents,
         tables,
         tail,
     }
@@ -259,7 +259,7 @@ fn state_with(p: Parts, sources: [Source; SOURCES]) -> State
     ensures { λ r. ⌜ r ≡ Saved.savedOf (withSources p sources) ⌝ }
 {
     let b = p.beginning;
-    let t = p.taken;
+    let t = p.contents;
     let stage = p.stage;
     let n = stage_numbers(stage);
     let loaded = b.active;

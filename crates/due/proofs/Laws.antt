@@ -24,10 +24,10 @@ use Rattle.writer.specs.declared.Operation.{Operation}
 use Rattle.writer.specs.declared.Operation.the-variants.{Erase, Write, Compare}
 use Rattle.writer.specs.declared.Stage.{Stage}
 use Rattle.writer.specs.declared.Stage.the-variants.{Idle, Due, HeaderWritten, Committed}
-use Rattle.writer.specs.declared.Taken.{Taken}
+use Rattle.writer.specs.declared.Contents.{Contents}
 use Rattle.writer.specs.declared.Writer.{Writer}
 use Rattle.writer.specs.declared.Step.{Step}
-use Rattle.writer.specs.State.{position, isDue, aligned, takenOk, operationOk, stageOk, inRange, target, dataDue, writeDue, stays, tailSize, lastWrite}
+use Rattle.writer.specs.State.{position, isDue, aligned, contentsOk, operationOk, stageOk, inRange, target, dataDue, writeDue, stays, tailSize, lastWrite}
 use Rattle.writer.proofs.Laws.{ranged, fill-fits, position-fits}
 use Rattle.due.specs.Due.{padded, opsOf, dueOps, dueRegion, differs, withStage, withEmptied, operated, stepOf, dueStep}
 
@@ -85,7 +85,7 @@ or-cases : (a b : Bool) → (a || b) ≡ true → (a ≡ true) ⊎ (b ≡ true)
 or-cases true b e = inl refl
 or-cases false b e = inr e
 
-module _ (t : Taken) where
+module _ (t : Contents) where
   some-by : (eqb (t .fill) tailSize ≡ true) ⊎ ((t .closed && ltb 0 (t .fill)) ≡ true) → 1 ≤ t .fill
   some-by (inl h) = omega (arith, eqb-true (t .fill) tailSize h)
   some-by (inr h) = ltb-true 0 (t .fill) (and-right (t .closed) (ltb 0 (t .fill)) h)
@@ -99,15 +99,15 @@ module _ (t : Taken) where
   multiple-by h (inl e) = eqb-true (t .written % tailSize) 0 e
   multiple-by h (inr e) = absurd (omega (arith, eqb-true (t .fill) 0 (and-right (t .closed) (eqb (t .fill) 0) e)))
 
-  multiple : takenOk t ≡ true → 1 ≤ t .fill → t .written % tailSize ≡ 0
-  unfolding takenOk
+  multiple : contentsOk t ≡ true → 1 ≤ t .fill → t .written % tailSize ≡ 0
+  unfolding contentsOk
   multiple e h =
       let p = leb (position t) capacity in
       let a = aligned t in
       multiple-by h (or-cases (eqb (t .written % tailSize) 0) (t .closed && eqb (t .fill) 0) (and-right p a (and-right (leb (t .fill) tailSize) (p && a) e)))
 
   -- and a whole tail fits in the data at its offset
-  pub tail-fits : takenOk t ≡ true → isDue t ≡ true → t .written ≤ lastWrite
+  pub tail-fits : contentsOk t ≡ true → isDue t ≡ true → t .written ≤ lastWrite
   tail-fits e d = omega (arith, multiple e (fill-some d), fill-some d, position-fits t e)
 
   module _ (c : Bool) where
@@ -115,14 +115,14 @@ module _ (t : Taken) where
     sector-by k h (inl e) = omega (arith, eqb-true k 0 (and-right (eqb (t .written) 0) (eqb k 0) e))
     sector-by k h (inr e) = omega (arith, eqb-true k (t .written / sectorSize + 1) (and-right (eqb (t .written % sectorSize) 0) (eqb k (t .written / sectorSize + 1)) e))
 
-    pub sector-fits : (k : ℕ) → takenOk t ≡ true → isDue t ≡ true → operationOk c t (Erase k) ≡ true → k ≤ lastSector
+    pub sector-fits : (k : ℕ) → contentsOk t ≡ true → isDue t ≡ true → operationOk c t (Erase k) ≡ true → k ≤ lastSector
     unfolding operationOk
     sector-fits k e d o =
         let x = eqb (t .written) 0 && eqb k 0 in
         let y = eqb (t .written % sectorSize) 0 && eqb k (t .written / sectorSize + 1) in
         sector-by k (tail-fits e d) (or-cases x y (and-right (not c) (x || y) o))
 
-    pub write-fits : (a n : ℕ) → takenOk t ≡ true → isDue t ≡ true → operationOk c t (Write a n) ≡ true → (n ≤ tailSize) × (a ≤ lastWrite)
+    pub write-fits : (a n : ℕ) → contentsOk t ≡ true → isDue t ≡ true → operationOk c t (Write a n) ≡ true → (n ≤ tailSize) × (a ≤ lastWrite)
     unfolding operationOk
     write-fits a n e d o =
         let x = eqb a (t .written) in
@@ -131,28 +131,28 @@ module _ (t : Taken) where
         (omega (arith, eqb-true n (t .fill) (and-right x y r), fill-fits t e), omega (arith, eqb-true a (t .written) (and-left x y r), tail-fits e d))
 
 module _ (w : Writer) (o : Operation) (e : inRange w ≡ true) (s : w .stage ≡ Due o) where
-  due-and : (isDue (w .taken) && operationOk (w .beginning .comparing) (w .taken) o) ≡ true
+  due-and : (isDue (w .contents) && operationOk (w .beginning .comparing) (w .contents) o) ≡ true
   unfolding stageOk
-  due-and = sym (ap (stageOk (w .beginning .comparing) (w .taken)) s) ∙ ranged w e .stage
+  due-and = sym (ap (stageOk (w .beginning .comparing) (w .contents)) s) ∙ ranged w e .stage
 
-  pub is-due : isDue (w .taken) ≡ true
-  is-due = and-left (isDue (w .taken)) (operationOk (w .beginning .comparing) (w .taken) o) due-and
+  pub is-due : isDue (w .contents) ≡ true
+  is-due = and-left (isDue (w .contents)) (operationOk (w .beginning .comparing) (w .contents) o) due-and
 
-  pub is-ok : operationOk (w .beginning .comparing) (w .taken) o ≡ true
-  is-ok = and-right (isDue (w .taken)) (operationOk (w .beginning .comparing) (w .taken) o) due-and
+  pub is-ok : operationOk (w .beginning .comparing) (w .contents) o ≡ true
+  is-ok = and-right (isDue (w .contents)) (operationOk (w .beginning .comparing) (w .contents) o) due-and
 
 pub erase-ranged : (w : Writer) (k : ℕ) → inRange w ≡ true → w .stage ≡ Due (Erase k) → k ≤ lastSector
-erase-ranged w k e s = sector-fits (w .taken) (w .beginning .comparing) k (ranged w e .taken) (is-due w (Erase k) e s) (is-ok w (Erase k) e s)
+erase-ranged w k e s = sector-fits (w .contents) (w .beginning .comparing) k (ranged w e .contents) (is-due w (Erase k) e s) (is-ok w (Erase k) e s)
 
 pub write-ranged : (w : Writer) (a n : ℕ) → inRange w ≡ true → w .stage ≡ Due (Write a n) → (n ≤ tailSize) × (a ≤ lastWrite)
-write-ranged w a n e s = write-fits (w .taken) (w .beginning .comparing) a n (ranged w e .taken) (is-due w (Write a n) e s) (is-ok w (Write a n) e s)
+write-ranged w a n e s = write-fits (w .contents) (w .beginning .comparing) a n (ranged w e .contents) (is-due w (Write a n) e s) (is-ok w (Write a n) e s)
 
 -- ---- the state after it
 
-pub due-next : (t : Taken) (k : ℕ) → k ≡ 0 → dataDue t ≡ pick (eqb k 0) (dataDue t) (writeDue t)
+pub due-next : (t : Contents) (k : ℕ) → k ≡ 0 → dataDue t ≡ pick (eqb k 0) (dataDue t) (writeDue t)
 due-next t k e = rw (eq-eqb k 0 e)
 
-pub due-write : (t : Taken) (k : ℕ) → (k ≡ 0 → ⊥) → writeDue t ≡ pick (eqb k 0) (dataDue t) (writeDue t)
+pub due-write : (t : Contents) (k : ℕ) → (k ≡ 0 → ⊥) → writeDue t ≡ pick (eqb k 0) (dataDue t) (writeDue t)
 due-write t k e = rw (ne-eqb k 0 e)
 
 and-false : (a : Bool) → (a && false) ≡ false
@@ -160,15 +160,15 @@ and-false true = refl
 and-false false = refl
 
 module _ (region : List ℕ) (w : Writer) where
-  pub erased : (k : ℕ) → withStage w (Due (pick (eqb k 0) (dataDue (w .taken)) (writeDue (w .taken)))) ≡ operated region w (Erase k)
+  pub erased : (k : ℕ) → withStage w (Due (pick (eqb k 0) (dataDue (w .contents)) (writeDue (w .contents)))) ≡ operated region w (Erase k)
   unfolding operated
   erased k = refl
 
-  pub written-tail : (a n : ℕ) → withEmptied w (w .taken .different) ≡ operated region w (Write a n)
+  pub written-tail : (a n : ℕ) → withEmptied w (w .contents .different) ≡ operated region w (Write a n)
   unfolding operated
   written-tail a n = refl
 
-  pub compared : (a n : ℕ) → withEmptied w (w .taken .different || differs region (w .beginning .active) (w .taken) (w .tail)) ≡ operated region w (Compare a n)
+  pub compared : (a n : ℕ) → withEmptied w (w .contents .different || differs region (w .beginning .active) (w .contents) (w .tail)) ≡ operated region w (Compare a n)
   unfolding operated
   compared a n = refl
 
@@ -203,7 +203,7 @@ abbrev pub with-rest : Writer → Step → Step
 with-rest w x =
     record {
       answer = x .answer;
-      writer = record { stage = x .writer .stage; beginning = w .beginning; taken = x .writer .taken; tables = w .tables; sources = w .sources; tail = w .tail };
+      writer = record { stage = x .writer .stage; beginning = w .beginning; contents = x .writer .contents; tables = w .tables; sources = w .sources; tail = w .tail };
     }
 
 module _ (region : List ℕ) (w : Writer) where

@@ -16,7 +16,7 @@ use Rattle.writer.specs.declared.Operation.{Operation}
 use Rattle.writer.specs.declared.Operation.the-variants.{Erase, Write, Compare}
 use Rattle.writer.specs.declared.Stage.{Stage}
 use Rattle.writer.specs.declared.Stage.the-variants.{Idle, Due, HeaderWritten, Committed}
-use Rattle.writer.specs.declared.Taken.{Taken}
+use Rattle.writer.specs.declared.Contents.{Contents}
 use Rattle.writer.specs.declared.Writer.{Writer}
 use Rattle.writer.specs.declared.Answer.the-variants.{NoneDue}
 use Rattle.writer.specs.declared.Step.{Step}
@@ -42,27 +42,27 @@ unfoldable pub dueRegion : List ℕ → Writer → List ℕ
 dueRegion region w = performed (target (w .beginning .active)) (dueOps region w) region
 
 -- comparing: the tail's bytes differ from the active bank's at the same offset, or go past its data
-unfoldable pub differs : List ℕ → Loaded → Taken → List ℕ → Bool
+unfoldable pub differs : List ℕ → Loaded → Contents → List ℕ → Bool
 differs region (Found b) t tail =
     not (leb (position t) (b .length)) || not (same (take (t .fill) (drop (sectorSize + t .written) (bankOf region (b .number)))) (take (t .fill) tail))
 differs region Nothing t tail = true
 differs region (NotRead r) t tail = true
 
 -- the tail is written or compared: it is empty again
-abbrev pub emptied : Taken → Bool → Taken
+abbrev pub emptied : Contents → Bool → Contents
 emptied t different = record { written = position t; fill = 0; crc = t .crc; different = different; closed = t .closed }
 
 abbrev pub withStage : Writer → Stage → Writer
-withStage w s = record { stage = s; beginning = w .beginning; taken = w .taken; tables = w .tables; sources = w .sources; tail = w .tail }
+withStage w s = record { stage = s; beginning = w .beginning; contents = w .contents; tables = w .tables; sources = w .sources; tail = w .tail }
 
 abbrev pub withEmptied : Writer → Bool → Writer
-withEmptied w d = record { stage = Idle; beginning = w .beginning; taken = emptied (w .taken) d; tables = w .tables; sources = w .sources; tail = w .tail }
+withEmptied w d = record { stage = Idle; beginning = w .beginning; contents = emptied (w .contents) d; tables = w .tables; sources = w .sources; tail = w .tail }
 
 -- the state after the operation: after the erase of the header sector that of the first data sector is due, after another the write
 unfoldable pub operated : List ℕ → Writer → Operation → Writer
-operated region w (Erase k) = withStage w (Due (pick (eqb k 0) (dataDue (w .taken)) (writeDue (w .taken))))
-operated region w (Write a n) = withEmptied w (w .taken .different)
-operated region w (Compare a n) = withEmptied w (w .taken .different || differs region (w .beginning .active) (w .taken) (w .tail))
+operated region w (Erase k) = withStage w (Due (pick (eqb k 0) (dataDue (w .contents)) (writeDue (w .contents))))
+operated region w (Write a n) = withEmptied w (w .contents .different)
+operated region w (Compare a n) = withEmptied w (w .contents .different || differs region (w .beginning .active) (w .contents) (w .tail))
 
 abbrev pub stepOf : List ℕ → Writer → Stage → Step
 stepOf region w (Due o) = did (operated region w o)

@@ -31,13 +31,13 @@ use region::SECTOR_SIZE;
 use region::WRITE_UNIT;
 use region::bank_of;
 use writer::Answer;
+use writer::Contents;
 use writer::Operation;
 use writer::Parts;
 use writer::PartsStep;
 use writer::Stage;
 use writer::Step;
 use writer::TAIL_SIZE;
-use writer::Taken;
 use writer::Writer;
 use writer::data_due;
 use writer::parts_did;
@@ -85,7 +85,7 @@ fn write_tail(region: &mut [u8], bank: u32, tail: [u8; TAIL_SIZE], a: u32, n: u3
     write(region, bank, SECTOR_SIZE + a as usize, bytes);
 }
 
-fn differs_from(region: &[u8], b: Bank, t: Taken, tail: [u8; TAIL_SIZE]) -> bool
+fn differs_from(region: &[u8], b: Bank, t: Contents, tail: [u8; TAIL_SIZE]) -> bool
     requires { ⌜ t .fill ≤ tailSize ⌝ }
     ensures { λ r. ⌜ r ≡ Due.differs (now (region .entry)) (Loadeds.Found b) t tail ⌝ }
 {
@@ -96,7 +96,7 @@ fn differs_from(region: &[u8], b: Bank, t: Taken, tail: [u8; TAIL_SIZE]) -> bool
     !(t.written as u64 + t.fill as u64 <= b.length as u64) | !same_bytes(stored, held)
 }
 
-fn differs(region: &[u8], l: Loaded, t: Taken, tail: [u8; TAIL_SIZE]) -> bool
+fn differs(region: &[u8], l: Loaded, t: Contents, tail: [u8; TAIL_SIZE]) -> bool
     requires { ⌜ t .fill ≤ tailSize ⌝ }
     ensures { λ r. ⌜ r ≡ Due.differs (now (region .entry)) l t tail ⌝ }
 {
@@ -108,11 +108,11 @@ fn differs(region: &[u8], l: Loaded, t: Taken, tail: [u8; TAIL_SIZE]) -> bool
 }
 
 fn with_emptied(p: Parts, different: bool) -> Parts
-    requires { ⌜ State.position (p .taken) ≤ capacity ⌝ }
+    requires { ⌜ State.position (p .contents) ≤ capacity ⌝ }
     ensures { λ r. ⌜ ((ss : List Source) → withSources r ss ≡ Due.withEmptied (withSources p ss) different) ⌝ }
 {
-    let t = p.taken;
-    let taken = Taken {
+    let t = p.contents;
+    let contents = Contents {
         written: t.written + t.fill,
         fill: 0,
         different,
@@ -120,13 +120,13 @@ fn with_emptied(p: Parts, different: bool) -> Parts
     };
     Parts {
         stage: Stage::Idle,
-        taken,
+        contents,
         ..p
     }
 }
 
 // The operation that is due after an erase.
-fn next_due(t: Taken, sector: u32) -> Operation
+fn next_due(t: Contents, sector: u32) -> Operation
     ensures { λ r. ⌜ r ≡ pick (eqb sector 0) (State.dataDue t) (State.writeDue t) ⌝ }
 {
     if sector == 0 {
@@ -139,9 +139,9 @@ fn next_due(t: Taken, sector: u32) -> Operation
 }
 
 fn after_erase(p: Parts, sector: u32) -> Parts
-    ensures { λ r. ⌜ ((ss : List Source) → withSources r ss ≡ Due.withStage (withSources p ss) (Stages.Due (pick (eqb sector 0) (State.dataDue (p .taken)) (State.writeDue (p .taken))))) ⌝ }
+    ensures { λ r. ⌜ ((ss : List Source) → withSources r ss ≡ Due.withStage (withSources p ss) (Stages.Due (pick (eqb sector 0) (State.dataDue (p .contents)) (State.writeDue (p .contents))))) ⌝ }
 {
-    let o = next_due(p.taken, sector);
+    let o = next_due(p.contents, sector);
     Parts {
         stage: Stage::Due(o),
         ..p
@@ -161,7 +161,7 @@ fn do_erase(p: Parts, region: &mut [u8], sector: u32) -> PartsStep
 }
 
 fn do_write(p: Parts, region: &mut [u8], offset: u32, n: u32) -> PartsStep
-    requires { ⌜ (length (now region) ≡ regionSize) × (n ≤ tailSize) × (offset ≤ lastWrite) × (State.position (p .taken) ≤ capacity) ⌝ }
+    requires { ⌜ (length (now region) ≡ regionSize) × (n ≤ tailSize) × (offset ≤ lastWrite) × (State.position (p .contents) ≤ capacity) ⌝ }
     ensures { λ r. ⌜ ((ss : List Source) → stepWith r ss ≡ State.did (Due.operated (now (region .entry)) (withSources p ss) (Operations.Write offset n))) × (now (region .exit) ≡ performed (State.target (p .beginning .active)) (Due.opsOf (p .tail) (Stages.Due (Operations.Write offset n))) (now (region .entry))) ⌝ }
 {
     let b = p.beginning;
@@ -169,18 +169,18 @@ fn do_write(p: Parts, region: &mut [u8], offset: u32, n: u32) -> PartsStep
     let bank = target(l);
     let tail = p.tail;
     write_tail(region, bank, tail, offset, n);
-    let t = p.taken;
+    let t = p.contents;
     let v = with_emptied(p, t.different);
     parts_did(v)
 }
 
 fn do_compare(p: Parts, region: &[u8], offset: u32, n: u32) -> PartsStep
-    requires { ⌜ (p .taken .fill ≤ tailSize) × (State.position (p .taken) ≤ capacity) ⌝ }
+    requires { ⌜ (p .contents .fill ≤ tailSize) × (State.position (p .contents) ≤ capacity) ⌝ }
     ensures { λ r. ⌜ ((ss : List Source) → stepWith r ss ≡ State.did (Due.operated (now (region .entry)) (withSources p ss) (Operations.Compare offset n))) ⌝ }
 {
     let b = p.beginning;
     let l = b.active;
-    let t = p.taken;
+    let t = p.contents;
     let tail = p.tail;
     let different = t.different | differs(region, l, t, tail);
     let v = with_emptied(p, different);
@@ -224,7 +224,7 @@ fn do_due(p: Parts, region: &mut [u8]) -> PartsStep
     ensures { λ r. ⌜ ((ss : List Source) → (stepWith r ss ≡ Due.dueStep (now (region .entry)) (withSources p ss)) × (now (region .exit) ≡ Due.dueRegion (now (region .entry)) (withSources p ss))) ⌝ }
 {
     let b = p.beginning;
-    let t = p.taken;
+    let t = p.contents;
     let x = p.tables;
     let s = p.stage;
     if region.len() != REGION_SIZE {
@@ -244,8 +244,12 @@ pub fn due_parts(p: Parts, region: &mut [u8]) -> PartsStep
     let answer = x.answer;
     let v = x.parts;
     let stage = v.stage;
-    let taken = v.taken;
-    let parts = Parts { stage, taken, ..p };
+    let contents = v.contents;
+    let parts = Parts {
+        stage,
+        contents,
+        ..p
+    };
     PartsStep { answer, parts }
 }
 

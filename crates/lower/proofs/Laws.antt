@@ -64,30 +64,30 @@ module _ (w : Writer) where
   close-turn e = rw e
 
 module _ (w : Writer) (xs : List ℕ) where
-  pub bytes-appended : mayAppend w ≡ true → position (w .taken) + length xs ≤ capacity → appended w xs ≡ bytesStep w xs
+  pub bytes-appended : mayAppend w ≡ true → position (w .contents) + length xs ≤ capacity → appended w xs ≡ bytesStep w xs
   unfolding bytesStep
-  bytes-appended e h = rw (e, le-leb (position (w .taken) + length xs) capacity h)
+  bytes-appended e h = rw (e, le-leb (position (w .contents) + length xs) capacity h)
 
-  pub bytes-full : mayAppend w ≡ true → capacity < position (w .taken) + length xs → stays w Full ≡ bytesStep w xs
+  pub bytes-full : mayAppend w ≡ true → capacity < position (w .contents) + length xs → stays w Full ≡ bytesStep w xs
   unfolding bytesStep
-  bytes-full e h = rw (e, lt-leb (position (w .taken) + length xs) capacity h)
+  bytes-full e h = rw (e, lt-leb (position (w .contents) + length xs) capacity h)
 
   pub bytes-turn : mayAppend w ≡ false → stays w Turn ≡ bytesStep w xs
   unfolding bytesStep
   bytes-turn e = rw e
 
 module _ (w : Writer) (xs : List ℕ) where
-  pub appended-none : isDue (w .taken) ≡ true → record { answer = Appended 0; writer = w } ≡ appended w xs
+  pub appended-none : isDue (w .contents) ≡ true → record { answer = Appended 0; writer = w } ≡ appended w xs
   unfolding appended
   appended-none e = rw e
 
-  pub appended-some : (n : ℕ) (v : Writer) → isDue (w .taken) ≡ false → n ≡ accepted (w .taken) (length xs) → v ≡ withBytes w (take n xs) → record { answer = Appended n; writer = v } ≡ appended w xs
+  pub appended-some : (n : ℕ) (v : Writer) → isDue (w .contents) ≡ false → n ≡ accepted (w .contents) (length xs) → v ≡ withBytes w (take n xs) → record { answer = Appended n; writer = v } ≡ appended w xs
   unfolding appended
   appended-some n v e h k = rw (e, ← h) (ap (λ (x : Writer). record { answer = Appended n; writer = x }) k)
 
 -- the tail and the position of a state that may append
-pub takes-fits : (w : Writer) → mayAppend w ≡ true → (w .taken .fill ≤ tailSize) × (position (w .taken) ≤ capacity)
-takes-fits w m = let t = ranged w (and-left (inRange w) (not (w .taken .closed)) m) .taken in (fill-fits (w .taken) t, position-fits (w .taken) t)
+pub takes-fits : (w : Writer) → mayAppend w ≡ true → (w .contents .fill ≤ tailSize) × (position (w .contents) ≤ capacity)
+takes-fits w m = let t = ranged w (and-left (inRange w) (not (w .contents .closed)) m) .contents in (fill-fits (w .contents) t, position-fits (w .contents) t)
 
 -- a bit by a shift
 pub shifted : (t : ℕ) → t ≤ lastTable → (1 * 2 ^ t) % 4294967296 ≡ 2 ^ t

@@ -8,7 +8,7 @@ use Rattle.writer.specs.declared.PartsStep.{PartsStep}
 use Rattle.lower.specs.declared.append.Appended.{Appended}
 
 abbrev pub partsAppended : Parts → Appended → List ℕ → Parts
-partsAppended p t xs = record { stage = t .stage; beginning = p .beginning; taken = t .taken; tables = t .tables; tail = sets (p .tail) (t .at) (take (t .n) xs) }
+partsAppended p t xs = record { stage = t .stage; beginning = p .beginning; contents = t .contents; tables = t .tables; tail = sets (p .tail) (t .at) (take (t .n) xs) }
 
 abbrev pub stepAppended : Parts → Appended → List ℕ → PartsStep
 stepAppended p t xs = record { answer = t .answer; parts = partsAppended p t xs }

@@ -20,7 +20,7 @@ use Rattle.bank.specs.declared.Loaded.{Loaded}
 use Rattle.bank.specs.declared.Loaded.the-variants.{Found, Nothing, Refused as NotRead}
 use Rattle.bank.specs.Bank.{loaded}
 use Rattle.writer.specs.declared.Stage.the-variants.{Idle}
-use Rattle.writer.specs.declared.Taken.{Taken}
+use Rattle.writer.specs.declared.Contents.{Contents}
 use Rattle.writer.specs.declared.Tables.{Tables}
 use Rattle.writer.specs.declared.Writer.{Writer}
 use Rattle.writer.specs.declared.Answer.{Answer}
@@ -40,7 +40,7 @@ started active comparing now =
     record {
       stage = Idle;
       beginning = record { active = active; comparing = comparing; now = now };
-      taken = record { written = 0; fill = 0; crc = 0; different = false; closed = false };
+      contents = record { written = 0; fill = 0; crc = 0; different = false; closed = false };
       tables = record { count = 0; table = noTable; start = 0; crc = 0; begun = 0 };
       sources = fill noSource maxSources;
       tail = fill 0 tailSize;
@@ -51,7 +51,7 @@ begun region comparing now = record { answer = answerOf (loaded region); writer 
 
 -- Source: notes its record; the blocks start as zero. Out of order after closing and while a table is open; a fourth meets 10.
 abbrev pub mayAppend : Writer → Bool
-mayAppend w = inRange w && not (w .taken .closed)
+mayAppend w = inRange w && not (w .contents .closed)
 
 abbrev pub emptied : Source → Source
 emptied s =
@@ -73,7 +73,7 @@ withSource w s =
     record {
       stage = w .stage;
       beginning = w .beginning;
-      taken = w .taken;
+      contents = w .contents;
       tables = record { count = w .tables .count + 1; table = noTable; start = w .tables .start; crc = w .tables .crc; begun = 0 };
       sources = set (w .sources) (w .tables .count) (emptied s);
       tail = w .tail;
@@ -95,8 +95,8 @@ withTable w t =
     record {
       stage = w .stage;
       beginning = w .beginning;
-      taken = w .taken;
-      tables = record { count = w .tables .count; table = t; start = position (w .taken); crc = 0; begun = bitOr (w .tables .begun) (2 ^ t) };
+      contents = w .contents;
+      tables = record { count = w .tables .count; table = t; start = position (w .contents); crc = 0; begun = bitOr (w .tables .begun) (2 ^ t) };
       sources = w .sources;
       tail = w .tail;
     }
@@ -109,38 +109,38 @@ tableStep w t =
 
 -- Bytes: "takes bytes until its 256-byte tail is full and says how many; while an operation is due it takes none". All the bytes
 -- offered count for 10.
-abbrev pub accepted : Taken → ℕ → ℕ
+abbrev pub accepted : Contents → ℕ → ℕ
 accepted t n = min n (tailSize - t .fill)
 
-abbrev pub takenMore : Taken → List ℕ → Taken
-takenMore t xs = record { written = t .written; fill = t .fill + length xs; crc = crc32 (t .crc) xs; different = t .different; closed = t .closed }
+abbrev pub moreContents : Contents → List ℕ → Contents
+moreContents t xs = record { written = t .written; fill = t .fill + length xs; crc = crc32 (t .crc) xs; different = t .different; closed = t .closed }
 
 unfoldable pub withBytes : Writer → List ℕ → Writer
 withBytes w xs =
     record {
-      stage = stageOf (w .beginning .comparing) (takenMore (w .taken) xs);
+      stage = stageOf (w .beginning .comparing) (moreContents (w .contents) xs);
       beginning = w .beginning;
-      taken = takenMore (w .taken) xs;
+      contents = moreContents (w .contents) xs;
       tables = record { count = w .tables .count; table = w .tables .table; start = w .tables .start; crc = crc32 (w .tables .crc) xs; begun = w .tables .begun };
       sources = w .sources;
-      tail = sets (w .tail) (w .taken .fill) xs;
+      tail = sets (w .tail) (w .contents .fill) xs;
     }
 
 unfoldable pub appended : Writer → List ℕ → Step
 appended w xs =
-    pick (isDue (w .taken))
+    pick (isDue (w .contents))
     (record { answer = Appended 0; writer = w })
-    (record { answer = Appended (accepted (w .taken) (length xs)); writer = withBytes w (take (accepted (w .taken) (length xs)) xs) })
+    (record { answer = Appended (accepted (w .contents) (length xs)); writer = withBytes w (take (accepted (w .contents) (length xs)) xs) })
 
 unfoldable pub bytesStep : Writer → List ℕ → Step
 bytesStep w xs =
     pick (mayAppend w)
-    (pick (leb (position (w .taken) + length xs) capacity) (appended w xs) (stays w Full))
+    (pick (leb (position (w .contents) + length xs) capacity) (appended w xs) (stays w Full))
     (stays w Turn)
 
 -- Table end: fixes offset, length and CRC of the open table's block.
 abbrev pub blockOf : Writer → Block
-blockOf w = record { offset = w .tables .start; length = position (w .taken) - w .tables .start; crc = w .tables .crc }
+blockOf w = record { offset = w .tables .start; length = position (w .contents) - w .tables .start; crc = w .tables .crc }
 
 -- what a read past the end of an array of sources gives
 abbrev pub pastEnd : Source
@@ -178,7 +178,7 @@ withEnd w =
     record {
       stage = w .stage;
       beginning = w .beginning;
-      taken = w .taken;
+      contents = w .contents;
       tables = record { count = w .tables .count; table = noTable; start = w .tables .start; crc = w .tables .crc; begun = w .tables .begun };
       sources = set (w .sources) (w .tables .count - 1) (withBlock (getD (w .sources) (w .tables .count - 1) pastEnd) (w .tables .table) (blockOf w));
       tail = w .tail;
@@ -188,15 +188,15 @@ unfoldable pub endStep : Writer → Step
 endStep w = pick (mayAppend w && isOpen (w .tables)) (did (withEnd w)) (stays w Turn)
 
 -- Close: the bytes in the tail are then due. Out of order if closed already, and while a table is open.
-abbrev pub closedTaken : Taken → Taken
-closedTaken t = record { written = t .written; fill = t .fill; crc = t .crc; different = t .different; closed = true }
+abbrev pub closedContents : Contents → Contents
+closedContents t = record { written = t .written; fill = t .fill; crc = t .crc; different = t .different; closed = true }
 
 unfoldable pub withClosed : Writer → Writer
 withClosed w =
     record {
-      stage = pick (isDue (w .taken)) (w .stage) (stageOf (w .beginning .comparing) (closedTaken (w .taken)));
+      stage = pick (isDue (w .contents)) (w .stage) (stageOf (w .beginning .comparing) (closedContents (w .contents)));
       beginning = w .beginning;
-      taken = closedTaken (w .taken);
+      contents = closedContents (w .contents);
       tables = w .tables;
       sources = w .sources;
       tail = w .tail;

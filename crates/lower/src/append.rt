@@ -16,13 +16,13 @@ use leaf::crc::crc32_both;
 use refusal::Refusal;
 use region::CAPACITY;
 use writer::Answer;
+use writer::Contents;
 use writer::Parts;
 use writer::PartsStep;
 use writer::Stage;
 use writer::Step;
 use writer::TAIL_SIZE;
 use writer::Tables;
-use writer::Taken;
 use writer::Writer;
 use writer::is_due;
 use writer::parts_of;
@@ -49,69 +49,69 @@ struct Appended {
     n: usize,
     at: usize,
     stage: Stage,
-    taken: Taken,
+    contents: Contents,
     tables: Tables,
 }
 
 // No byte is appended.
 fn none_appended(p: Parts, answer: Answer) -> Appended
-    ensures { λ r. ⌜ r ≡ record { answer = answer; n = 0; at = 0; stage = p .stage; taken = p .taken; tables = p .tables } ⌝ }
+    ensures { λ r. ⌜ r ≡ record { answer = answer; n = 0; at = 0; stage = p .stage; contents = p .contents; tables = p .tables } ⌝ }
 {
     let stage = p.stage;
-    let taken = p.taken;
+    let contents = p.contents;
     let tables = p.tables;
     Appended {
         answer,
         n: 0,
         at: 0,
         stage,
-        taken,
+        contents,
         tables,
     }
 }
 
 // The first n bytes are appended.
 fn first_appended(p: Parts, bytes: &[u8], n: usize) -> Appended
-    requires { ⌜ (n ≤ length (now bytes)) × (p .taken .fill + n ≤ tailSize) ⌝ }
+    requires { ⌜ (n ≤ length (now bytes)) × (p .contents .fill + n ≤ tailSize) ⌝ }
     ensures { λ r. ⌜ (r .answer ≡ Answers.Appended n) × (r .n ≡ n) × (r .at + r .n ≤ tailSize) × ((ss : List Source) → withSources (partsAppended p r (now (bytes .entry))) ss ≡ Lower.withBytes (withSources p ss) (take n (now (bytes .entry)))) ⌝ }
 {
-    let t = p.taken;
+    let t = p.contents;
     let x = p.tables;
     let b = p.beginning;
     let some = &bytes[0..n];
     let crcs = crc32_both(t.crc, x.crc, some);
-    let taken = Taken {
+    let contents = Contents {
         fill: t.fill + n as u32,
         crc: crcs.a,
         ..t
     };
     let tables = Tables { crc: crcs.b, ..x };
-    let stage = stage_of(b.comparing, taken);
+    let stage = stage_of(b.comparing, contents);
     Appended {
         answer: Answer::Appended(n as u32),
         n,
         at: t.fill as usize,
         stage,
-        taken,
+        contents,
         tables,
     }
 }
 
 fn append_some(p: Parts, bytes: &[u8]) -> Appended
-    requires { ⌜ p .taken .fill ≤ tailSize ⌝ }
+    requires { ⌜ p .contents .fill ≤ tailSize ⌝ }
     ensures { λ r. ⌜ (r .n ≤ length (now (bytes .entry))) × (r .at + r .n ≤ tailSize) × ((ss : List Source) → stepWith (stepAppended p r (now (bytes .entry))) ss ≡ Lower.appended (withSources p ss) (now (bytes .entry))) ⌝ }
 {
-    if is_due(p.taken) {
+    if is_due(p.contents) {
         return none_appended(p, Answer::Appended(0));
     }
-    let n = accepted(p.taken, bytes.len());
+    let n = accepted(p.contents, bytes.len());
     first_appended(p, bytes, n)
 }
 
 fn append_any(p: Parts, offered: &[u8]) -> Appended
     ensures { λ r. ⌜ (r .n ≤ length (now (offered .entry))) × (r .at + r .n ≤ tailSize) × ((ss : List Source) → stepWith (stepAppended p r (now (offered .entry))) ss ≡ Lower.bytesStep (withSources p ss) (now (offered .entry))) ⌝ }
 {
-    let t = p.taken;
+    let t = p.contents;
     if !may_append_parts(p) {
         return none_appended(p, Answer::Refused(Refusal::Turn));
     }
@@ -134,11 +134,11 @@ pub fn append_parts(p: Parts, offered: &[u8]) -> PartsStep
     let tail = tail_with(old, g.at, some);
     let answer = g.answer;
     let stage = g.stage;
-    let taken = g.taken;
+    let contents = g.contents;
     let tables = g.tables;
     let parts = Parts {
         stage,
-        taken,
+        contents,
         tables,
         tail,
         ..p

@@ -10,12 +10,12 @@ use record::no_source;
 use refusal::Refusal;
 use writer::Answer;
 use writer::Beginning;
+use writer::Contents;
 use writer::NO_TABLE;
 use writer::Stage;
 use writer::Step;
 use writer::TAIL_SIZE;
 use writer::Tables;
-use writer::Taken;
 use writer::Writer;
 use writer::did;
 use writer::is_due;
@@ -36,7 +36,7 @@ pub fn started(active: Loaded, comparing: bool, now: i64) -> Writer
             comparing,
             now,
         },
-        taken: Taken {
+        contents: Contents {
             written: 0,
             fill: 0,
             crc: 0,
@@ -78,14 +78,18 @@ pub fn begin(region: &[u8], comparing: bool, at: i64) -> Step
 fn with_closed(w: Writer) -> Writer
     ensures { λ r. ⌜ r ≡ Lower.withClosed w ⌝ }
 {
-    let t = w.taken;
+    let t = w.contents;
     let b = w.beginning;
-    let taken = Taken { closed: true, ..t };
+    let contents = Contents { closed: true, ..t };
     if is_due(t) {
-        return Writer { taken, ..w };
+        return Writer { contents, ..w };
     }
-    let stage = stage_of(b.comparing, taken);
-    Writer { stage, taken, ..w }
+    let stage = stage_of(b.comparing, contents);
+    Writer {
+        stage,
+        contents,
+        ..w
+    }
 }
 
 // Closes the update: the bytes in the tail are then due.

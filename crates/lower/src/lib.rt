@@ -13,11 +13,11 @@ ghost use Rattle.writer.specs.State as State;
 ghost use Rattle.writer.specs.Parts.{withSources};
 ghost use Rattle.lower.specs.Lower as Lower;
 use base::number::WORD_BITS;
+use writer::Contents;
 use writer::NO_TABLE;
 use writer::Parts;
 use writer::TAIL_SIZE_32;
 use writer::Tables;
-use writer::Taken;
 use writer::Writer;
 use writer::parts_in_range;
 use writer::parts_of;
@@ -27,7 +27,7 @@ pub fn may_append_parts(p: Parts) -> bool
     ensures { λ r. ⌜ ((ss : List Source) → r ≡ Lower.mayAppend (withSources p ss)) ⌝ }
 {
     let b = p.beginning;
-    let t = p.taken;
+    let t = p.contents;
     let x = p.tables;
     let s = p.stage;
     parts_in_range(b, t, x, s) & !t.closed
@@ -66,7 +66,7 @@ pub fn may_begin(s: Tables, table: u32) -> bool
 }
 
 // How many of n bytes the tail has free space for.
-pub fn accepted(t: Taken, n: usize) -> usize
+pub fn accepted(t: Contents, n: usize) -> usize
     ensures { λ r. ⌜ (r ≡ Lower.accepted t n) × (r ≤ n) ⌝ }
 {
     if TAIL_SIZE_32 <= t.fill {

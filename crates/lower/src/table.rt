@@ -22,11 +22,11 @@ use base::table::LAST_TABLE;
 use writer::NO_TABLE;
 
 fn with_table(w: Writer, table: u32) -> Writer
-    requires { ⌜ (table ≤ lastTable) × (State.position (w .taken) ≤ capacity) ⌝ }
+    requires { ⌜ (table ≤ lastTable) × (State.position (w .contents) ≤ capacity) ⌝ }
     ensures { λ r. ⌜ r ≡ Lower.withTable w table ⌝ }
 {
     let x = w.tables;
-    let t = w.taken;
+    let t = w.contents;
     let tables = Tables {
         count: x.count,
         table,
@@ -61,10 +61,10 @@ fn with_block(s: Source, table: u32, b: Block) -> Source
 }
 
 fn with_end(w: Writer) -> Writer
-    requires { ⌜ (w .tables .table ≤ lastTable) × (1 ≤ w .tables .count) × (w .tables .count ≤ maxSources) × (w .tables .start ≤ State.position (w .taken)) × (State.position (w .taken) ≤ capacity) ⌝ }
+    requires { ⌜ (w .tables .table ≤ lastTable) × (1 ≤ w .tables .count) × (w .tables .count ≤ maxSources) × (w .tables .start ≤ State.position (w .contents)) × (State.position (w .contents) ≤ capacity) ⌝ }
     ensures { λ r. ⌜ r ≡ Lower.withEnd w ⌝ }
 {
-    let t = w.taken;
+    let t = w.contents;
     let x = w.tables;
     let b = Block {
         offset: x.start,

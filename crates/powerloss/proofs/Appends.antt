@@ -21,7 +21,7 @@ use Rattle.writer.specs.declared.Stage.{Stage}
 use Rattle.writer.specs.declared.Stage.the-variants.{Idle, Due, HeaderWritten, Committed}
 use Rattle.writer.specs.declared.Answer.{Answer}
 use Rattle.writer.specs.declared.Answer.the-variants.{Done, Appended, NoneDue, Same, Different, Refused}
-use Rattle.writer.specs.declared.Taken.{Taken}
+use Rattle.writer.specs.declared.Contents.{Contents}
 use Rattle.writer.specs.declared.Writer.{Writer}
 use Rattle.writer.specs.declared.Step.{Step}
 use Rattle.writer.specs.State.{position, isDue, writeDue, dataDue, stageOk, stays}
@@ -73,12 +73,12 @@ rank (Due (Write a n)) = 1
 rank (Due (Compare a n)) = 1
 
 record Stepped (st : Stage) (w w′ : Writer) : Type 0 where
-  closed : w′ .taken .closed ≡ w .taken .closed
-  position· : position (w′ .taken) ≡ position (w .taken)
+  closed : w′ .contents .closed ≡ w .contents .closed
+  position· : position (w′ .contents) ≡ position (w .contents)
   tables : w′ .tables ≡ w .tables
   rank· : rank (w′ .stage) ≤ rank st - 1
 
-data-rank : (t : Taken) (z : Bool) → rank (Due (pick z (Erase (t .written / sectorSize + 1)) (writeDue t))) ≤ 2
+data-rank : (t : Contents) (z : Bool) → rank (Due (pick z (Erase (t .written / sectorSize + 1)) (writeDue t))) ≤ 2
 data-rank t true = subst (λ (k : ℕ). rank (Due (Erase k)) ≤ 2) (sym (add-one (t .written / sectorSize))) (omega arith)
 data-rank t false = omega arith
 
@@ -87,7 +87,7 @@ unfolding operated dataDue
 stepped region w Idle e = record { closed = refl; position· = refl; tables = refl; rank· = omega (arith, ap rank e) }
 stepped region w HeaderWritten e = record { closed = refl; position· = refl; tables = refl; rank· = omega (arith, ap rank e) }
 stepped region w Committed e = record { closed = refl; position· = refl; tables = refl; rank· = omega (arith, ap rank e) }
-stepped region w (Due (Erase zero)) e = record { closed = refl; position· = refl; tables = refl; rank· = data-rank (w .taken) (eqb (w .taken .written % sectorSize) 0) }
+stepped region w (Due (Erase zero)) e = record { closed = refl; position· = refl; tables = refl; rank· = data-rank (w .contents) (eqb (w .contents .written % sectorSize) 0) }
 stepped region w (Due (Erase (suc j))) e =
     rw (ne-eqb (suc j) 0 (λ h. omega arith)) (record { closed = refl; position· = refl; tables = refl; rank· = omega arith })
 stepped region w (Due (Write a n)) e = record { closed = refl; position· = omega arith; tables = refl; rank· = omega arith }
@@ -117,10 +117,10 @@ writerThree region w = writerAfter (regionAfter (regionAfter region w) (writerAf
 
 pub record Three (hd : Loaded) (rs : List Source) (im : Image) (region : List ℕ) (w : Writer) (u : Update) : Type 0 where
   pub now : Now hd rs im (regionThree region w) (writerThree region w) u
-  pub closed : writerThree region w .taken .closed ≡ w .taken .closed
-  pub position· : position (writerThree region w .taken) ≡ position (w .taken)
+  pub closed : writerThree region w .contents .closed ≡ w .contents .closed
+  pub position· : position (writerThree region w .contents) ≡ position (w .contents)
   pub tables : writerThree region w .tables ≡ w .tables
-  pub still : isDue (writerThree region w .taken) ≡ false
+  pub still : isDue (writerThree region w .contents) ≡ false
 
 rank-most : (st : Stage) → rank st ≤ 3
 rank-most Idle = omega arith
@@ -131,11 +131,11 @@ rank-most (Due (Erase (suc k))) = omega arith
 rank-most (Due (Write a n)) = omega arith
 rank-most (Due (Compare a n)) = omega arith
 
-pub empty-due : (t : Taken) → t .fill ≡ 0 → isDue t ≡ false
+pub empty-due : (t : Contents) → t .fill ≡ 0 → isDue t ≡ false
 unfolding isDue
 empty-due t e = rw (e, and-false (t .closed))
 
-rank-none : (c : Bool) (t : Taken) (st : Stage) → rank st ≡ 0 → stageOk c t st ≡ true → isDue t ≡ false
+rank-none : (c : Bool) (t : Contents) (st : Stage) → rank st ≡ 0 → stageOk c t st ≡ true → isDue t ≡ false
 rank-none c t Idle e k = idle-due c t k
 rank-none c t HeaderWritten e k = empty-due t (headed-end c t k .empty)
 rank-none c t Committed e k = empty-due t (committed-end c t k .empty)
@@ -157,14 +157,14 @@ three hd rs im region w u h =
     let s1 = due-stepped hd rs im region w u h in
     let s2 = due-stepped hd rs im r1 w1 u h1 in
     let s3 = due-stepped hd rs im r2 w2 u h2 in
-    let c : w3 .taken .closed ≡ w .taken .closed = s3 .closed ∙ s2 .closed ∙ s1 .closed in
+    let c : w3 .contents .closed ≡ w .contents .closed = s3 .closed ∙ s2 .closed ∙ s1 .closed in
     let z : rank (w3 .stage) ≡ 0 = omega (arith, s1 .rank·, s2 .rank·, s3 .rank·, rank-most (w .stage)) in
     record {
       now = h3;
       closed = c;
       position· = s3 .position· ∙ s2 .position· ∙ s1 .position·;
       tables = s3 .tables ∙ s2 .tables ∙ s1 .tables;
-      still = rank-none (w3 .beginning .comparing) (w3 .taken) (w3 .stage) z (ranged w3 (h3 .open· .tied .range) .stage);
+      still = rank-none (w3 .beginning .comparing) (w3 .contents) (w3 .stage) z (ranged w3 (h3 .open· .tied .range) .stage);
     }
 
 pub dues-update : (region : List ℕ) (w : Writer) (cs : List Lower) (u : Update) → ranUpdate region w (dues ++ cs) u ≡ ranUpdate (regionThree region w) (writerThree region w) cs u
@@ -186,15 +186,15 @@ appended-one : (x : ℕ) (w : Writer) (a f d : Bool) (n : ℕ) → a ≡ true �
     ≡ record { answer = Appended 1; writer = withBytes w (x ∷ []) }
 appended-one x w a f d n p q r s = rw (p, q, r, s)
 
-pub may-append : (hd : Loaded) (region : List ℕ) (w : Writer) (u : Update) → Open region hd w u → w .taken .closed ≡ false → mayAppend w ≡ true
+pub may-append : (hd : Loaded) (region : List ℕ) (w : Writer) (u : Update) → Open region hd w u → w .contents .closed ≡ false → mayAppend w ≡ true
 may-append hd region w u o e = rw (o .tied .range, e)
 
-byte-step : (hd : Loaded) (region : List ℕ) (w : Writer) (u : Update) (x : ℕ) → Open region hd w u → w .taken .closed ≡ false → isDue (w .taken) ≡ false → position (w .taken) + 1 ≤ capacity
+byte-step : (hd : Loaded) (region : List ℕ) (w : Writer) (u : Update) (x : ℕ) → Open region hd w u → w .contents .closed ≡ false → isDue (w .contents) ≡ false → position (w .contents) + 1 ≤ capacity
     → bytesStep w (x ∷ []) ≡ record { answer = Appended 1; writer = withBytes w (x ∷ []) }
 unfolding bytesStep appended
 byte-step hd region w u x o e d p =
-    appended-one x w (mayAppend w) (leb (position (w .taken) + 1) capacity) (isDue (w .taken)) (accepted (w .taken) 1) (may-append hd region w u o e) (le-leb (position (w .taken) + 1) capacity p) d
-    (omega (arith, idle-room (w .taken) d (ranged w (o .tied .range) .taken)))
+    appended-one x w (mayAppend w) (leb (position (w .contents) + 1) capacity) (isDue (w .contents)) (accepted (w .contents) 1) (may-append hd region w u o e) (le-leb (position (w .contents) + 1) capacity p) d
+    (omega (arith, idle-room (w .contents) d (ranged w (o .tied .range) .contents)))
 
 takes-more : (x : ℕ) (xs : List ℕ) (u : Update) → takes xs (takes (x ∷ []) u) ≡ takes (x ∷ xs) u
 takes-more x xs u =
@@ -205,23 +205,23 @@ byte-update : (region : List ℕ) (w : Writer) (u : Update) (x : ℕ) (cs : List
 unfolding ranUpdate lowerOps lowerStep performed updateAfter
 byte-update region w u x cs e = ap (λ (s : Step). ranUpdate region (s .writer) cs (updateAfter (bytes (x ∷ [])) (s .answer) u)) e
 
-bytes-closed : (w : Writer) (ys : List ℕ) → withBytes w ys .taken .closed ≡ w .taken .closed
+bytes-closed : (w : Writer) (ys : List ℕ) → withBytes w ys .contents .closed ≡ w .contents .closed
 unfolding withBytes
 bytes-closed w ys = refl
 
-bytes-position : (w : Writer) (x : ℕ) → position (withBytes w (x ∷ []) .taken) ≡ position (w .taken) + 1
+bytes-position : (w : Writer) (x : ℕ) → position (withBytes w (x ∷ []) .contents) ≡ position (w .contents) + 1
 unfolding withBytes
 bytes-position w x = omega arith
 
-pub appends-update : (hd : Loaded) (rs : List Source) (im : Image) (xs region : List ℕ) (w : Writer) (u : Update) → Now hd rs im region w u → w .taken .closed ≡ false → isDue (w .taken) ≡ false
-    → position (w .taken) + length xs ≤ capacity → Bytes xs → ranUpdate region w (appends xs) u ≡ takes xs u
+pub appends-update : (hd : Loaded) (rs : List Source) (im : Image) (xs region : List ℕ) (w : Writer) (u : Update) → Now hd rs im region w u → w .contents .closed ≡ false → isDue (w .contents) ≡ false
+    → position (w .contents) + length xs ≤ capacity → Bytes xs → ranUpdate region w (appends xs) u ≡ takes xs u
 unfolding appends
 appends-update hd rs im [] region w u h e d p b = unfold ranUpdate in (sym (takes-nil u))
 appends-update hd rs im (x ∷ xs) region w u h e d p b =
     let s = byte-step hd region w u x (h .open·) e d (omega arith) in
     let w1 = withBytes w (x ∷ []) in
     let u1 = takes (x ∷ []) u in
-    let rm = idle-room (w .taken) d (ranged w (h .open· .tied .range) .taken) in
+    let rm = idle-room (w .contents) d (ranged w (h .open· .tied .range) .contents) in
     let h1 : Now hd rs im region w1 u1 =
     record { kept = h .kept; open· = with-bytes region hd w u (h .open·) (x ∷ []) (bytes-cons x [] (b 0) bytes-nil) e d (omega arith) (omega arith) } in
     let t = three hd rs im region w1 u1 h1 in
@@ -232,8 +232,8 @@ appends-update hd rs im (x ∷ xs) region w u h e d p b =
     ∙ takes-more x xs u
 
 -- what was due, then bytes
-pub dues-appends : (hd : Loaded) (rs : List Source) (im : Image) (xs region : List ℕ) (w : Writer) (u : Update) → Now hd rs im region w u → w .taken .closed ≡ false
-    → position (w .taken) + length xs ≤ capacity → Bytes xs → ranUpdate region w (dues ++ appends xs) u ≡ takes xs u
+pub dues-appends : (hd : Loaded) (rs : List Source) (im : Image) (xs region : List ℕ) (w : Writer) (u : Update) → Now hd rs im region w u → w .contents .closed ≡ false
+    → position (w .contents) + length xs ≤ capacity → Bytes xs → ranUpdate region w (dues ++ appends xs) u ≡ takes xs u
 dues-appends hd rs im xs region w u h e p b =
     let t = three hd rs im region w u h in
     dues-update region w (appends xs) u

@@ -107,17 +107,17 @@ module _ (region : List ℕ) (hd : Loaded) (w : Writer) (u : Update) (o : Open r
   records-is = ap (λ (x : List ℕ). recordsAfter x [] 0 0 (u .notes)) (sym (append-nil (u .data·))) ∙ o .tied .noted .records []
 
   length-records : length (recordsFor w) ≡ w .tables .count
-  length-records = length-take-le (w .tables .count) (w .sources) (omega (arith, o .tied .noted .sources, count-fits (position (w .taken)) (w .tables) (own .tables)))
+  length-records = length-take-le (w .tables .count) (w .sources) (omega (arith, o .tied .noted .sources, count-fits (position (w .contents)) (w .tables) (own .tables)))
 
   routes-is : 1 ≤ w .tables .count → routesOffset (recordsFor w) ≡ routesOffset (w .sources)
   routes-is h = ap (λ (s : Source). getD (s .tables) 0 noBlock .offset) (getD-take (w .tables .count) (w .sources) 0 pastEnd (omega arith))
 
-  module _ (stamp : Stamp) (z : w .taken .fill ≡ 0) (c : 1 ≤ w .tables .count) where
+  module _ (stamp : Stamp) (z : w .contents .fill ≡ 0) (c : 1 ≤ w .tables .count) where
     -- the bank that the history holds then is the one that is written
     pub bank-is : bankFrom (checks (checkedTime stamp (u .now)) u) ≡ bankFor w stamp
     unfolding bankFrom bankFor
     bank-is =
-        let n : length (u .data·) ≡ w .taken .written = o .tied .counted .length· ∙ omega arith in
+        let n : length (u .data·) ≡ w .contents .written = o .tied .counted .length· ∙ omega arith in
         let cn : length (recordsOf u) ≡ w .tables .count = ap length records-is ∙ length-records in
         let ky : keyLength (routesOffset (recordsOf u)) ≡ keyLength (routesOffset (w .sources)) = ap (λ (ss : List Source). keyLength (routesOffset ss)) records-is ∙ ap keyLength (routes-is c) in
         λ i. record {
@@ -135,9 +135,9 @@ module _ (region : List ℕ) (hd : Loaded) (w : Writer) (u : Update) (o : Open r
   unfolding bankFor
   numbers-of stamp ty f =
       let sp = fit-span (bankFor w stamp) (recordsFor w) f in
-      let p = position-fits (w .taken) (own .taken) in
+      let p = position-fits (w .contents) (own .contents) in
       let q = span-key (bankFor w stamp) sp in
-      let n = count-fits (position (w .taken)) (w .tables) (own .tables) in
+      let n = count-fits (position (w .contents)) (w .tables) (own .tables) in
       record {
         version = lit< tt;
         generation = next-small (w .beginning .active);
@@ -148,7 +148,7 @@ module _ (region : List ℕ) (hd : Loaded) (w : Writer) (u : Update) (o : Open r
         checked = checked-fits stamp (w .beginning .now) ty (o .tied .began .fits);
       }
 
-pub fit-length : (w : Writer) (stamp : Stamp) → isFit (bankFor w stamp) (recordsFor w) ≡ true → 1 ≤ w .taken .written
+pub fit-length : (w : Writer) (stamp : Stamp) → isFit (bankFor w stamp) (recordsFor w) ≡ true → 1 ≤ w .contents .written
 unfolding bankFor
 fit-length w stamp f = span-length (bankFor w stamp) (fit-span (bankFor w stamp) (recordsFor w) f) .0
 
@@ -167,7 +167,7 @@ module _ (region : List ℕ) (hd : Loaded) (rs : List Source) (im : Image) (w : 
     write-head : mayCommit w ≡ true → isCurrent w current ≡ true → isFit (bankFor w stamp) (recordsFor w) ≡ true
         → Carried (write 0 (headerBytes (bankFor w stamp) (recordsFor w) blankWord) ∷ []) (target (w .beginning .active)) region hd rs im (withStage w HeaderWritten) (checks (checkedTime stamp (u .now)) u)
     write-head e g f =
-        let t = w .taken in
+        let t = w .contents in
         let a = w .beginning .active in
         let bk = bankFor w stamp in
         let ss = recordsFor w in
@@ -195,7 +195,7 @@ module _ (region : List ℕ) (hd : Loaded) (rs : List Source) (im : Image) (w : 
         (record {
           tied =
               record {
-                range = range-of (withStage w HeaderWritten) (rg .active) (rg .taken) (rg .tables) (headed-of (w .beginning .comparing) t wr cl z);
+                range = range-of (withStage w HeaderWritten) (rg .active) (rg .contents) (rg .tables) (headed-of (w .beginning .comparing) t wr cl z);
                 began = o .tied .began;
                 counted = o .tied .counted;
                 noted = o .tied .noted;
@@ -269,10 +269,10 @@ follows region (NotRead r) l ok s e g = absurd (false≢true ok)
 module _ (region : List ℕ) (hd : Loaded) (rs : List Source) (im : Image) (w : Writer) (u : Update) (k : Kept region hd rs im) (o : Open region hd w u) where
   -- what the word's write leaves
   module _ (e : w .stage ≡ HeaderWritten) where
-    ended : AtEnd (w .beginning .comparing) (w .taken)
-    ended = headed-end (w .beginning .comparing) (w .taken) (stage-is region hd rs im w u k o HeaderWritten e)
+    ended : AtEnd (w .beginning .comparing) (w .contents)
+    ended = headed-end (w .beginning .comparing) (w .contents) (stage-is region hd rs im w u k o HeaderWritten e)
 
-    place : Mode false HeaderWritten region hd (w .beginning .active) (w .taken) (w .tail) u
+    place : Mode false HeaderWritten region hd (w .beginning .active) (w .contents) (w .tail) u
     place = seen region hd rs im w u k o false HeaderWritten (ended .writing) e
 
     n : ℕ
@@ -386,14 +386,14 @@ module _ (region : List ℕ) (hd : Loaded) (rs : List Source) (im : Image) (w : 
           tied =
               record {
                 range =
-                    range-of (withStage w Committed) (rg .active) (rg .taken) (rg .tables)
-                    (committed-of (w .beginning .comparing) (w .taken) (stage-is region hd rs im w u k o HeaderWritten e));
+                    range-of (withStage w Committed) (rg .active) (rg .contents) (rg .tables)
+                    (committed-of (w .beginning .comparing) (w .contents) (stage-is region hd rs im w u k o HeaderWritten e));
                 began = o .tied .began;
                 counted = o .tied .counted;
                 noted = o .tied .noted;
                 tailed = o .tied .tailed;
               };
           mode =
-              subst (λ (x : Bool). Mode x Committed (applied (target (w .beginning .active)) (write commitOffset commitBytes) region) (heldNew u) (w .beginning .active) (w .taken) (w .tail) u)
+              subst (λ (x : Bool). Mode x Committed (applied (target (w .beginning .active)) (write commitOffset commitBytes) region) (heldNew u) (w .beginning .active) (w .contents) (w .tail) u)
               (sym (ended .writing)) (tt, tt);
         }

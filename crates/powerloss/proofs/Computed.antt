@@ -36,12 +36,12 @@ use Rattle.flash.proofs.Laws.{length-performed, torn-first}
 use Rattle.writer.specs.declared.Operation.the-variants.{Erase, Write}
 use Rattle.writer.specs.declared.Stage.{Stage}
 use Rattle.writer.specs.declared.Stage.the-variants.{Idle, Due, HeaderWritten, Committed}
-use Rattle.writer.specs.declared.Taken.{Taken}
+use Rattle.writer.specs.declared.Contents.{Contents}
 use Rattle.writer.specs.declared.Tables.{Tables}
 use Rattle.writer.specs.declared.Answer.{Answer}
 use Rattle.writer.specs.declared.Answer.the-variants.{Done, Appended}
 use Rattle.writer.specs.declared.Writer.{Writer}
-use Rattle.writer.specs.State.{isDue, dataDue, firstDue, stageOf, target, nextGeneration, begunIn, activeOk, takenOk, tablesOk, operationOk, stageOk, inRange, tailSize}
+use Rattle.writer.specs.State.{isDue, dataDue, firstDue, stageOf, target, nextGeneration, begunIn, activeOk, contentsOk, tablesOk, operationOk, stageOk, inRange, tailSize}
 use Rattle.lower.specs.Lower.{answerOf, started, begun, withSource, sourceStep, withTable, tableStep, withBytes, appended, bytesStep, withEnd, endStep, withClosed, closeStep, emptied, withBlock, pastEnd}
 use Rattle.due.specs.Due.{padded, dueOps, operated, dueStep}
 use Rattle.commit.specs.declared.Stamp.the-variants.{Missing}
@@ -59,10 +59,10 @@ use Rattle.powerloss.proofs.Uppers.{inv-all, inv-found, demand3}
 use Rattle.base.specs.Table.{maxTables}
 
 -- a state of this update
-abbrev st : Loaded → Stage → Taken → Tables → List Source → List ℕ → Writer
-st hd g t b ss tail = record { stage = g; beginning = record { active = hd; comparing = false; now = pos 0 }; taken = t; tables = b; sources = ss; tail = tail }
+abbrev st : Loaded → Stage → Contents → Tables → List Source → List ℕ → Writer
+st hd g t b ss tail = record { stage = g; beginning = record { active = hd; comparing = false; now = pos 0 }; contents = t; tables = b; sources = ss; tail = tail }
 
-abbrev tk : ℕ → ℕ → ℕ → Bool → Taken
+abbrev tk : ℕ → ℕ → ℕ → Bool → Contents
 tk n k crc closed = record { written = n; fill = k; crc = crc; different = false; closed = closed }
 
 abbrev tb : ℕ → ℕ → ℕ → ℕ → ℕ → Tables
@@ -83,54 +83,54 @@ Does c region w x w′ ops = (lowerStep region w c ≡ record { answer = x; writ
 module _ (hd : Loaded) (ok : activeOk hd ≡ true) (region : List ℕ) (ss : List Source) (tail : List ℕ) (a b : ℕ) where
   does-key : Does (bytes key) region (st hd Idle (tk 0 0 a false) (tb 0 8 0 b 0) ss tail)
       (Appended 1) (st hd Idle (tk 0 1 (crc32 a key) false) (tb 0 8 0 (crc32 b key) 0) ss (sets tail 0 key)) []
-  unfolding lowerStep lowerOps bytesStep appended withBytes stageOf inRange takenOk tablesOk stageOk isDue
+  unfolding lowerStep lowerOps bytesStep appended withBytes stageOf inRange contentsOk tablesOk stageOk isDue
   does-key = rw ok (refl, refl)
 
   does-source : Does (source theSource) region (st hd Idle (tk 0 1 a false) (tb 0 8 0 b 0) ss tail)
       Done (st hd Idle (tk 0 1 a false) (tb 1 8 0 b 0) (set ss 0 (emptied theSource)) tail) []
-  unfolding lowerStep lowerOps sourceStep withSource inRange takenOk tablesOk stageOk isDue
+  unfolding lowerStep lowerOps sourceStep withSource inRange contentsOk tablesOk stageOk isDue
   does-source = rw ok (refl, refl)
 
   does-dates : Does (bytes dates) region (st hd Idle (tk 0 1 a false) (tb 1 8 0 b 0) ss tail)
       (Appended 8) (st hd Idle (tk 0 9 (crc32 a dates) false) (tb 1 8 0 (crc32 b dates) 0) ss (sets tail 1 dates)) []
-  unfolding lowerStep lowerOps bytesStep appended withBytes stageOf inRange takenOk tablesOk stageOk isDue
+  unfolding lowerStep lowerOps bytesStep appended withBytes stageOf inRange contentsOk tablesOk stageOk isDue
   does-dates = rw ok (refl, refl)
 
   does-table : Does (table 0) region (st hd Idle (tk 0 9 a false) (tb 1 8 0 b 0) ss tail) Done (st hd Idle (tk 0 9 a false) (tb 1 0 9 0 1) ss tail) []
-  unfolding lowerStep lowerOps tableStep withTable begunIn inRange takenOk tablesOk stageOk isDue
+  unfolding lowerStep lowerOps tableStep withTable begunIn inRange contentsOk tablesOk stageOk isDue
   does-table = rw ok (refl, refl)
 
   does-routes : Does (bytes routes) region (st hd Idle (tk 0 9 a false) (tb 1 0 9 b 1) ss tail)
       (Appended 3) (st hd Idle (tk 0 12 (crc32 a routes) false) (tb 1 0 9 (crc32 b routes) 1) ss (sets tail 9 routes)) []
-  unfolding lowerStep lowerOps bytesStep appended withBytes stageOf inRange takenOk tablesOk stageOk isDue
+  unfolding lowerStep lowerOps bytesStep appended withBytes stageOf inRange contentsOk tablesOk stageOk isDue
   does-routes = rw ok (refl, refl)
 
   does-end : Does end region (st hd Idle (tk 0 12 a false) (tb 1 0 9 b 1) ss tail)
       Done (st hd Idle (tk 0 12 a false) (tb 1 8 9 b 1) (set ss 0 (withBlock (getD ss 0 pastEnd) 0 (record { offset = 9; length = 3; crc = b }))) tail) []
-  unfolding lowerStep lowerOps endStep withEnd inRange takenOk tablesOk stageOk isDue
+  unfolding lowerStep lowerOps endStep withEnd inRange contentsOk tablesOk stageOk isDue
   does-end = rw ok (refl, refl)
 
   does-close : Does close region (st hd Idle (tk 0 12 a false) (tb 1 8 9 b 1) ss tail) Done (st hd (Due (Erase 0)) (tk 0 12 a true) (tb 1 8 9 b 1) ss tail) []
-  unfolding lowerStep lowerOps closeStep withClosed stageOf firstDue inRange takenOk tablesOk stageOk isDue
+  unfolding lowerStep lowerOps closeStep withClosed stageOf firstDue inRange contentsOk tablesOk stageOk isDue
   does-close = rw ok (refl, refl)
 
   -- the operations: the region has its size
   module _ (l : length region ≡ regionSize) where
     does-header : Does due region (st hd (Due (Erase 0)) (tk 0 12 a true) (tb 1 8 9 b 1) ss tail) Done (st hd (Due (Erase 1)) (tk 0 12 a true) (tb 1 8 9 b 1) ss tail) (erase 0 ∷ [])
-    unfolding lowerStep lowerOps dueStep dueOps operated dataDue inRange takenOk tablesOk stageOk operationOk isDue
+    unfolding lowerStep lowerOps dueStep dueOps operated dataDue inRange contentsOk tablesOk stageOk operationOk isDue
     does-header = rw (eq-eqb (length region) regionSize l, ok) (refl, refl)
 
     does-sector : Does due region (st hd (Due (Erase 1)) (tk 0 12 a true) (tb 1 8 9 b 1) ss tail) Done (st hd (Due (Write 0 12)) (tk 0 12 a true) (tb 1 8 9 b 1) ss tail) (erase sectorSize ∷ [])
-    unfolding lowerStep lowerOps dueStep dueOps operated inRange takenOk tablesOk stageOk operationOk isDue
+    unfolding lowerStep lowerOps dueStep dueOps operated inRange contentsOk tablesOk stageOk operationOk isDue
     does-sector = rw (eq-eqb (length region) regionSize l, ok) (refl, refl)
 
     does-write : Does due region (st hd (Due (Write 0 12)) (tk 0 12 a true) (tb 1 8 9 b 1) ss tail)
         Done (st hd Idle (tk 12 0 a true) (tb 1 8 9 b 1) ss tail) (write sectorSize (padded (take 12 tail)) ∷ [])
-    unfolding lowerStep lowerOps dueStep dueOps operated inRange takenOk tablesOk stageOk operationOk isDue
+    unfolding lowerStep lowerOps dueStep dueOps operated inRange contentsOk tablesOk stageOk operationOk isDue
     does-write = rw (eq-eqb (length region) regionSize l, ok) (refl, refl)
 
     does-word : Does word region (st hd HeaderWritten (tk 12 0 a true) (tb 1 8 9 b 1) ss tail) Done (st hd Committed (tk 12 0 a true) (tb 1 8 9 b 1) ss tail) (write commitOffset commitBytes ∷ [])
-    unfolding lowerStep lowerOps wordStep wordOps inRange takenOk tablesOk stageOk isDue
+    unfolding lowerStep lowerOps wordStep wordOps inRange contentsOk tablesOk stageOk isDue
     does-word = rw (eq-eqb (length region) regionSize l, ok) (refl, refl)
 
 -- the sources at the commit: the record with its block, b the CRC of its Routes
@@ -155,13 +155,13 @@ unfolding isFit judge spanOk sourceOk each bankFor fill noSource validDate isDat
 fit hd tail a b = refl
 
 does-commit : (hd : Loaded) → activeOk hd ≡ true → (region tail : List ℕ) (a b : ℕ) → length region ≡ regionSize → Does (commit Missing true) region (ready hd tail a b) Done (headed hd tail a b) (header hd tail a b)
-unfolding lowerStep lowerOps commitStep commitOps inRange takenOk tablesOk stageOk isDue
+unfolding lowerStep lowerOps commitStep commitOps inRange contentsOk tablesOk stageOk isDue
 does-commit hd ok region tail a b l = rw (eq-eqb (length region) regionSize l, ok, fit hd tail a b) (refl, refl)
 
 -- ---- the list of calls
 
 -- a call that isn't the commit word's, then the rest
-called : (hd : Loaded) (rs : List Source) (im : Image) (c : Lower) (region : List ℕ) (g : Stage) (t : Taken) (b : Tables) (ss : List Source) (tail : List ℕ) (x : Answer) (w′ : Writer) (ops : List Op) (u : Update)
+called : (hd : Loaded) (rs : List Source) (im : Image) (c : Lower) (region : List ℕ) (g : Stage) (t : Contents) (b : Tables) (ss : List Source) (tail : List ℕ) (x : Answer) (w′ : Writer) (ops : List Op) (u : Update)
     (es : List Event)
     → isWord c ≡ false → Does c region (st hd g t b ss tail) x w′ ops
     → nextAll (at hd rs im region (st hd g t b ss tail) u) (call c ∷ es) ≡ nextAll (at hd rs im (performed (target hd) ops region) w′ (updateAfter c x u)) es
@@ -169,7 +169,7 @@ unfolding nextAll next onCall afterLower committed imageAfter
 called hd rs im c region g t b ss tail x w′ ops u es e d = rw (e, d .0, d .1)
 
 -- its operations, then those of the rest
-ran : (hd : Loaded) (c : Lower) (region : List ℕ) (g : Stage) (t : Taken) (b : Tables) (ss : List Source) (tail : List ℕ) (x : Answer) (w′ : Writer) (ops : List Op) (cs : List Lower)
+ran : (hd : Loaded) (c : Lower) (region : List ℕ) (g : Stage) (t : Contents) (b : Tables) (ss : List Source) (tail : List ℕ) (x : Answer) (w′ : Writer) (ops : List Op) (cs : List Lower)
     → Does c region (st hd g t b ss tail) x w′ ops → ranOps region (st hd g t b ss tail) (c ∷ cs) ≡ ops ++ ranOps (performed (target hd) ops region) w′ cs
 unfolding ranOps
 ran hd c region g t b ss tail x w′ ops cs d = rw (d .0, d .1)

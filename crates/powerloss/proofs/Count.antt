@@ -20,13 +20,13 @@ use Rattle.writer.specs.declared.Operation.the-variants.{Erase, Write, Compare}
 use Rattle.writer.specs.declared.Stage.{Stage}
 use Rattle.writer.specs.declared.Stage.the-variants.{Idle, Due, HeaderWritten, Committed}
 use Rattle.writer.specs.declared.Answer.the-variants.{Appended, Same, Different}
-use Rattle.writer.specs.declared.Taken.{Taken}
+use Rattle.writer.specs.declared.Contents.{Contents}
 use Rattle.writer.specs.declared.Beginning.{Beginning}
 use Rattle.writer.specs.declared.Writer.{Writer}
 use Rattle.writer.specs.declared.Step.{Step}
-use Rattle.writer.specs.State.{isDue, writeDue, dataDue, firstDue, stageOf, isOpen, operationOk, inRange, takenOk, stageOk, did, stays, tailSize}
+use Rattle.writer.specs.State.{isDue, writeDue, dataDue, firstDue, stageOf, isOpen, operationOk, inRange, contentsOk, stageOk, did, stays, tailSize}
 use Rattle.writer.proofs.Laws.{Ranged, ranged, fill-fits}
-use Rattle.lower.specs.Lower.{mayAppend, mayBegin, withSource, sourceStep, withTable, tableStep, accepted, takenMore, withBytes, appended, bytesStep, withEnd, endStep, closedTaken, withClosed, closeStep}
+use Rattle.lower.specs.Lower.{mayAppend, mayBegin, withSource, sourceStep, withTable, tableStep, accepted, moreContents, withBytes, appended, bytesStep, withEnd, endStep, closedContents, withClosed, closeStep}
 use Rattle.due.specs.Due.{opsOf, operated, withStage, stepOf, dueStep}
 use Rattle.commit.specs.declared.Stamp.{Stamp}
 use Rattle.commit.specs.Commit.{bankFor, recordsFor, isIdle, isHeaderWritten, mayCommit, isCurrent, commitStep, commitOps, wordStep, wordOps}
@@ -61,7 +61,7 @@ Tally true st n ops = ops ≡ 0
 Tally false st n ops = (ops ≡ soFar st n) × Some st n
 
 abbrev pub TallyOf : ℕ → Writer → Type 0
-TallyOf ops w = Tally (w .beginning .comparing) (w .stage) (w .taken .written) ops
+TallyOf ops w = Tally (w .beginning .comparing) (w .stage) (w .contents .written) ops
 
 pub same-tally : (c : Bool) (st : Stage) (n ops m : ℕ) → m ≡ ops + 0 → Tally c st n ops → Tally c st n m
 same-tally true st n ops m e h = omega arith
@@ -69,7 +69,7 @@ same-tally false st n ops m e h = (e ∙ omega arith ∙ h .0, h .1)
 
 -- ---- what becomes due was not done before
 
-module _ (t : Taken) (ops : ℕ) (h : Tally false Idle (t .written) ops) where
+module _ (t : Contents) (ops : ℕ) (h : Tally false Idle (t .written) ops) where
   data-tally : (0 ≡ t .written → ⊥) → (z : Bool) → eqb (t .written % sectorSize) 0 ≡ z → Tally false (Due (pick z (Erase (t .written / sectorSize + 1)) (writeDue t))) (t .written) ops
   data-tally n true e =
       let q = eqb-true (t .written % sectorSize) 0 e in
@@ -88,7 +88,7 @@ module _ (t : Taken) (ops : ℕ) (h : Tally false Idle (t .written) ops) where
   due-tally true = first-tally (eqb (t .written) 0) refl
   due-tally false = h
 
-stage-tally : (c : Bool) (t : Taken) (ops : ℕ) → Tally c Idle (t .written) ops → Tally c (stageOf c t) (t .written) ops
+stage-tally : (c : Bool) (t : Contents) (ops : ℕ) → Tally c Idle (t .written) ops → Tally c (stageOf c t) (t .written) ops
 unfolding stageOf
 stage-tally true t ops h = h
 stage-tally false t ops h = due-tally t ops h (isDue t)
@@ -110,42 +110,42 @@ rearranged m a b e = omega arith
 -- ---- the call that does what is due
 
 abbrev writtenAfter : List ℕ → Writer → Stage → ℕ
-writtenAfter region w st = stepOf region w st .writer .taken .written
+writtenAfter region w st = stepOf region w st .writer .contents .written
 
 abbrev stageAfter : List ℕ → Writer → Stage → Stage
 stageAfter region w st = stepOf region w st .writer .stage
 
-module _ (region : List ℕ) (w : Writer) (ops m : ℕ) (tk : takenOk (w .taken) ≡ true) where
-  erased : w .taken .written ≡ 0 → m ≡ 1 → (z : Bool) → eqb (w .taken .written % sectorSize) 0 ≡ z
-      → Tally false (Due (pick z (Erase (w .taken .written / sectorSize + 1)) (writeDue (w .taken)))) (w .taken .written) m
-  erased e q true f = subst (λ (k : ℕ). Tally false (Due (Erase k)) (w .taken .written) m) (sym (add-one (w .taken .written / sectorSize))) (omega arith, tt)
-  erased e q false f = absurd (eqb-false (w .taken .written % sectorSize) 0 f (omega arith))
+module _ (region : List ℕ) (w : Writer) (ops m : ℕ) (tk : contentsOk (w .contents) ≡ true) where
+  erased : w .contents .written ≡ 0 → m ≡ 1 → (z : Bool) → eqb (w .contents .written % sectorSize) 0 ≡ z
+      → Tally false (Due (pick z (Erase (w .contents .written / sectorSize + 1)) (writeDue (w .contents)))) (w .contents .written) m
+  erased e q true f = subst (λ (k : ℕ). Tally false (Due (Erase k)) (w .contents .written) m) (sym (add-one (w .contents .written / sectorSize))) (omega arith, tt)
+  erased e q false f = absurd (eqb-false (w .contents .written % sectorSize) 0 f (omega arith))
 
-  wrote : 0 < w .taken .fill → m ≡ 2 + w .taken .written / sectorSize + writes (w .taken .written) + 1 → m ≡ soFar Idle (w .taken .written + w .taken .fill)
+  wrote : 0 < w .contents .fill → m ≡ 2 + w .contents .written / sectorSize + writes (w .contents .written) + 1 → m ≡ soFar Idle (w .contents .written + w .contents .fill)
   wrote p e =
-      let n = w .taken .written in
-      let k = w .taken .fill in
-      let a = tail-aligned (w .taken) tk p in
-      let f = fill-fits (w .taken) tk in
+      let n = w .contents .written in
+      let k = w .contents .fill in
+      let a = tail-aligned (w .contents) tk p in
+      let f = fill-fits (w .contents) tk in
       rearranged m (n / sectorSize) (writes n) e ∙ sym (λ i. one-more n k p i + sector-more n k a p f i + write-more n k a p f i)
 
-  did-tally : (st : Stage) → stageOk false (w .taken) st ≡ true → w .stage ≡ st → Tally false st (w .taken .written) ops → m ≡ ops + length (opsOf (w .tail) st)
+  did-tally : (st : Stage) → stageOk false (w .contents) st ≡ true → w .stage ≡ st → Tally false st (w .contents .written) ops → m ≡ ops + length (opsOf (w .tail) st)
       → Tally false (stageAfter region w st) (writtenAfter region w st) m
   unfolding operated dataDue
-  did-tally Idle k e h q = subst (λ (s : Stage). Tally false s (w .taken .written) m) (sym e) (same-tally false Idle (w .taken .written) ops m q h)
-  did-tally HeaderWritten k e h q = subst (λ (s : Stage). Tally false s (w .taken .written) m) (sym e) (same-tally false HeaderWritten (w .taken .written) ops m q h)
-  did-tally Committed k e h q = subst (λ (s : Stage). Tally false s (w .taken .written) m) (sym e) (same-tally false Committed (w .taken .written) ops m q h)
+  did-tally Idle k e h q = subst (λ (s : Stage). Tally false s (w .contents .written) m) (sym e) (same-tally false Idle (w .contents .written) ops m q h)
+  did-tally HeaderWritten k e h q = subst (λ (s : Stage). Tally false s (w .contents .written) m) (sym e) (same-tally false HeaderWritten (w .contents .written) ops m q h)
+  did-tally Committed k e h q = subst (λ (s : Stage). Tally false s (w .contents .written) m) (sym e) (same-tally false Committed (w .contents .written) ops m q h)
   did-tally (Due (Erase zero)) k e h q =
-      erased (erase-zero (w .taken) (due-ok false (w .taken) (Erase 0) k .1)) (omega (arith, h .0)) (eqb (w .taken .written % sectorSize) 0) refl
+      erased (erase-zero (w .contents) (due-ok false (w .contents) (Erase 0) k .1)) (omega (arith, h .0)) (eqb (w .contents .written % sectorSize) 0) refl
   did-tally (Due (Erase (suc j))) k e h q =
-      let d = erase-data (w .taken) j (due-ok false (w .taken) (Erase (suc j)) k .1) in
+      let d = erase-data (w .contents) j (due-ok false (w .contents) (Erase (suc j)) k .1) in
       rw (ne-eqb (suc j) 0 (λ z. omega arith)) (omega (arith, h .0, d .0), tt)
-  did-tally (Due (Write i n)) k e h q = (wrote (due-fill (w .taken) (due-ok false (w .taken) (Write i n) k .0)) (q ∙ omega (arith, h .0)), tt)
-  did-tally (Due (Compare i n)) k e h q = absurd (unfold operationOk in (false≢true (due-ok false (w .taken) (Compare i n) k .1)))
+  did-tally (Due (Write i n)) k e h q = (wrote (due-fill (w .contents) (due-ok false (w .contents) (Write i n) k .0)) (q ∙ omega (arith, h .0)), tt)
+  did-tally (Due (Compare i n)) k e h q = absurd (unfold operationOk in (false≢true (due-ok false (w .contents) (Compare i n) k .1)))
 
-  step-tally : (c : Bool) (st : Stage) → stageOk c (w .taken) st ≡ true → w .stage ≡ st → Tally c st (w .taken .written) ops → m ≡ ops + length (opsOf (w .tail) st)
+  step-tally : (c : Bool) (st : Stage) → stageOk c (w .contents) st ≡ true → w .stage ≡ st → Tally c st (w .contents .written) ops → m ≡ ops + length (opsOf (w .tail) st)
       → Tally c (stageAfter region w st) (writtenAfter region w st) m
-  step-tally true st k e h q = omega (arith, ap length (compare-ops (w .taken) (w .tail) st k))
+  step-tally true st k e h q = omega (arith, ap length (compare-ops (w .contents) (w .tail) st k))
   step-tally false st k e h q = did-tally st k e h q
 
 same-beginning : (region : List ℕ) (w : Writer) (st : Stage) → stepOf region w st .writer .beginning ≡ w .beginning
@@ -164,7 +164,7 @@ module _ (region : List ℕ) (w : Writer) (ops m : ℕ) (l : length region ≡ r
   own = ranged w r
 
   quiet : m ≡ ops + 0 → TallyOf m w
-  quiet e = same-tally (w .beginning .comparing) (w .stage) (w .taken .written) ops m e h
+  quiet e = same-tally (w .beginning .comparing) (w .stage) (w .contents .written) ops m e h
 
   source-tally : (s : Source) (a b : Bool) → m ≡ ops + 0 → TallyOf m (pick a (pick b (did (withSource w s)) (stays w Full)) (stays w Turn) .writer)
   unfolding withSource
@@ -188,35 +188,35 @@ module _ (region : List ℕ) (w : Writer) (ops m : ℕ) (l : length region ≡ r
   unchanged-tally true false c e = quiet e
   unchanged-tally false b c e = quiet e
 
-  open-of : mayAppend w ≡ true → w .taken .closed ≡ false
-  open-of e = not-true (w .taken .closed) (and-right (inRange w) (not (w .taken .closed)) e)
+  open-of : mayAppend w ≡ true → w .contents .closed ≡ false
+  open-of e = not-true (w .contents .closed) (and-right (inRange w) (not (w .contents .closed)) e)
 
   -- nothing was due
-  none-due : mayAppend w ≡ true → isDue (w .taken) ≡ false → m ≡ ops + 0 → Tally (w .beginning .comparing) Idle (w .taken .written) m
+  none-due : mayAppend w ≡ true → isDue (w .contents) ≡ false → m ≡ ops + 0 → Tally (w .beginning .comparing) Idle (w .contents .written) m
   none-due e d q =
-      subst (λ (s : Stage). Tally (w .beginning .comparing) s (w .taken .written) m)
-      (only-idle (w .beginning .comparing) (w .taken) (w .stage) (own .stage) (open-of e) d) (quiet q)
+      subst (λ (s : Stage). Tally (w .beginning .comparing) s (w .contents .written) m)
+      (only-idle (w .beginning .comparing) (w .contents) (w .stage) (own .stage) (open-of e) d) (quiet q)
 
-  appended-tally : (n : ℕ) (xs : List ℕ) (d : Bool) → mayAppend w ≡ true → isDue (w .taken) ≡ d → m ≡ ops + 0
+  appended-tally : (n : ℕ) (xs : List ℕ) (d : Bool) → mayAppend w ≡ true → isDue (w .contents) ≡ d → m ≡ ops + 0
       → TallyOf m (pick {A = Step} d (record { answer = Appended 0; writer = w }) (record { answer = Appended n; writer = withBytes w (take n xs) }) .writer)
   unfolding withBytes
   appended-tally n xs true e d q = quiet q
-  appended-tally n xs false e d q = stage-tally (w .beginning .comparing) (takenMore (w .taken) (take n xs)) m (none-due e d q)
+  appended-tally n xs false e d q = stage-tally (w .beginning .comparing) (moreContents (w .contents) (take n xs)) m (none-due e d q)
 
   bytes-tally : (xs : List ℕ) (a f : Bool) → mayAppend w ≡ a → m ≡ ops + 0 → TallyOf m (pick a (pick f (appended w xs) (stays w Full)) (stays w Turn) .writer)
   unfolding appended
-  bytes-tally xs true true e q = appended-tally (accepted (w .taken) (length xs)) xs (isDue (w .taken)) e refl q
+  bytes-tally xs true true e q = appended-tally (accepted (w .contents) (length xs)) xs (isDue (w .contents)) e refl q
   bytes-tally xs true false e q = quiet q
   bytes-tally xs false f e q = quiet q
 
-  shut-tally : (d : Bool) → mayAppend w ≡ true → isDue (w .taken) ≡ d → m ≡ ops + 0
-      → Tally (w .beginning .comparing) (pick d (w .stage) (stageOf (w .beginning .comparing) (closedTaken (w .taken)))) (w .taken .written) m
+  shut-tally : (d : Bool) → mayAppend w ≡ true → isDue (w .contents) ≡ d → m ≡ ops + 0
+      → Tally (w .beginning .comparing) (pick d (w .stage) (stageOf (w .beginning .comparing) (closedContents (w .contents)))) (w .contents .written) m
   shut-tally true e d q = quiet q
-  shut-tally false e d q = stage-tally (w .beginning .comparing) (closedTaken (w .taken)) m (none-due e d q)
+  shut-tally false e d q = stage-tally (w .beginning .comparing) (closedContents (w .contents)) m (none-due e d q)
 
   close-tally : (a : Bool) → (mayAppend w && not (isOpen (w .tables))) ≡ a → m ≡ ops + 0 → TallyOf m (pick a (did (withClosed w)) (stays w Turn) .writer)
   unfolding withClosed
-  close-tally true e q = shut-tally (isDue (w .taken)) (and-left (mayAppend w) (not (isOpen (w .tables))) e) refl q
+  close-tally true e q = shut-tally (isDue (w .contents)) (and-left (mayAppend w) (not (isOpen (w .tables))) e) refl q
   close-tally false e q = quiet q
 
   done-tally : m ≡ ops + length (opsOf (w .tail) (w .stage)) → TallyOf m (dueStep region w .writer)
@@ -224,15 +224,15 @@ module _ (region : List ℕ) (w : Writer) (ops m : ℕ) (l : length region ≡ r
   done-tally q =
       rw (eq-eqb (length region) regionSize l, r)
       (subst (λ (b : Beginning). Tally (b .comparing) (stageAfter region w (w .stage)) (writtenAfter region w (w .stage)) m) (sym (same-beginning region w (w .stage)))
-      (step-tally region w ops m (own .taken) (w .beginning .comparing) (w .stage) (own .stage) refl h q))
+      (step-tally region w ops m (own .contents) (w .beginning .comparing) (w .stage) (own .stage) refl h q))
 
   -- commit's two writes
   head-tally : (stamp : Stamp) (current : Bool) → mayCommit w ≡ true → isCurrent w current ≡ true → isFit (bankFor w stamp) (recordsFor w) ≡ true → m ≡ ops + 1 → TallyOf m (withStage w HeaderWritten)
   head-tally stamp current a b f q =
-      let i = is-idle (w .stage) (and-right (w .taken .closed) (isIdle (w .stage)) (and-right (inRange w) (w .taken .closed && isIdle (w .stage)) a)) in
+      let i = is-idle (w .stage) (and-right (w .contents .closed) (isIdle (w .stage)) (and-right (inRange w) (w .contents .closed && isIdle (w .stage)) a)) in
       let c = not-true (w .beginning .comparing) (and-left (not (w .beginning .comparing)) current b) in
-      let g = subst (λ (x : Bool). Tally x Idle (w .taken .written) ops) c (subst (λ (s : Stage). Tally (w .beginning .comparing) s (w .taken .written) ops) i h) in
-      subst (λ (x : Bool). Tally x HeaderWritten (w .taken .written) m) (sym c) (omega (arith, g .0), fit-length w stamp f)
+      let g = subst (λ (x : Bool). Tally x Idle (w .contents .written) ops) c (subst (λ (s : Stage). Tally (w .beginning .comparing) s (w .contents .written) ops) i h) in
+      subst (λ (x : Bool). Tally x HeaderWritten (w .contents .written) m) (sym c) (omega (arith, g .0), fit-length w stamp f)
 
   commit-tally : (stamp : Stamp) (current : Bool) (x : Op) (a b f : Bool) → mayCommit w ≡ a → isCurrent w current ≡ b → isFit (bankFor w stamp) (recordsFor w) ≡ f
       → m ≡ ops + length (pick (a && (b && f)) (x ∷ []) [])
@@ -245,9 +245,9 @@ module _ (region : List ℕ) (w : Writer) (ops m : ℕ) (l : length region ≡ r
   word-tally : (x : Op) (b : Bool) → isHeaderWritten (w .stage) ≡ b → m ≡ ops + length (pick b (x ∷ []) []) → TallyOf m (pick b (did (withStage w Committed)) (stays w Turn) .writer)
   word-tally x true e q =
       let i = is-header-written (w .stage) e in
-      let c = headed-end (w .beginning .comparing) (w .taken) (ap (stageOk (w .beginning .comparing) (w .taken)) (sym i) ∙ own .stage) .writing in
-      let g = subst (λ (x : Bool). Tally x HeaderWritten (w .taken .written) ops) c (subst (λ (s : Stage). Tally (w .beginning .comparing) s (w .taken .written) ops) i h) in
-      subst (λ (x : Bool). Tally x Committed (w .taken .written) m) (sym c) (omega (arith, g .0), g .1)
+      let c = headed-end (w .beginning .comparing) (w .contents) (ap (stageOk (w .beginning .comparing) (w .contents)) (sym i) ∙ own .stage) .writing in
+      let g = subst (λ (x : Bool). Tally x HeaderWritten (w .contents .written) ops) c (subst (λ (s : Stage). Tally (w .beginning .comparing) s (w .contents .written) ops) i h) in
+      subst (λ (x : Bool). Tally x Committed (w .contents .written) m) (sym c) (omega (arith, g .0), g .1)
   word-tally x false e q = quiet q
 
   commit-at : (stamp : Stamp) (current : Bool) → m ≡ ops + length (commitOps region w stamp current) → TallyOf m (commitStep region w stamp current .writer)
@@ -267,7 +267,7 @@ module _ (region : List ℕ) (w : Writer) (ops m : ℕ) (l : length region ≡ r
   unfolding lowerStep lowerOps
   call-tally (source s) q = unfold sourceStep in (source-tally s (mayAppend w && not (isOpen (w .tables))) (ltb (w .tables .count) 3) q)
   call-tally (table t) q = unfold tableStep in (table-tally t (leb t 7) (mayAppend w && mayBegin (w .tables) t) q)
-  call-tally (bytes xs) q = unfold bytesStep in (bytes-tally xs (mayAppend w) (leb (w .taken .written + w .taken .fill + length xs) capacity) refl q)
+  call-tally (bytes xs) q = unfold bytesStep in (bytes-tally xs (mayAppend w) (leb (w .contents .written + w .contents .fill + length xs) capacity) refl q)
   call-tally end q = unfold endStep in (end-tally (mayAppend w && isOpen (w .tables)) q)
   call-tally close q = unfold closeStep in (close-tally (mayAppend w && not (isOpen (w .tables))) refl q)
   call-tally due q = done-tally (q ∙ ap (λ (xs : List Op). ops + length xs) (ops-are region w l r))

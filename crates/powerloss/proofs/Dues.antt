@@ -23,7 +23,7 @@ use Rattle.writer.specs.declared.Stage.{Stage}
 use Rattle.writer.specs.declared.Stage.the-variants.{Idle, Due, HeaderWritten, Committed}
 use Rattle.writer.specs.declared.Answer.{Answer}
 use Rattle.writer.specs.declared.Answer.the-variants.{Done, Appended, NoneDue, Same, Different, Refused}
-use Rattle.writer.specs.declared.Taken.{Taken}
+use Rattle.writer.specs.declared.Contents.{Contents}
 use Rattle.writer.specs.declared.Writer.{Writer}
 use Rattle.writer.specs.declared.Step.{Step}
 use Rattle.writer.specs.State.{position, isDue, writeDue, dataDue, target, operationOk, stageOk, tailSize}
@@ -36,7 +36,7 @@ use Rattle.powerloss.proofs.Cuts.{cut-none, cut-inside, cut-after}
 use Rattle.powerloss.proofs.Load.{target-fits}
 use Rattle.powerloss.proofs.Inv.{Kept, Live, Laid, Lies, LiveAt, Mode, Open, kept-unmarked, live-after}
 use Rattle.powerloss.proofs.Laid.{later-unmarked, bare-erase, laid-erase, laid-write}
-use Rattle.powerloss.proofs.Range.{range-of, tail-aligned, due-fill, empty-taken, empty-idle, write-ok, data-ok, due-ok, due-of, erase-mode, write-at, erase-data, tables-later}
+use Rattle.powerloss.proofs.Range.{range-of, tail-aligned, due-fill, empty-contents, empty-idle, write-ok, data-ok, due-ok, due-of, erase-mode, write-at, erase-data, tables-later}
 use Rattle.powerloss.proofs.Quiet.{data-lies}
 
 -- what operations on bank n leave, all of them or the first ones
@@ -81,41 +81,41 @@ module _ (region : List ℕ) (hd : Loaded) (rs : List Source) (im : Image) (w : 
   own : Ranged w
   own = ranged w (o .tied .range)
 
-  pub seen : (c : Bool) (st : Stage) → w .beginning .comparing ≡ c → w .stage ≡ st → Mode c st region hd (w .beginning .active) (w .taken) (w .tail) u
+  pub seen : (c : Bool) (st : Stage) → w .beginning .comparing ≡ c → w .stage ≡ st → Mode c st region hd (w .beginning .active) (w .contents) (w .tail) u
   seen c st e f =
-      subst (λ (s : Stage). Mode c s region hd (w .beginning .active) (w .taken) (w .tail) u) f
-      (subst (λ (d : Bool). Mode d (w .stage) region hd (w .beginning .active) (w .taken) (w .tail) u) e (o .mode))
+      subst (λ (s : Stage). Mode c s region hd (w .beginning .active) (w .contents) (w .tail) u) f
+      (subst (λ (d : Bool). Mode d (w .stage) region hd (w .beginning .active) (w .contents) (w .tail) u) e (o .mode))
 
-  pub stage-is : (st : Stage) → w .stage ≡ st → stageOk (w .beginning .comparing) (w .taken) st ≡ true
-  stage-is st f = ap (stageOk (w .beginning .comparing) (w .taken)) (sym f) ∙ own .stage
+  pub stage-is : (st : Stage) → w .stage ≡ st → stageOk (w .beginning .comparing) (w .contents) st ≡ true
+  stage-is st f = ap (stageOk (w .beginning .comparing) (w .contents)) (sym f) ∙ own .stage
 
   -- another stage, the same bytes
-  pub restage : (region′ : List ℕ) (st : Stage) → w .beginning .comparing ≡ false → stageOk false (w .taken) st ≡ true
-      → LiveAt st region′ hd (w .beginning .active) × Lies st (w .taken) (w .tail) u (bankOf region′ (target (w .beginning .active))) → Open region′ hd (withStage w st) u
+  pub restage : (region′ : List ℕ) (st : Stage) → w .beginning .comparing ≡ false → stageOk false (w .contents) st ≡ true
+      → LiveAt st region′ hd (w .beginning .active) × Lies st (w .contents) (w .tail) u (bankOf region′ (target (w .beginning .active))) → Open region′ hd (withStage w st) u
   restage region′ st c s m =
       record {
         tied =
             record {
-              range = range-of (withStage w st) (own .active) (own .taken) (own .tables) (ap (λ (x : Bool). stageOk x (w .taken) st) c ∙ s);
+              range = range-of (withStage w st) (own .active) (own .contents) (own .tables) (ap (λ (x : Bool). stageOk x (w .contents) st) c ∙ s);
               began = o .tied .began;
               counted = o .tied .counted;
               noted = o .tied .noted;
               tailed = o .tied .tailed;
             };
-        mode = subst (λ (x : Bool). Mode x st region′ hd (w .beginning .active) (w .taken) (w .tail) u) (sym c) m;
+        mode = subst (λ (x : Bool). Mode x st region′ hd (w .beginning .active) (w .contents) (w .tail) u) (sym c) m;
       }
 
   -- the tail is empty again
-  empty : (region′ : List ℕ) (d : Bool) → isDue (w .taken) ≡ true → Mode (w .beginning .comparing) Idle region′ hd (w .beginning .active) (emptied (w .taken) d) (w .tail) u
+  empty : (region′ : List ℕ) (d : Bool) → isDue (w .contents) ≡ true → Mode (w .beginning .comparing) Idle region′ hd (w .beginning .active) (emptied (w .contents) d) (w .tail) u
       → Open region′ hd (withEmptied w d) u
   empty region′ d e m =
       record {
         tied =
             record {
               range =
-                  range-of (withEmptied w d) (own .active) (empty-taken (w .taken) d (own .taken) e)
-                  (tables-later (position (w .taken)) (position (emptied (w .taken) d)) (w .tables) (omega arith) (own .tables))
-                  (empty-idle (w .taken) d (w .beginning .comparing));
+                  range-of (withEmptied w d) (own .active) (empty-contents (w .contents) d (own .contents) e)
+                  (tables-later (position (w .contents)) (position (emptied (w .contents) d)) (w .tables) (omega arith) (own .tables))
+                  (empty-idle (w .contents) d (w .beginning .comparing));
               began = o .tied .began;
               counted = record { length· = o .tied .counted .length· ∙ omega arith; crc = o .tied .counted .crc };
               noted = o .tied .noted;
@@ -135,17 +135,17 @@ module _ (region : List ℕ) (hd : Loaded) (rs : List Source) (im : Image) (w : 
       let a = w .beginning .active in
       kept-unmarked-at region hd a rs im k v (erase 0) j (no-magic (done j (erase 0) (bankOf region (target a))) e)
 
-  erase-first : w .stage ≡ Due (Erase 0) → Carried (erase 0 ∷ []) (target (w .beginning .active)) region hd rs im (withStage w (Due (dataDue (w .taken)))) u
+  erase-first : w .stage ≡ Due (Erase 0) → Carried (erase 0 ∷ []) (target (w .beginning .active)) region hd rs im (withStage w (Due (dataDue (w .contents)))) u
   unfolding dataDue
   erase-first f =
-      let t = w .taken in
+      let t = w .contents in
       let a = w .beginning .active in
       let d = due-ok (w .beginning .comparing) t (Erase 0) (stage-is (Due (Erase 0)) f) in
       let c = erase-mode (w .beginning .comparing) t 0 (d .1) in
       let m = seen false (Due (Erase 0)) c f in
       let b = bankOf region (target a) in
       let h = bare-erase t (w .tail) (u .data·) b (m .1) (length-at region hd a rs im k (m .0) (erase 0)) in
-      let al = tail-aligned t (own .taken) (due-fill t (d .0)) in
+      let al = tail-aligned t (own .contents) (due-fill t (d .0)) in
       let r′ = applied (target a) (erase 0) region in
       one-op (target a) region hd rs im (withStage w (Due (dataDue t))) u k (erase 0)
       (λ j. first-by j (m .0) (cut-first j b (omega (arith, length-at region hd a rs im k (m .0) (erase 0)))))
@@ -156,9 +156,9 @@ module _ (region : List ℕ) (hd : Loaded) (rs : List Source) (im : Image) (w : 
             (eqb (t .written % sectorSize) 0) refl,
       ))
 
-  erase-next : (j : ℕ) → w .stage ≡ Due (Erase (suc j)) → Carried (erase (suc j * sectorSize) ∷ []) (target (w .beginning .active)) region hd rs im (withStage w (Due (writeDue (w .taken)))) u
+  erase-next : (j : ℕ) → w .stage ≡ Due (Erase (suc j)) → Carried (erase (suc j * sectorSize) ∷ []) (target (w .beginning .active)) region hd rs im (withStage w (Due (writeDue (w .contents)))) u
   erase-next j f =
-      let t = w .taken in
+      let t = w .contents in
       let a = w .beginning .active in
       let d = due-ok (w .beginning .comparing) t (Erase (suc j)) (stage-is (Due (Erase (suc j))) f) in
       let c = erase-mode (w .beginning .comparing) t (suc j) (d .1) in
@@ -167,21 +167,21 @@ module _ (region : List ℕ) (hd : Loaded) (rs : List Source) (im : Image) (w : 
       let b = bankOf region (target a) in
       let op = erase (suc j * sectorSize) in
       let h =
-      laid-erase t (w .tail) (u .data·) b (length-at region hd a rs im k (m .0) op) (m .1) (e .0) (position-fits t (own .taken)) (due-fill t (d .0)) (suc j * sectorSize)
+      laid-erase t (w .tail) (u .data·) b (length-at region hd a rs im k (m .0) op) (m .1) (e .0) (position-fits t (own .contents)) (due-fill t (d .0)) (suc j * sectorSize)
       (omega (arith, e .0, e .1)) in
       let r′ = applied (target a) op region in
       one-op (target a) region hd rs im (withStage w (Due (writeDue t))) u k op
       (λ i. kept-unmarked-at region hd a rs im k (m .0) op i
-      (later-unmarked 0 sectorSize (t .written) (t .fill) (w .tail) (u .data·) b (m .1) i op (omega arith) (omega (arith, length-at region hd a rs im k (m .0) op, e .0, e .1, position-fits t (own .taken), due-fill t (d .0)))))
+      (later-unmarked 0 sectorSize (t .written) (t .fill) (w .tail) (u .data·) b (m .1) i op (omega arith) (omega (arith, length-at region hd a rs im k (m .0) op, e .0, e .1, position-fits t (own .contents), due-fill t (d .0)))))
       (restage r′ (Due (writeDue t)) c (due-of false t (writeDue t) (d .0) (write-ok t)) (
         live-at region hd a rs im k (m .0) op,
         subst (Laid tailSize 4097 (t .written) (t .fill) (w .tail) (u .data·)) (sym (bank-at region hd a rs im k (m .0) op)) h,
       ))
 
-  write-tail : w .beginning .comparing ≡ false → w .stage ≡ Due (Write (w .taken .written) (w .taken .fill))
-      → Carried (write (sectorSize + w .taken .written) (padded (take (w .taken .fill) (w .tail))) ∷ []) (target (w .beginning .active)) region hd rs im (withEmptied w (w .taken .different)) u
+  write-tail : w .beginning .comparing ≡ false → w .stage ≡ Due (Write (w .contents .written) (w .contents .fill))
+      → Carried (write (sectorSize + w .contents .written) (padded (take (w .contents .fill) (w .tail))) ∷ []) (target (w .beginning .active)) region hd rs im (withEmptied w (w .contents .different)) u
   write-tail c f =
-      let t = w .taken in
+      let t = w .contents in
       let a = w .beginning .active in
       let d = due-ok (w .beginning .comparing) t (Write (t .written) (t .fill)) (stage-is (Due (Write (t .written) (t .fill))) f) in
       let m = seen false (Due (Write (t .written) (t .fill))) c f in
@@ -190,11 +190,11 @@ module _ (region : List ℕ) (hd : Loaded) (rs : List Source) (im : Image) (w : 
       let op = write (sectorSize + t .written) ws in
       let p = due-fill t (d .0) in
       let h =
-      laid-write t (w .tail) (u .data·) b (length-at region hd a rs im k (m .0) op) (m .1) (o .tied .tailed .bytes) (o .tied .tailed .length·) (fill-fits t (own .taken)) p in
+      laid-write t (w .tail) (u .data·) b (length-at region hd a rs im k (m .0) op) (m .1) (o .tied .tailed .bytes) (o .tied .tailed .length·) (fill-fits t (own .contents)) p in
       let r′ = applied (target a) op region in
       one-op (target a) region hd rs im (withEmptied w (t .different)) u k op
       (λ i. kept-unmarked-at region hd a rs im k (m .0) op i
-      (later-unmarked tailSize 4097 (t .written) (t .fill) (w .tail) (u .data·) b (m .1) i op (omega arith) (omega (arith, length-at region hd a rs im k (m .0) op, position-fits t (own .taken)))))
+      (later-unmarked tailSize 4097 (t .written) (t .fill) (w .tail) (u .data·) b (m .1) i op (omega arith) (omega (arith, length-at region hd a rs im k (m .0) op, position-fits t (own .contents)))))
       (empty r′ (t .different) (d .0)
       (subst (λ (x : Bool). Mode x Idle r′ hd a (emptied t (t .different)) (w .tail) u) (sym c) (
         live-at region hd a rs im k (m .0) op,
@@ -204,11 +204,11 @@ module _ (region : List ℕ) (hd : Loaded) (rs : List Source) (im : Image) (w : 
   compare-tail : (i n : ℕ) (c : Bool) → w .beginning .comparing ≡ c → w .stage ≡ Due (Compare i n) → (d : Bool) → Carried [] (target (w .beginning .active)) region hd rs im (withEmptied w d) u
   compare-tail i n false c f d = absurd (seen false (Due (Compare i n)) c f .1)
   compare-tail i n true c f d =
-      let q = due-ok (w .beginning .comparing) (w .taken) (Compare i n) (stage-is (Due (Compare i n)) f) in
+      let q = due-ok (w .beginning .comparing) (w .contents) (Compare i n) (stage-is (Due (Compare i n)) f) in
       no-ops (target (w .beginning .active)) region hd rs im (withEmptied w d) u k
-      (empty region d (q .0) (subst (λ (x : Bool). Mode x Idle region hd (w .beginning .active) (emptied (w .taken) d) (w .tail) u) (sym c) tt))
+      (empty region d (q .0) (subst (λ (x : Bool). Mode x Idle region hd (w .beginning .active) (emptied (w .contents) d) (w .tail) u) (sym c) tt))
 
-  write-mode : (c : Bool) (s : Taken) (i n : ℕ) → operationOk c s (Write i n) ≡ true → c ≡ false
+  write-mode : (c : Bool) (s : Contents) (i n : ℕ) → operationOk c s (Write i n) ≡ true → c ≡ false
   unfolding operationOk
   write-mode true s i n e = absurd (false≢true e)
   write-mode false s i n e = refl
@@ -218,13 +218,13 @@ module _ (region : List ℕ) (hd : Loaded) (rs : List Source) (im : Image) (w : 
   operation (Erase zero) f = erase-first f
   operation (Erase (suc j)) f = rw (ne-eqb (suc j) 0 (λ e. omega arith)) (erase-next j f)
   operation (Write i n) f =
-      let d = due-ok (w .beginning .comparing) (w .taken) (Write i n) (stage-is (Due (Write i n)) f) in
-      let c = write-mode (w .beginning .comparing) (w .taken) i n (d .1) in
-      let e = write-at (w .taken) i n (ap (λ (x : Bool). operationOk x (w .taken) (Write i n)) (sym c) ∙ d .1) in
-      let g : w .stage ≡ Due (Write (w .taken .written) (w .taken .fill)) = f ∙ (λ j. Due (Write (e .0 j) (e .1 j))) in
-      subst (λ (ops : List Op). Carried ops (target (w .beginning .active)) region hd rs im (withEmptied w (w .taken .different)) u)
+      let d = due-ok (w .beginning .comparing) (w .contents) (Write i n) (stage-is (Due (Write i n)) f) in
+      let c = write-mode (w .beginning .comparing) (w .contents) i n (d .1) in
+      let e = write-at (w .contents) i n (ap (λ (x : Bool). operationOk x (w .contents) (Write i n)) (sym c) ∙ d .1) in
+      let g : w .stage ≡ Due (Write (w .contents .written) (w .contents .fill)) = f ∙ (λ j. Due (Write (e .0 j) (e .1 j))) in
+      subst (λ (ops : List Op). Carried ops (target (w .beginning .active)) region hd rs im (withEmptied w (w .contents .different)) u)
       (λ j. write (sectorSize + sym (e .0) j) (padded (take (sym (e .1) j) (w .tail))) ∷ []) (write-tail c g)
-  operation (Compare i n) f = compare-tail i n (w .beginning .comparing) refl f (w .taken .different || differs region (w .beginning .active) (w .taken) (w .tail))
+  operation (Compare i n) f = compare-tail i n (w .beginning .comparing) refl f (w .contents .different || differs region (w .beginning .active) (w .contents) (w .tail))
 
   on-stage : (st : Stage) → w .stage ≡ st → Carried (opsOf (w .tail) st) (target (w .beginning .active)) region hd rs im (stepOf region w st .writer) u
   on-stage Idle f = no-ops (target (w .beginning .active)) region hd rs im w u k o

@@ -46,7 +46,7 @@ use Rattle.powerloss.proofs.Count.{soFar, Tally, TallyOf, same-tally, c
 ran-tally : (cs : List Lower) (region : List ℕ) (hd : Loaded) (rs : List Source) (im : Image) (w : Writer) (u : Update) → AllPlain cs → Kept region hd rs im → Open region hd w u
     → (ops m : ℕ) → TallyOf ops w → m ≡ ops + length (ranOps region w cs) → TallyOf m (ranWriter region w cs)
 unfolding ranOps ranWriter
-ran-tally [] region hd rs im w u p k o ops m h q = same-tally (w .beginning .comparing) (w .stage) (w .taken .written) ops m q h
+ran-tally [] region hd rs im w u p k o ops m h q = same-tally (w .beginning .comparing) (w .stage) (w .contents .written) ops m q h
 ran-tally (c ∷ cs) region hd rs im w u p k o ops m h q =
     let z = plain-call region hd rs im w u k o c (p .0) in
     let r = lowerRegion region w c in
@@ -114,7 +114,7 @@ module _ (region : List ℕ) (hd : Loaded) (rs : List Source) (v : Option Update
   upper-by c p w u k o h none =
       ran-tally (runOf c) region hd rs im w u (plain-run c p) k o (length ops) (length (ops ++ ranOps region w (runOf c))) h (length-append ops (ranOps region w (runOf c)))
   upper-by c p w u k o h (some r) =
-      same-tally (w .beginning .comparing) (w .stage) (w .taken .written) (length ops) (length (ops ++ [])) (length-append ops []) h
+      same-tally (w .beginning .comparing) (w .stage) (w .contents .written) (length ops) (length (ops ++ [])) (length-append ops []) h
 
   upper-tally : (c : Upper) → UpperTyped c → (s : Option Writer) → Inv (mk region s hd rs v im) → TallyIn s (length ops) → TallyIn (onUpper c (mk region s hd rs v im) s .state) (length (ops ++ upperCallOps region s c))
   unfolding onUpper upperStep upperOps upperRun
@@ -171,16 +171,16 @@ count-is n ops h e =
     let one : min n 1 ≡ 1 = omega arith in
     as-claimed n ops (e ∙ ap (λ (x : ℕ). x + sectors n + writes n + 2) one)
 
-counted : (w : Writer) (ops : ℕ) → inRange w ≡ true → w .stage ≡ Committed → TallyOf ops w → Counted (position (w .taken)) ops
+counted : (w : Writer) (ops : ℕ) → inRange w ≡ true → w .stage ≡ Committed → TallyOf ops w → Counted (position (w .contents)) ops
 counted w ops r e h =
     let c = w .beginning .comparing in
-    let k = committed-end c (w .taken) (ap (stageOk c (w .taken)) (sym e) ∙ ranged w r .stage) in
-    let g = subst (λ (x : Bool). Tally x Committed (w .taken .written) ops) (k .writing) (subst (λ (s : Stage). Tally c s (w .taken .written) ops) e h) in
-    let n : w .taken .written ≡ position (w .taken) = omega (arith, k .empty) in
-    subst (λ (x : ℕ). Counted x ops) n (record { some· = g .1; count = count-is (w .taken .written) ops (g .1) (g .0) })
+    let k = committed-end c (w .contents) (ap (stageOk c (w .contents)) (sym e) ∙ ranged w r .stage) in
+    let g = subst (λ (x : Bool). Tally x Committed (w .contents .written) ops) (k .writing) (subst (λ (s : Stage). Tally c s (w .contents .written) ops) e h) in
+    let n : w .contents .written ≡ position (w .contents) = omega (arith, k .empty) in
+    subst (λ (x : ℕ). Counted x ops) n (record { some· = g .1; count = count-is (w .contents .written) ops (g .1) (g .0) })
 
-taken-length : (region : List ℕ) (hd : Loaded) (w : Writer) (u : Update) (s : Option Writer) (v : Option Update) → State region hd s v → s ≡ some w → v ≡ some u → length (u .data·) ≡ position (w .taken)
-taken-length region hd w u s v o e f =
+contents-length : (region : List ℕ) (hd : Loaded) (w : Writer) (u : Update) (s : Option Writer) (v : Option Update) → State region hd s v → s ≡ some w → v ≡ some u → length (u .data·) ≡ position (w .contents)
+contents-length region hd w u s v o e f =
     let z : State region hd (some w) (some u) = subst (State region hd (some w)) f (subst (λ (x : Option Writer). State region hd x v) e o) in
     z .tied .counted .length·
 
@@ -189,13 +189,13 @@ committed-operations region events l y p w u e f g =
     let r = nextAll (found region) events in
     let ops = length (opsAfter (found region) [] events) in
     let i = inv-all events (found region) p (inv-found region l y) in
-    let n = taken-length (r .region) (r .history .held) w u (r .state) (r .history .open·) (i .open·) e f in
+    let n = contents-length (r .region) (r .history .held) w u (r .state) (r .history .open·) (i .open·) e f in
     subst (λ (x : ℕ). Counted x ops) (sym n) (counted w ops (reached region events l y p w e) g (tally-found region events l y p w e))
 
 pub comparing-operations : ComparingOperations
 comparing-operations region events l y p w e c =
     let ops = length (opsAfter (found region) [] events) in
-    subst (λ (x : Bool). Tally x (w .stage) (w .taken .written) ops) c (tally-found region events l y p w e)
+    subst (λ (x : Bool). Tally x (w .stage) (w .contents .written) ops) c (tally-found region events l y p w e)
 
 -- ---- a list of lower calls
 
@@ -211,7 +211,7 @@ calls-tally : (cs : List Lower) (region : List ℕ) (w : Writer) (hd : Loaded) (
     → (ops m : ℕ) → TallyOf ops w → m ≡ ops + length (ranOps region w cs) → Ended m (ranWriter region w cs)
 unfolding ranOps ranWriter
 calls-tally [] region w hd rs v im p i ops m h q =
-    record { tally = same-tally (w .beginning .comparing) (w .stage) (w .taken .written) ops m q h; range = state-range region hd w v (i .open·) }
+    record { tally = same-tally (w .beginning .comparing) (w .stage) (w .contents .written) ops m q h; range = state-range region hd w v (i .open·) }
 calls-tally (c ∷ cs) region w hd rs v im p i ops m h q =
     let r = onCall c (mk region (some w) hd rs v im) (some w) in
     let r′ = lowerRegion region w c in

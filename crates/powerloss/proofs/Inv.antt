@@ -30,7 +30,7 @@ use Rattle.writer.specs.declared.Operation.the-variants.{Erase, Write, Compare}
 use Rattle.writer.specs.declared.Stage.{Stage}
 use Rattle.writer.specs.declared.Stage.the-variants.{Idle, Due, HeaderWritten, Committed}
 use Rattle.writer.specs.declared.Beginning.{Beginning}
-use Rattle.writer.specs.declared.Taken.{Taken}
+use Rattle.writer.specs.declared.Contents.{Contents}
 use Rattle.writer.specs.declared.Tables.{Tables}
 use Rattle.writer.specs.declared.Writer.{Writer}
 use Rattle.writer.specs.State.{position, target, nextGeneration, isOpen, inRange, tailSize}
@@ -68,7 +68,7 @@ pub record Began (b : Beginning) (n g : ℕ) (t : ℤ) : Type 0 where
   pub now : t ≡ b .now
   pub fits : SFits w64 (b .now)
 
-pub record Counted (t : Taken) (d : List ℕ) : Type 0 where
+pub record Counted (t : Contents) (d : List ℕ) : Type 0 where
   pub length· : length d ≡ position t
   pub crc : t .crc ≡ crc32 0 d
 
@@ -90,7 +90,7 @@ pub record Tailed (tail : List ℕ) : Type 0 where
 pub record Tied (w : Writer) (u : Update) : Type 0 where
   pub range : inRange w ≡ true
   pub began : Began (w .beginning) (u .number) (u .generation) (u .now)
-  pub counted : Counted (w .taken) (u .data·)
+  pub counted : Counted (w .contents) (u .data·)
   pub noted : Noted (w .tables) (w .sources) (u .data·) (u .notes)
   pub tailed : Tailed (w .tail)
 
@@ -121,7 +121,7 @@ pub record HeaderLies (u : Update) (b : List ℕ) : Type 0 where
   pub numbers : Numbers (bankOfUpdate u)
   pub proper : All Proper (recordsOf u)
 
-abbrev pub Lies : Stage → Taken → List ℕ → Update → List ℕ → Type 0
+abbrev pub Lies : Stage → Contents → List ℕ → Update → List ℕ → Type 0
 Lies Idle t tail u b = Bare (t .written) (t .fill) tail (u .data·) ⊎ (Laid 0 sectorSize (t .written) (t .fill) tail (u .data·) b × (0 < t .written))
 Lies (Due (Erase zero)) t tail u b = Bare (t .written) (t .fill) tail (u .data·)
 Lies (Due (Erase (suc k))) t tail u b = Laid 0 sectorSize (t .written) (t .fill) tail (u .data·) b
@@ -137,13 +137,13 @@ LiveAt (Due o) region hd active = Live region hd active
 LiveAt HeaderWritten region hd active = Live region hd active
 
 -- in writing mode; comparing does nothing to the region
-abbrev pub Mode : Bool → Stage → List ℕ → Loaded → Loaded → Taken → List ℕ → Update → Type 0
+abbrev pub Mode : Bool → Stage → List ℕ → Loaded → Loaded → Contents → List ℕ → Update → Type 0
 Mode true st region hd active t tail u = Unit {0}
 Mode false st region hd active t tail u = LiveAt st region hd active × Lies st t tail u (bankOf region (target active))
 
 pub record Open (region : List ℕ) (hd : Loaded) (w : Writer) (u : Update) : Type 0 where
   pub tied : Tied w u
-  pub mode : Mode (w .beginning .comparing) (w .stage) region hd (w .beginning .active) (w .taken) (w .tail) u
+  pub mode : Mode (w .beginning .comparing) (w .stage) region hd (w .beginning .active) (w .contents) (w .tail) u
 
 -- without a state nothing is required; with one an update is open
 abbrev pub State : List ℕ → Loaded → Option Writer → Option Update → Type 0

@@ -19,7 +19,7 @@ use Rattle.header.specs.Types.{Bytes, Proper}
 use Rattle.header.proofs.WriteLaws.{unmarked, no-magic, blank-47, length-header, bytes-header, bytes-blank-word, length-blank-word, length-commit-bytes, bytes-commit-bytes, bytes-append, header-split, topBytes, length-top}
 use Rattle.flash.specs.Flash.{Op, erase, write, offset, done}
 use Rattle.flash.proofs.Laws.{done-before, write-leaves-255, erase-over, write-over}
-use Rattle.writer.specs.declared.Taken.{Taken}
+use Rattle.writer.specs.declared.Contents.{Contents}
 use Rattle.due.specs.Due.{padded}
 use Rattle.powerloss.proofs.Bytes.{bytes-take, bytes-fill}
 use Rattle.powerloss.proofs.Inv.{Bare, Laid}
@@ -52,7 +52,7 @@ head-unmarked lo hi wr fl tail d b h j k ss =
     (write-leaves-255 j 0 47 (headerBytes k ss blankWord) b zero-le (blank-47 k ss) (laid-blank lo hi wr fl tail d b h 47 (omega arith)))
 
 -- the header sector's erase
-pub bare-erase : (t : Taken) (tail d b : List ℕ) → Bare (t .written) (t .fill) tail d → length b ≡ bankSize → Laid 0 sectorSize (t .written) (t .fill) tail d (done sectorSize (erase 0) b)
+pub bare-erase : (t : Contents) (tail d b : List ℕ) → Bare (t .written) (t .fill) tail d → length b ≡ bankSize → Laid 0 sectorSize (t .written) (t .fill) tail d (done sectorSize (erase 0) b)
 bare-erase t tail d b f l =
     let e : done sectorSize (erase 0) b ≡ fill 255 sectorSize ++ drop sectorSize b =
     ap (λ (x : List ℕ). done sectorSize (erase 0) x) (sym (take-append-drop sectorSize b)) ∙ erase-over [] (take sectorSize b) (drop sectorSize b) 0 refl (length-take-le sectorSize b (omega arith)) in
@@ -68,7 +68,7 @@ bare-erase t tail d b f l =
       most = omega arith;
     }
 
-module _ (t : Taken) (tail d b : List ℕ) (l : length b ≡ bankSize) where
+module _ (t : Contents) (tail d b : List ℕ) (l : length b ≡ bankSize) where
   -- a data sector's erase
   module _ (h : Laid 0 sectorSize (t .written) (t .fill) tail d b) (z : t .written % sectorSize ≡ 0) (f : t .written + t .fill ≤ capacity) (p : 0 < t .fill) where
     pre : List ℕ
@@ -199,7 +199,7 @@ module _ (t : Taken) (tail d b : List ℕ) (l : length b ≡ bankSize) where
 -- ---- the header
 
 module _ (k : Bank) (ss : List Source) (ps : All Proper ss) (n : length ss ≤ 3) where
-  pub header-write : (t : Taken) (tail d b : List ℕ) → Laid 0 sectorSize (t .written) (t .fill) tail d b → t .fill ≡ 0 → (rest : List ℕ)
+  pub header-write : (t : Contents) (tail d b : List ℕ) → Laid 0 sectorSize (t .written) (t .fill) tail d b → t .fill ≡ 0 → (rest : List ℕ)
       × (done (length (headerBytes k ss blankWord)) (write 0 (headerBytes k ss blankWord)) b ≡ headerBytes k ss blankWord ++ (fill 255 2896 ++ (d ++ rest)))
   header-write t tail d b h z =
       let hw = headerBytes k ss blankWord in

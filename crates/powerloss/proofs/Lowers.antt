@@ -32,7 +32,7 @@ use Rattle.writer.specs.declared.Stage.the-variants.{Committed}
 use Rattle.writer.specs.declared.Answer.{Answer}
 use Rattle.writer.specs.declared.Answer.the-variants.{Done, Appended, NoneDue, Same, Different, Refused}
 use Rattle.writer.specs.declared.Writer.{Writer}
-use Rattle.writer.specs.State.{isDue, target, activeOk, takenOk, stageOk, did, stays, tailSize}
+use Rattle.writer.specs.State.{isDue, target, activeOk, contentsOk, stageOk, did, stays, tailSize}
 use Rattle.lower.specs.Lower.{started, begun, answerOf}
 use Rattle.due.specs.Due.{withStage}
 use Rattle.commit.specs.Commit.{isHeaderWritten, wordStep, wordOps}
@@ -206,14 +206,14 @@ inv-cut c i j region (some w) hd rs (some u) im p h = inv-lower-cut region hd rs
 -- ---- a beginning
 
 begin-mode : (c : Bool) (region : List ℕ) (hd : Loaded) (now : ℤ) → length region ≡ regionSize → loaded region ≡ hd
-    → Mode c (started hd c now .stage) region hd (started hd c now .beginning .active) (started hd c now .taken) (started hd c now .tail) (takes [] (opened hd now))
+    → Mode c (started hd c now .stage) region hd (started hd c now .beginning .active) (started hd c now .contents) (started hd c now .tail) (takes [] (opened hd now))
 unfolding started opened
 begin-mode true region hd now l e = tt
 begin-mode false region hd now l e = (record { active = refl; other = other-held region hd l e }, inl (record { written = refl; all = refl }))
 
 begin-open : (region : List ℕ) (hd : Loaded) (c : Bool) (now : ℤ) → SFits w64 now → length region ≡ regionSize → loaded region ≡ hd → activeOk hd ≡ true
     → Open region hd (started hd c now) (takes [] (opened hd now))
-unfolding started opened takenOk stageOk isDue recordsAfter All
+unfolding started opened contentsOk stageOk isDue recordsAfter All
 begin-open region hd c now f l e ok =
     record {
       tied =

@@ -29,7 +29,7 @@ use Rattle.writer.specs.declared.Operation.the-variants.{Erase, Write, Compare}
 use Rattle.writer.specs.declared.Stage.{Stage}
 use Rattle.writer.specs.declared.Stage.the-variants.{Idle, Due, HeaderWritten, Committed}
 use Rattle.writer.specs.declared.Answer.the-variants.{Same, Different}
-use Rattle.writer.specs.declared.Taken.{Taken}
+use Rattle.writer.specs.declared.Contents.{Contents}
 use Rattle.writer.specs.declared.Writer.{Writer}
 use Rattle.writer.specs.State.{position, isDue, writeDue, dataDue, firstDue, stageOf, isOpen, noTable, inRange, stageOk, did, stays, tailSize}
 use Rattle.writer.proofs.Laws.{Ranged, ranged, position-fits, count-fits, open-table}
@@ -97,7 +97,7 @@ proper-last rs t b h k q =
 
 -- ---- stages that may append
 
-no-head : (c : Bool) (t : Taken) (n : Note) (u : Update) (tail b : List ℕ) (st : Stage) → t .closed ≡ false → stageOk c t st ≡ true → Lies st t tail u b → Lies st t tail (notesOf n u) b
+no-head : (c : Bool) (t : Contents) (n : Note) (u : Update) (tail b : List ℕ) (st : Stage) → t .closed ≡ false → stageOk c t st ≡ true → Lies st t tail u b → Lies st t tail (notesOf n u) b
 no-head c t n u tail b Idle e k h = h
 no-head c t n u tail b (Due (Erase zero)) e k h = h
 no-head c t n u tail b (Due (Erase (suc j))) e k h = h
@@ -106,19 +106,19 @@ no-head c t n u tail b (Due (Compare i j)) e k h = h
 no-head c t n u tail b HeaderWritten e k h = true-false (t .closed) (headed-end c t k .closed) e
 no-head c t n u tail b Committed e k h = h
 
-mode-noted : (c : Bool) (st : Stage) (region : List ℕ) (hd active : Loaded) (t : Taken) (tail : List ℕ) (n : Note) (u : Update) → t .closed ≡ false → stageOk c t st ≡ true
+mode-noted : (c : Bool) (st : Stage) (region : List ℕ) (hd active : Loaded) (t : Contents) (tail : List ℕ) (n : Note) (u : Update) → t .closed ≡ false → stageOk c t st ≡ true
     → Mode c st region hd active t tail u → Mode c st region hd active t tail (notesOf n u)
 mode-noted true st region hd active t tail n u e k h = h
 mode-noted false st region hd active t tail n u e k h = (h .0, no-head false t n u tail _ st e k (h .1))
 
-pub only-idle : (c : Bool) (t : Taken) (st : Stage) → stageOk c t st ≡ true → t .closed ≡ false → isDue t ≡ false → st ≡ Idle
+pub only-idle : (c : Bool) (t : Contents) (st : Stage) → stageOk c t st ≡ true → t .closed ≡ false → isDue t ≡ false → st ≡ Idle
 only-idle c t Idle k e d = refl
 only-idle c t (Due o) k e d = true-false (isDue t) (due-ok c t o k .0) d
 only-idle c t HeaderWritten k e d = true-false (t .closed) (headed-end c t k .closed) e
 only-idle c t Committed k e d = true-false (t .closed) (committed-end c t k .closed) e
 
 -- what is due then, if nothing was due
-module _ (t : Taken) (tail : List ℕ) (u : Update) (b : List ℕ) (m : t .written % tailSize ≡ 0) where
+module _ (t : Contents) (tail : List ℕ) (u : Update) (b : List ℕ) (m : t .written % tailSize ≡ 0) where
   pub data-lies : Laid 0 sectorSize (t .written) (t .fill) tail (u .data·) b → (z : Bool) → eqb (t .written % sectorSize) 0 ≡ z → Lies (Due (pick z (Erase (t .written / sectorSize + 1)) (writeDue t))) t tail u b
   data-lies h true e = subst (λ (k : ℕ). Lies (Due (Erase k)) t tail u b) (sym (add-one (t .written / sectorSize))) h
   data-lies h false e =
@@ -148,7 +148,7 @@ module _ (t : Taken) (tail : List ℕ) (u : Update) (b : List ℕ) (m : t .writt
   stage-lies region hd active v h true = (v, first-lies h (eqb (t .written) 0) refl)
   stage-lies region hd active v h false = (v, h)
 
-pub mode-stage : (c : Bool) (region : List ℕ) (hd active : Loaded) (t : Taken) (tail : List ℕ) (u : Update) → t .written % tailSize ≡ 0 → Mode c Idle region hd active t tail u
+pub mode-stage : (c : Bool) (region : List ℕ) (hd active : Loaded) (t : Contents) (tail : List ℕ) (u : Update) → t .written % tailSize ≡ 0 → Mode c Idle region hd active t tail u
     → Mode c (stageOf c t) region hd active t tail u
 unfolding stageOf
 mode-stage true region hd active t tail u m h = tt
@@ -162,17 +162,17 @@ module _ (region : List ℕ) (hd : Loaded) (w : Writer) (u : Update) (o : Open r
   own = ranged w (o .tied .range)
 
   count-small : w .tables .count ≤ maxSources
-  count-small = count-fits (position (w .taken)) (w .tables) (own .tables)
+  count-small = count-fits (position (w .contents)) (w .tables) (own .tables)
 
-  may-open : mayAppend w ≡ true → w .taken .closed ≡ false
-  may-open e = not-true (w .taken .closed) (and-right (inRange w) (not (w .taken .closed)) e)
+  may-open : mayAppend w ≡ true → w .contents .closed ≡ false
+  may-open e = not-true (w .contents .closed) (and-right (inRange w) (not (w .contents .closed)) e)
 
-  noted-mode : (n : Note) → w .taken .closed ≡ false → Mode (w .beginning .comparing) (w .stage) region hd (w .beginning .active) (w .taken) (w .tail) (notesOf n u)
-  noted-mode n e = mode-noted (w .beginning .comparing) (w .stage) region hd (w .beginning .active) (w .taken) (w .tail) n u e (own .stage) (o .mode)
+  noted-mode : (n : Note) → w .contents .closed ≡ false → Mode (w .beginning .comparing) (w .stage) region hd (w .beginning .active) (w .contents) (w .tail) (notesOf n u)
+  noted-mode n e = mode-noted (w .beginning .comparing) (w .stage) region hd (w .beginning .active) (w .contents) (w .tail) n u e (own .stage) (o .mode)
 
   -- ---- source
 
-  pub with-source : (s : Source) → Proper s → w .taken .closed ≡ false → w .tables .count < maxSources → Open region hd (withSource w s) (notesOf (sourceNote s) u)
+  pub with-source : (s : Source) → Proper s → w .contents .closed ≡ false → w .tables .count < maxSources → Open region hd (withSource w s) (notesOf (sourceNote s) u)
   unfolding withSource
   with-source s p e h =
       let q = o .tied .noted in
@@ -181,8 +181,8 @@ module _ (region : List ℕ) (hd : Loaded) (w : Writer) (u : Update) (o : Open r
         tied =
             record {
               range =
-                  range-of (withSource w s) (own .active) (own .taken)
-                  (tables-none (position (w .taken)) (record { count = w .tables .count + 1; table = noTable; start = w .tables .start; crc = w .tables .crc; begun = 0 }) (omega arith) refl)
+                  range-of (withSource w s) (own .active) (own .contents)
+                  (tables-none (position (w .contents)) (record { count = w .tables .count + 1; table = noTable; start = w .tables .start; crc = w .tables .crc; begun = 0 }) (omega arith) refl)
                   (own .stage);
               began = o .tied .began;
               counted = o .tied .counted;
@@ -212,7 +212,7 @@ module _ (region : List ℕ) (hd : Loaded) (w : Writer) (u : Update) (o : Open r
 
   -- ---- table
 
-  pub with-table : (t : ℕ) → w .taken .closed ≡ false → t ≤ 7 → 1 ≤ w .tables .count → Open region hd (withTable w t) (notesOf (tableNote t (length (u .data·))) u)
+  pub with-table : (t : ℕ) → w .contents .closed ≡ false → t ≤ 7 → 1 ≤ w .tables .count → Open region hd (withTable w t) (notesOf (tableNote t (length (u .data·))) u)
   unfolding withTable
   with-table t e h c =
       let q = o .tied .noted in
@@ -222,8 +222,8 @@ module _ (region : List ℕ) (hd : Loaded) (w : Writer) (u : Update) (o : Open r
         tied =
             record {
               range =
-                  range-of (withTable w t) (own .active) (own .taken)
-                  (tables-open (position (w .taken)) (withTable w t .tables) count-small h c (omega arith))
+                  range-of (withTable w t) (own .active) (own .contents)
+                  (tables-open (position (w .contents)) (withTable w t .tables) count-small h c (omega arith))
                   (own .stage);
               began = o .tied .began;
               counted = o .tied .counted;
@@ -263,8 +263,8 @@ module _ (region : List ℕ) (hd : Loaded) (w : Writer) (u : Update) (o : Open r
 
   block-fits : isOpen (w .tables) ≡ true → Block32 (blockOf w)
   block-fits f =
-      let k = open-table (position (w .taken)) (w .tables) (own .tables) f in
-      let p = position-fits (w .taken) (own .taken) in
+      let k = open-table (position (w .contents)) (w .tables) (own .tables) f in
+      let p = position-fits (w .contents) (own .contents) in
       record {
         offset = omega (arith, k .2);
         length = omega arith;
@@ -277,7 +277,7 @@ module _ (region : List ℕ) (hd : Loaded) (w : Writer) (u : Update) (o : Open r
       let q = o .tied .noted in
       let d = u .data· in
       let l = o .tied .counted .length· in
-      let k = open-table (position (w .taken)) (w .tables) (own .tables) f in
+      let k = open-table (position (w .contents)) (w .tables) (own .tables) f in
       let p = q .table f in
       let b : blockBetween (d ++ ys) (w .tables .start) (length d) ≡ blockOf w =
       block-is d ys (w .tables .start) (omega (arith, k .2))
@@ -286,20 +286,20 @@ module _ (region : List ℕ) (hd : Loaded) (w : Writer) (u : Update) (o : Open r
       ∙ (λ i. lastWith (q .records ys i) (p .table i) (blockBetween (d ++ ys) (p .start i) (length d)))
       ∙ ap (lastWith (take (w .tables .count) (w .sources)) (w .tables .table)) b
 
-  pub with-end : w .taken .closed ≡ false → isOpen (w .tables) ≡ true → Open region hd (withEnd w) (notesOf (endNote (length (u .data·))) u)
+  pub with-end : w .contents .closed ≡ false → isOpen (w .tables) ≡ true → Open region hd (withEnd w) (notesOf (endNote (length (u .data·))) u)
   unfolding withEnd
   with-end e f =
       let q = o .tied .noted in
       let d = u .data· in
       let n = w .tables .count in
-      let k = open-table (position (w .taken)) (w .tables) (own .tables) f in
+      let k = open-table (position (w .contents)) (w .tables) (own .tables) f in
       let c = count-small in
       let ls = last-source (w .sources) n (w .tables .table) (blockOf w) (k .1) (omega (arith, q .sources)) in
       record {
         tied =
             record {
               range =
-                  range-of (withEnd w) (own .active) (own .taken) (tables-none (position (w .taken)) (withEnd w .tables) count-small refl) (own .stage);
+                  range-of (withEnd w) (own .active) (own .contents) (tables-none (position (w .contents)) (withEnd w .tables) count-small refl) (own .stage);
               began = o .tied .began;
               counted = o .tied .counted;
               noted =

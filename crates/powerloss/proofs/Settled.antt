@@ -30,8 +30,8 @@ use Rattle.powerloss.proofs.Uppers.{done-by, inv-found, inv-all}
 use Rattle.powerloss.specs.Operations.{BeginSettled}
 
 -- nothing is due after bytes are appended, each with what is due then
-appends-still : (hd : Loaded) (rs : List Source) (im : Image) (xs region : List ℕ) (w : Writer) (u : Update) → Now hd rs im region w u → isDue (w .taken) ≡ false → Bytes xs
-    → isDue (ranWriter region w (appends xs) .taken) ≡ false
+appends-still : (hd : Loaded) (rs : List Source) (im : Image) (xs region : List ℕ) (w : Writer) (u : Update) → Now hd rs im region w u → isDue (w .contents) ≡ false → Bytes xs
+    → isDue (ranWriter region w (appends xs) .contents) ≡ false
 unfolding appends ranWriter
 appends-still hd rs im [] region w u h d b = d
 appends-still hd rs im (x ∷ xs) region w u h d b =
@@ -43,18 +43,18 @@ appends-still hd rs im (x ∷ xs) region w u h d b =
     let t = three hd rs im r (s .writer) v (record { kept = z .whole; open· = z .open· }) in
     appends-still hd rs im xs (regionThree r (s .writer)) (writerThree r (s .writer)) v (t .now) (t .still) (λ k. b (suc k))
 
-first-still : (hd : Loaded) (comparing : Bool) (now : ℤ) → isDue (started hd comparing now .taken) ≡ false
+first-still : (hd : Loaded) (comparing : Bool) (now : ℤ) → isDue (started hd comparing now .contents) ≡ false
 unfolding started isDue
 first-still hd comparing now = refl
 
 -- a refused beginning isn't answered
-answered-still : (x : Option Refusal) (w : Writer) (comparing : Bool) (now : ℤ) → (x ≡ none → isDue (w .taken) ≡ false) → beganWith x w comparing now .answer ≡ Done
-    → isDue (beganWith x w comparing now .writer .taken) ≡ false
+answered-still : (x : Option Refusal) (w : Writer) (comparing : Bool) (now : ℤ) → (x ≡ none → isDue (w .contents) ≡ false) → beganWith x w comparing now .answer ≡ Done
+    → isDue (beganWith x w comparing now .writer .contents) ≡ false
 answered-still none w comparing now f e = f refl
 answered-still (some r) w comparing now f e = absurd (false≢true (ap isDone e))
 
 begin-at : (region : List ℕ) (hd : Loaded) (rs : List Source) (im : Image) → Kept region hd rs im → (comparing : Bool) (now : ℤ) (identity texts lengths : List ℕ) → SFits w64 now → Bytes identity → Bytes texts
-    → beginStep region comparing now identity texts lengths .answer ≡ Done → isDue (beginStep region comparing now identity texts lengths .writer .taken) ≡ false
+    → beginStep region comparing now identity texts lengths .answer ≡ Done → isDue (beginStep region comparing now identity texts lengths .writer .contents) ≡ false
 unfolding beginStep beginRun
 begin-at region hd rs im k comparing now identity texts lengths f bi bt =
     let o = begun-open region hd rs im comparing now f k (done-by region hd (k .size) (k .loads)) in

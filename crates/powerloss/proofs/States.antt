@@ -66,12 +66,12 @@ ran-append [] ys region w = refl
 ran-append (x ∷ xs) ys region w = ran-append xs ys _ _
 
 module _ (hd : Loaded) (rs : List Source) (im : Image) (region : List ℕ) (w : Writer) (u : Update) (k : Kept region hd rs im) (o : Open region hd w u) where
-  still-after : (cs : List Lower) → Ends cs → isDue (ranWriter region w cs .taken) ≡ false
+  still-after : (cs : List Lower) → Ends cs → isDue (ranWriter region w cs .contents) ≡ false
   still-after cs e =
       let z = ran (e .first) region hd rs im w u (e .plain) k o in
       let t = three hd rs im (ranRegion region w (e .first)) (ranWriter region w (e .first)) _ (record { kept = z .whole; open· = z .open· }) in
-      ap (λ (x : List Lower). isDue (ranWriter region w x .taken)) (e .is)
-      ∙ ap (λ (x : Writer). isDue (x .taken)) (ran-append (e .first) dues region w)
+      ap (λ (x : List Lower). isDue (ranWriter region w x .contents)) (e .is)
+      ∙ ap (λ (x : Writer). isDue (x .contents)) (ran-append (e .first) dues region w)
       ∙ unfold ranWriter in (t .still)
 
   run-ends : (c : Upper) → UpperTyped c → Ends (runOf c)
@@ -80,16 +80,16 @@ module _ (hd : Loaded) (rs : List Source) (im : Image) (region : List ℕ) (w : 
       subst Ends (append-assoc dues (lowerOf c) (dues ++ appends (appendedBytes c)))
       (ends (dues ++ lowerOf c) (appendedBytes c) (plain-append dues (lowerOf c) plain-dues (plain-lower c p)) (bytes-appended c p))
 
-  settled-by : (c : Upper) → UpperTyped c → (x : Option Refusal) → answered x (ranWriter region w (runIf x (runOf c))) .answer ≡ Done → isDue (answered x (ranWriter region w (runIf x (runOf c))) .writer .taken) ≡ false
+  settled-by : (c : Upper) → UpperTyped c → (x : Option Refusal) → answered x (ranWriter region w (runIf x (runOf c))) .answer ≡ Done → isDue (answered x (ranWriter region w (runIf x (runOf c))) .writer .contents) ≡ false
   settled-by c p none e = still-after (runOf c) (run-ends c p)
   settled-by c p (some r) e = absurd (false≢true (ap isDone e))
 
-  settled-at : (c : Upper) → UpperTyped c → upperStep region w c .answer ≡ Done → isDue (upperStep region w c .writer .taken) ≡ false
+  settled-at : (c : Upper) → UpperTyped c → upperStep region w c .answer ≡ Done → isDue (upperStep region w c .writer .contents) ≡ false
   unfolding upperStep upperRun
   settled-at c p e = settled-by c p (refusalOf region w c) e
 
 settled-in : (region : List ℕ) (hd : Loaded) (rs : List Source) (im : Image) (s : Option Writer) (v : Option Update) (w : Writer) → Kept region hd rs im → State region hd s v → s ≡ some w
-    → (c : Upper) → UpperTyped c → upperStep region w c .answer ≡ Done → isDue (upperStep region w c .writer .taken) ≡ false
+    → (c : Upper) → UpperTyped c → upperStep region w c .answer ≡ Done → isDue (upperStep region w c .writer .contents) ≡ false
 settled-in region hd rs im none v w k o e = absurd (false≢true (ap isState e))
 settled-in region hd rs im (some x) none w k o e = absurd o
 settled-in region hd rs im (some x) (some u) w k o e = settled-at hd rs im region w u k (subst (λ (y : Writer). Open region hd y u) (ap (stateOr w) e) o)

@@ -22,18 +22,18 @@ use Rattle.writer.specs.declared.Stage.{Stage}
 use Rattle.writer.specs.declared.Stage.the-variants.{Idle, Due, HeaderWritten, Committed}
 use Rattle.writer.specs.declared.Operation.the-variants.{Erase, Write, Compare}
 use Rattle.writer.specs.declared.Answer.the-variants.{Appended}
-use Rattle.writer.specs.declared.Taken.{Taken}
+use Rattle.writer.specs.declared.Contents.{Contents}
 use Rattle.writer.specs.declared.Tables.{Tables}
 use Rattle.writer.specs.declared.Writer.{Writer}
 use Rattle.writer.specs.declared.Step.{Step}
 use Rattle.writer.specs.State.{position, isDue, stageOf, isOpen, inRange, tablesOk, stageOk, did, stays, tailSize}
 use Rattle.writer.proofs.Laws.{Ranged, ranged, fill-fits, open-table}
-use Rattle.lower.specs.Lower.{mayAppend, accepted, takenMore, withBytes, appended, bytesStep, closedTaken, withClosed, closeStep}
+use Rattle.lower.specs.Lower.{mayAppend, accepted, moreContents, withBytes, appended, bytesStep, closedContents, withClosed, closeStep}
 use Rattle.run.specs.Run.{bytes, close}
 use Rattle.powerloss.specs.History.{Update, recordsAfter, takes, updateAfter}
 use Rattle.powerloss.proofs.Bytes.{bytes-take, bytes-sets}
 use Rattle.powerloss.proofs.Inv.{Lies, Mode, Open}
-use Rattle.powerloss.proofs.Range.{range-of, open-aligned, taken-of, aligned-of, stage-ok, close-stage, close-taken, tables-later}
+use Rattle.powerloss.proofs.Range.{range-of, open-aligned, contents-of, aligned-of, stage-ok, close-stage, close-contents, tables-later}
 use Rattle.powerloss.proofs.Quiet.{only-idle, mode-stage, takes-nil}
 
 -- the tail once bytes are appended to what it holds
@@ -43,7 +43,7 @@ tail-more tail n ys h =
     ap (take (n + length ys)) (sets-eq ys tail n h)
     ∙ take-at (take n tail ++ ys) (drop (n + length ys) tail) (n + length ys) l
 
-idle-more : (t : Taken) (tail : List ℕ) (u : Update) (b ys : List ℕ) → t .fill + length ys ≤ length tail → Lies Idle t tail u b → Lies Idle (takenMore t ys) (sets tail (t .fill) ys) (takes ys u) b
+idle-more : (t : Contents) (tail : List ℕ) (u : Update) (b ys : List ℕ) → t .fill + length ys ≤ length tail → Lies Idle t tail u b → Lies Idle (moreContents t ys) (sets tail (t .fill) ys) (takes ys u) b
 idle-more t tail u b ys l (inl f) =
     inl (record { written = f .written; all = ap (λ (x : List ℕ). x ++ ys) (f .all) ∙ sym (tail-more tail (t .fill) ys l) })
 idle-more t tail u b ys l (inr h) =
@@ -66,8 +66,8 @@ idle-more t tail u b ys l (inr h) =
       h .1,
     )
 
-mode-more : (c : Bool) (st : Stage) (region : List ℕ) (hd active : Loaded) (t : Taken) (tail : List ℕ) (u : Update) (ys : List ℕ) → st ≡ Idle → t .fill + length ys ≤ length tail
-    → Mode c st region hd active t tail u → Mode c Idle region hd active (takenMore t ys) (sets tail (t .fill) ys) (takes ys u)
+mode-more : (c : Bool) (st : Stage) (region : List ℕ) (hd active : Loaded) (t : Contents) (tail : List ℕ) (u : Update) (ys : List ℕ) → st ≡ Idle → t .fill + length ys ≤ length tail
+    → Mode c st region hd active t tail u → Mode c Idle region hd active (moreContents t ys) (sets tail (t .fill) ys) (takes ys u)
 mode-more true st region hd active t tail u ys e l h = tt
 mode-more false st region hd active t tail u ys e l h =
     let g = subst (λ (s : Stage). Mode false s region hd active t tail u) e h in
@@ -77,7 +77,7 @@ tables-crc : (n : ℕ) (s : Tables) (c : ℕ) → tablesOk n s ≡ true → tabl
 unfolding tablesOk
 tables-crc n s c e = e
 
-close-lies : (t : Taken) (tail : List ℕ) (u : Update) (b : List ℕ) (st : Stage) → Lies st t tail u b → Lies st (closedTaken t) tail u b
+close-lies : (t : Contents) (tail : List ℕ) (u : Update) (b : List ℕ) (st : Stage) → Lies st t tail u b → Lies st (closedContents t) tail u b
 close-lies t tail u b Idle h = h
 close-lies t tail u b (Due (Erase zero)) h = h
 close-lies t tail u b (Due (Erase (suc j))) h = h
@@ -86,7 +86,7 @@ close-lies t tail u b (Due (Compare i j)) h = h
 close-lies t tail u b HeaderWritten h = h
 close-lies t tail u b Committed h = h
 
-mode-closed : (c : Bool) (st : Stage) (region : List ℕ) (hd active : Loaded) (t : Taken) (tail : List ℕ) (u : Update) → Mode c st region hd active t tail u → Mode c st region hd active (closedTaken t) tail u
+mode-closed : (c : Bool) (st : Stage) (region : List ℕ) (hd active : Loaded) (t : Contents) (tail : List ℕ) (u : Update) → Mode c st region hd active t tail u → Mode c st region hd active (closedContents t) tail u
 mode-closed true st region hd active t tail u h = h
 mode-closed false st region hd active t tail u h = (h .0, close-lies t tail u _ st (h .1))
 
@@ -94,27 +94,27 @@ module _ (region : List ℕ) (hd : Loaded) (w : Writer) (u : Update) (o : Open r
   own : Ranged w
   own = ranged w (o .tied .range)
 
-  may-open : mayAppend w ≡ true → w .taken .closed ≡ false
-  may-open e = not-true (w .taken .closed) (and-right (inRange w) (not (w .taken .closed)) e)
+  may-open : mayAppend w ≡ true → w .contents .closed ≡ false
+  may-open e = not-true (w .contents .closed) (and-right (inRange w) (not (w .contents .closed)) e)
 
   -- ---- bytes
 
-  pub with-bytes : (ys : List ℕ) → Bytes ys → w .taken .closed ≡ false → isDue (w .taken) ≡ false → w .taken .fill + length ys ≤ tailSize → position (w .taken) + length ys ≤ capacity
+  pub with-bytes : (ys : List ℕ) → Bytes ys → w .contents .closed ≡ false → isDue (w .contents) ≡ false → w .contents .fill + length ys ≤ tailSize → position (w .contents) + length ys ≤ capacity
       → Open region hd (withBytes w ys) (takes ys u)
   unfolding withBytes
   with-bytes ys b e d f p =
-      let t = w .taken in
+      let t = w .contents in
       let q = o .tied .noted in
       let l = o .tied .counted .length· in
       let st = only-idle (w .beginning .comparing) t (w .stage) (own .stage) e d in
-      let al = open-aligned t (own .taken) e in
+      let al = open-aligned t (own .contents) e in
       record {
         tied =
             record {
               range =
-                  range-of (withBytes w ys) (own .active) (taken-of (takenMore t ys) f (omega arith) (aligned-of (takenMore t ys) al))
-                  (tables-crc (position (takenMore t ys)) (w .tables) (crc32 (w .tables .crc) ys) (tables-later (position t) (position (takenMore t ys)) (w .tables) (omega arith) (own .tables)))
-                  (stage-ok (w .beginning .comparing) (takenMore t ys));
+                  range-of (withBytes w ys) (own .active) (contents-of (moreContents t ys) f (omega arith) (aligned-of (moreContents t ys) al))
+                  (tables-crc (position (moreContents t ys)) (w .tables) (crc32 (w .tables .crc) ys) (tables-later (position t) (position (moreContents t ys)) (w .tables) (omega arith) (own .tables)))
+                  (stage-ok (w .beginning .comparing) (moreContents t ys));
               began = o .tied .began;
               counted =
                   record {
@@ -145,60 +145,60 @@ module _ (region : List ℕ) (hd : Loaded) (w : Writer) (u : Update) (o : Open r
                   };
             };
         mode =
-            mode-stage (w .beginning .comparing) region hd (w .beginning .active) (takenMore t ys) (sets (w .tail) (t .fill) ys) (takes ys u) al
+            mode-stage (w .beginning .comparing) region hd (w .beginning .active) (moreContents t ys) (sets (w .tail) (t .fill) ys) (takes ys u) al
             (mode-more (w .beginning .comparing) (w .stage) region hd (w .beginning .active) t (w .tail) u ys st (omega (arith, o .tied .tailed .length·)) (o .mode));
       }
 
   none-appended : Open region hd w (takes [] u)
   none-appended = subst (Open region hd w) (sym (takes-nil u)) o
 
-  appended-by : (xs : List ℕ) → Bytes xs → w .taken .closed ≡ false → position (w .taken) + length xs ≤ capacity → (n : ℕ) → n ≡ accepted (w .taken) (length xs) → (d : Bool) → isDue (w .taken) ≡ d
+  appended-by : (xs : List ℕ) → Bytes xs → w .contents .closed ≡ false → position (w .contents) + length xs ≤ capacity → (n : ℕ) → n ≡ accepted (w .contents) (length xs) → (d : Bool) → isDue (w .contents) ≡ d
       → Open region hd (pick {A = Step} d (record { answer = Appended 0; writer = w }) (record { answer = Appended n; writer = withBytes w (take n xs) }) .writer)
       (updateAfter (bytes xs) (pick {A = Step} d (record { answer = Appended 0; writer = w }) (record { answer = Appended n; writer = withBytes w (take n xs) }) .answer) u)
   unfolding updateAfter
   appended-by xs b e p n r true d = none-appended
   appended-by xs b e p n r false d =
       let l = length-take n xs in
-      let f = fill-fits (w .taken) (own .taken) in
+      let f = fill-fits (w .contents) (own .contents) in
       with-bytes (take n xs) (bytes-take n xs b) e d (omega arith) (omega arith)
 
-  bytes-by : (xs : List ℕ) → Bytes xs → (a f : Bool) → mayAppend w ≡ a → leb (position (w .taken) + length xs) capacity ≡ f
+  bytes-by : (xs : List ℕ) → Bytes xs → (a f : Bool) → mayAppend w ≡ a → leb (position (w .contents) + length xs) capacity ≡ f
       → Open region hd (pick a (pick f (appended w xs) (stays w Full)) (stays w Turn) .writer) (updateAfter (bytes xs) (pick a (pick f (appended w xs) (stays w Full)) (stays w Turn) .answer) u)
   unfolding updateAfter appended
   bytes-by xs b true true e f =
-      appended-by xs b (may-open e) (leb-true (position (w .taken) + length xs) capacity f) (accepted (w .taken) (length xs)) refl (isDue (w .taken)) refl
+      appended-by xs b (may-open e) (leb-true (position (w .contents) + length xs) capacity f) (accepted (w .contents) (length xs)) refl (isDue (w .contents)) refl
   bytes-by xs b true false e f = o
   bytes-by xs b false f′ e f = o
 
   pub on-bytes : (xs : List ℕ) → Bytes xs → Open region hd (bytesStep w xs .writer) (updateAfter (bytes xs) (bytesStep w xs .answer) u)
   unfolding bytesStep
-  on-bytes xs b = bytes-by xs b (mayAppend w) (leb (position (w .taken) + length xs) capacity) refl refl
+  on-bytes xs b = bytes-by xs b (mayAppend w) (leb (position (w .contents) + length xs) capacity) refl refl
 
   -- ---- closing
 
-  closing-stage : w .taken .closed ≡ false → (d : Bool) → isDue (w .taken) ≡ d
-      → (stageOk (w .beginning .comparing) (closedTaken (w .taken)) (pick d (w .stage) (stageOf (w .beginning .comparing) (closedTaken (w .taken)))) ≡ true)
-      × Mode (w .beginning .comparing) (pick d (w .stage) (stageOf (w .beginning .comparing) (closedTaken (w .taken)))) region hd (w .beginning .active) (closedTaken (w .taken)) (w .tail) u
+  closing-stage : w .contents .closed ≡ false → (d : Bool) → isDue (w .contents) ≡ d
+      → (stageOk (w .beginning .comparing) (closedContents (w .contents)) (pick d (w .stage) (stageOf (w .beginning .comparing) (closedContents (w .contents)))) ≡ true)
+      × Mode (w .beginning .comparing) (pick d (w .stage) (stageOf (w .beginning .comparing) (closedContents (w .contents)))) region hd (w .beginning .active) (closedContents (w .contents)) (w .tail) u
   closing-stage e true d =
       let c = w .beginning .comparing in
-      (close-stage c (w .taken) (w .stage) e (own .stage) d, mode-closed c (w .stage) region hd (w .beginning .active) (w .taken) (w .tail) u (o .mode))
+      (close-stage c (w .contents) (w .stage) e (own .stage) d, mode-closed c (w .stage) region hd (w .beginning .active) (w .contents) (w .tail) u (o .mode))
   closing-stage e false d =
       let c = w .beginning .comparing in
-      let t = w .taken in
+      let t = w .contents in
       let st = only-idle c t (w .stage) (own .stage) e d in (
-        stage-ok c (closedTaken t),
-        mode-stage c region hd (w .beginning .active) (closedTaken t) (w .tail) u (open-aligned t (own .taken) e)
-            (subst (λ (s : Stage). Mode c s region hd (w .beginning .active) (closedTaken t) (w .tail) u) st (mode-closed c (w .stage) region hd (w .beginning .active) t (w .tail) u (o .mode))),
+        stage-ok c (closedContents t),
+        mode-stage c region hd (w .beginning .active) (closedContents t) (w .tail) u (open-aligned t (own .contents) e)
+            (subst (λ (s : Stage). Mode c s region hd (w .beginning .active) (closedContents t) (w .tail) u) st (mode-closed c (w .stage) region hd (w .beginning .active) t (w .tail) u (o .mode))),
       )
 
-  pub with-closed : w .taken .closed ≡ false → Open region hd (withClosed w) u
+  pub with-closed : w .contents .closed ≡ false → Open region hd (withClosed w) u
   unfolding withClosed
   with-closed e =
-      let c = closing-stage e (isDue (w .taken)) refl in
+      let c = closing-stage e (isDue (w .contents)) refl in
       record {
         tied =
             record {
-              range = range-of (withClosed w) (own .active) (close-taken (w .taken) (own .taken) e) (own .tables) (c .0);
+              range = range-of (withClosed w) (own .active) (close-contents (w .contents) (own .contents) e) (own .tables) (c .0);
               began = o .tied .began;
               counted = record { length· = o .tied .counted .length·; crc = o .tied .counted .crc };
               noted = o .tied .noted;

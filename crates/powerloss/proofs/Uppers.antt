@@ -104,18 +104,18 @@ module _ (hd : Loaded) (rs : List Source) (im : Image) (region : List ℕ) (w : 
   close-update cs e = ap (λ (x : Step). ranUpdate region (x .writer) cs (updateAfter close (x .answer) u)) (sym e)
 
   -- the lower call of the same name, what is due, and the bytes
-  module _ (e : w .taken .closed ≡ false) where
+  module _ (e : w .contents .closed ≡ false) where
     may : mayAppend w ≡ true
     may = may-append hd region w u (h .open·) e
 
-    source-run : (s : Source) (xs : List ℕ) → Proper s → not (isOpen (w .tables)) ≡ true → w .tables .count < maxSources → position (w .taken) + length xs ≤ capacity → Bytes xs
+    source-run : (s : Source) (xs : List ℕ) → Proper s → not (isOpen (w .tables)) ≡ true → w .tables .count < maxSources → position (w .contents) + length xs ≤ capacity → Bytes xs
         → ranUpdate region w (source s ∷ (dues ++ appends xs)) u ≡ takes xs (notesOf (sourceNote s) u)
     unfolding withSource
     source-run s xs p n c f b =
         source-update s (dues ++ appends xs) (source-done w s (rw may n) c)
         ∙ dues-appends hd rs im xs region (withSource w s) (notesOf (sourceNote s) u) (record { kept = h .kept; open· = with-source region hd w u (h .open·) s p e c }) e f b
 
-    table-run : (t : ℕ) (xs : List ℕ) → t ≤ 7 → mayBegin (w .tables) t ≡ true → position (w .taken) + length xs ≤ capacity → Bytes xs
+    table-run : (t : ℕ) (xs : List ℕ) → t ≤ 7 → mayBegin (w .tables) t ≡ true → position (w .contents) + length xs ≤ capacity → Bytes xs
         → ranUpdate region w (table t ∷ (dues ++ appends xs)) u ≡ takes xs (notesOf (tableNote t (length (u .data·))) u)
     unfolding withTable
     table-run t xs l m f b =
@@ -130,8 +130,8 @@ module _ (hd : Loaded) (rs : List Source) (im : Image) (region : List ℕ) (w : 
         ∙ dues-appends hd rs im [] region (withEnd w) (notesOf (endNote (length (u .data·))) u) (record { kept = h .kept; open· = with-end region hd w u (h .open·) e m }) e
         (omega (arith, position-most)) bytes-nil
       where
-        position-most : position (w .taken) ≤ capacity
-        position-most = position-fits (w .taken) (ranged w (h .open· .tied .range) .taken)
+        position-most : position (w .contents) ≤ capacity
+        position-most = position-fits (w .contents) (ranged w (h .open· .tied .range) .contents)
 
     close-run : not (isOpen (w .tables)) ≡ true → ranUpdate region w (close ∷ (dues ++ appends [])) u ≡ takes [] u
     unfolding appends
@@ -174,11 +174,11 @@ module _ (hd : Loaded) (rs : List Source) (im : Image) (region : List ℕ) (w : 
   t3 : Three hd rs im region w u
   t3 = three hd rs im region w u h
 
-  open-of : mayAppend w ≡ true → w .taken .closed ≡ false
-  open-of m = not-true (w .taken .closed) (and-right (inRange w) (not (w .taken .closed)) m)
+  open-of : mayAppend w ≡ true → w .contents .closed ≡ false
+  open-of m = not-true (w .contents .closed) (and-right (inRange w) (not (w .contents .closed)) m)
 
-  fits-of : (c : Upper) → allFits w c ≡ true → position (writerThree region w .taken) + length (appendedBytes c) ≤ capacity
-  fits-of c e = omega (arith, t3 .position·, leb-true (position (w .taken) + length (appendedBytes c)) capacity (and-right (sourceFits w c) (leb (position (w .taken) + length (appendedBytes c)) capacity) e))
+  fits-of : (c : Upper) → allFits w c ≡ true → position (writerThree region w .contents) + length (appendedBytes c) ≤ capacity
+  fits-of c e = omega (arith, t3 .position·, leb-true (position (w .contents) + length (appendedBytes c)) capacity (and-right (sourceFits w c) (leb (position (w .contents) + length (appendedBytes c)) capacity) e))
 
   run-update : (c : Upper) → UpperTyped c → Accepted w c → ranUpdate region w (runOf c) u ≡ takes (appendedBytes c) (upperNoted c u)
   unfolding runOf
@@ -189,7 +189,7 @@ module _ (hd : Loaded) (rs : List Source) (im : Image) (region : List ℕ) (w : 
       dues-update region w (source s ∷ (dues ++ appends (appendedBytes c))) u
       ∙ source-run hd rs im (regionThree region w) (writerThree region w) u (t3 .now) (t3 .closed ∙ open-of m) s (appendedBytes c) p
       (subst (λ (x : Tables). not (isOpen x) ≡ true) (sym (t3 .tables)) n)
-      (subst (λ (x : Tables). x .count < maxSources) (sym (t3 .tables)) (ltb-true (w .tables .count) 3 (and-left (ltb (w .tables .count) 3) (leb (position (w .taken) + length (appendedBytes c)) capacity) (a .fits))))
+      (subst (λ (x : Tables). x .count < maxSources) (sym (t3 .tables)) (ltb-true (w .tables .count) 3 (and-left (ltb (w .tables .count) 3) (leb (position (w .contents) + length (appendedBytes c)) capacity) (a .fits))))
       (fits-of c (a .fits)) (bytes-appended c p)
   run-update (tableWithNames t) p a =
       let m = and-left (mayAppend w) (mayBegin (w .tables) t) (a .order) in

@@ -93,7 +93,7 @@ Reached =
 abbrev pub Settled : Type 0
 Settled =
     (region : List ℕ) (events : List Event) → length region ≡ regionSize → Bytes region → AllTyped events → (w : Writer) → nextAll (found region) events .state ≡ some w
-    → (c : Upper) → UpperTyped c → upperStep (nextAll (found region) events .region) w c .answer ≡ Done → isDue (upperStep (nextAll (found region) events .region) w c .writer .taken) ≡ false
+    → (c : Upper) → UpperTyped c → upperStep (nextAll (found region) events .region) w c .answer ≡ Done → isDue (upperStep (nextAll (found region) events .region) w c .writer .contents) ≡ false
 
 -- The list has E5's cuts: of a call whose operations are `before`, then `op`, then `rest`, those before may be done whole, of op the first
 -- j bytes, whatever j is, and the rest not at all. This holds of every call of both layers and of the beginning with a key. If j is

@@ -16,7 +16,7 @@ use Rattle.flash.specs.Flash.{Op}
 use Rattle.writer.specs.declared.Stage.the-variants.{Committed}
 use Rattle.writer.specs.declared.Answer.{Answer}
 use Rattle.writer.specs.declared.Answer.the-variants.{Done, Appended, NoneDue, Same, Different, Refused}
-use Rattle.writer.specs.declared.Taken.{Taken}
+use Rattle.writer.specs.declared.Contents.{Contents}
 use Rattle.writer.specs.declared.Writer.{Writer}
 use Rattle.writer.specs.State.{tailSize, position, isDue}
 use Rattle.lower.specs.Lower.{begun}
@@ -30,17 +30,17 @@ use Rattle.powerloss.specs.Claim.{LowerTyped, AllTyped}
 -- ---- what is due
 
 -- "the tail is full, or after closing while bytes are unwritten"
-abbrev pub Unwritten : Taken → Type 0
+abbrev pub Unwritten : Contents → Type 0
 Unwritten t = (t .fill ≡ tailSize) ⊎ ((t .closed ≡ true) × (0 < t .fill))
 
 -- "One call does exactly one erase or write, or says none is due. One is due exactly when" the above. "Comparing mode writes nothing."
 pub record Exactly (region : List ℕ) (w : Writer) : Type 0 where
-  pub then· : Unwritten (w .taken) → dueStep region w .answer ≡ Done
-  pub only : dueStep region w .answer ≡ Done → Unwritten (w .taken)
-  pub else· : (Unwritten (w .taken) → ⊥) → dueStep region w .answer ≡ NoneDue
-  pub never : dueStep region w .answer ≡ NoneDue → Unwritten (w .taken) → ⊥
-  pub one : w .beginning .comparing ≡ false → Unwritten (w .taken) → length (dueOps region w) ≡ 1
-  pub nothing : (Unwritten (w .taken) → ⊥) → dueOps region w ≡ []
+  pub then· : Unwritten (w .contents) → dueStep region w .answer ≡ Done
+  pub only : dueStep region w .answer ≡ Done → Unwritten (w .contents)
+  pub else· : (Unwritten (w .contents) → ⊥) → dueStep region w .answer ≡ NoneDue
+  pub never : dueStep region w .answer ≡ NoneDue → Unwritten (w .contents) → ⊥
+  pub one : w .beginning .comparing ≡ false → Unwritten (w .contents) → length (dueOps region w) ≡ 1
+  pub nothing : (Unwritten (w .contents) → ⊥) → dueOps region w ≡ []
   pub compares : w .beginning .comparing ≡ true → dueOps region w ≡ []
 
 -- (proofs/Exactly.antt)
@@ -56,7 +56,7 @@ BeginSettled =
     (region : List ℕ) (events : List Event) → length region ≡ regionSize → Bytes region → AllTyped events
     → (comparing : Bool) (now : ℤ) (identity texts lengths : List ℕ) → SFits w64 now → Bytes identity → Bytes texts
     → beginStep (nextAll (found region) events .region) comparing now identity texts lengths .answer ≡ Done
-    → isDue (beginStep (nextAll (found region) events .region) comparing now identity texts lengths .writer .taken) ≡ false
+    → isDue (beginStep (nextAll (found region) events .region) comparing now identity texts lengths .writer .contents) ≡ false
 
 -- ---- how many operations
 
@@ -134,7 +134,7 @@ abbrev pub LowerOperations : Type 0
 LowerOperations =
     (region : List ℕ) → length region ≡ regionSize → Bytes region → (now : ℤ) → SFits w64 now → (calls : List Lower) → AllLower calls
     → ranWriter region (begun region false now .writer) calls .stage ≡ Committed
-    → Counted (position (ranWriter region (begun region false now .writer) calls .taken)) (length (ranOps region (begun region false now .writer) calls))
+    → Counted (position (ranWriter region (begun region false now .writer) calls .contents)) (length (ranOps region (begun region false now .writer) calls))
 
 -- 255, 257 and 487,424 bytes
 abbrev pub ThreeLengths : Type 0

@@ -12,10 +12,10 @@ ghost use Rattle.writer.specs.State.{tailSize};
 use due::due_parts;
 use lower::append::append_parts;
 use writer::Answer;
+use writer::Contents;
 use writer::Parts;
 use writer::Stage;
 use writer::TAIL_SIZE_32;
-use writer::Taken;
 use writer::Writer;
 use writer::parts_of;
 use writer::with_sources;
@@ -160,7 +160,7 @@ pub fn flush_append(w: Writer, region: &mut [u8], bytes: &[u8]) -> Writer
 }
 
 // Whether n bytes leave the tail short of full.
-fn leaves_tail_open(t: Taken, n: usize) -> bool
+fn leaves_tail_open(t: Contents, n: usize) -> bool
     ensures { λ r. ⌜ (r ≡ true → t .fill + n < tailSize) ⌝ }
 {
     if TAIL_SIZE_32 <= t.fill {
@@ -173,7 +173,7 @@ fn leaves_tail_open(t: Taken, n: usize) -> bool
 pub fn append_line_parts(p: Parts, region: &mut [u8], bytes: &[u8]) -> Parts
     ensures { λ r. ⌜ Partly.Ran (now (region .entry)) p (Appends.dues ++ (Appends.dues ++ Appends.appends (now (bytes .entry)))) r (now (region .exit)) ⌝ }
 {
-    if leaves_tail_open(p.taken, bytes.len()) {
+    if leaves_tail_open(p.contents, bytes.len()) {
         let s = append_parts(p, bytes);
         let answer = s.answer;
         if count_of(answer) != 0 {

@@ -124,10 +124,10 @@ module _ (region : List ℕ) (w : Writer) (u : Upper) where
         )
 
 -- no bytes always fit
-pub none-fits : (w : Writer) (b : Bool) → (mayAppend w && b) ≡ true → leb (position (w .taken) + 0) capacity ≡ true
+pub none-fits : (w : Writer) (b : Bool) → (mayAppend w && b) ≡ true → leb (position (w .contents) + 0) capacity ≡ true
 none-fits w b e =
     let m = and-left (mayAppend w) b e in
-    le-leb (position (w .taken) + 0) capacity (omega (arith, position-fits (w .taken) (ranged w (and-left (inRange w) (not (w .taken .closed)) m) .taken)))
+    le-leb (position (w .contents) + 0) capacity (omega (arith, position-fits (w .contents) (ranged w (and-left (inRange w) (not (w .contents .closed)) m) .contents)))
 
 -- ---- the guard of a source: there are as many as there may be, or its dates don't fit
 
@@ -342,4 +342,4 @@ module _ (region : List ℕ) (comparing : Bool) (now : ℤ) (id b l : List ℕ) 
 pub open-fits : (w : Writer) → (mayAppend w && isOpen (w .tables)) ≡ true → w .tables .table ≤ lastTable
 open-fits w e =
     let m = and-left (mayAppend w) (isOpen (w .tables)) e in
-    open-table (position (w .taken)) (w .tables) (ranged w (and-left (inRange w) (not (w .taken .closed)) m) .tables) (and-right (mayAppend w) (isOpen (w .tables)) e) .0
+    open-table (position (w .contents)) (w .tables) (ranged w (and-left (inRange w) (not (w .contents .closed)) m) .tables) (and-right (mayAppend w) (isOpen (w .tables)) e) .0

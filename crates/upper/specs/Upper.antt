@@ -89,7 +89,7 @@ sourceFits w tableEnd = true
 sourceFits w closing = true
 
 abbrev pub allFits : Writer → Upper → Bool
-allFits w u = sourceFits w u && leb (position (w .taken) + length (appendedBytes u)) capacity
+allFits w u = sourceFits w u && leb (position (w .contents) + length (appendedBytes u)) capacity
 
 -- the refusal, if any
 unfoldable pub refusalOf : List ℕ → Writer → Upper → Option Refusal

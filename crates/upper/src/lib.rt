@@ -11,7 +11,7 @@ ghost use Rattle.writer.specs.State as State;
 ghost use Rattle.region.specs.Region.{capacity};
 use region::CAPACITY;
 use region::CAPACITY_64;
-use writer::Taken;
+use writer::Contents;
 
 // The longest key without an identity, the buffer for a names line, and the first buffer that a row is written to.
 const MAX_BODY: usize = 2257;
@@ -21,7 +21,7 @@ const NAMES_SIZE: usize = 128;
 const SHORT_ROW: usize = 512;
 
 // Whether n more bytes fit.
-pub fn fits(t: Taken, n: usize) -> bool
+pub fn fits(t: Contents, n: usize) -> bool
     ensures { λ r. ⌜ r ≡ leb (State.position t + n) capacity ⌝ }
 {
     if CAPACITY < n {

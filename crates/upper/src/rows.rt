@@ -49,7 +49,7 @@ fn long_row(p: Parts, region: &mut [u8], texts: &[u8], lengths: &[u32]) -> Parts
     let RowAnswer::Written(n) = a else {
         return parts_stay(p, Refusal::Row);
     };
-    if !fits(p.taken, n) {
+    if !fits(p.contents, n) {
         return parts_stay(p, Refusal::Full);
     }
     let v = run_row(p, region, &out, n);
@@ -67,7 +67,7 @@ fn row_in(p: Parts, region: &mut [u8], texts: &[u8], lengths: &[u32]) -> PartsSt
     let RowAnswer::Written(n) = a else {
         return long_row(p, region, texts, lengths);
     };
-    if !fits(p.taken, n) {
+    if !fits(p.contents, n) {
         return parts_stay(p, Refusal::Full);
     }
     let q = run_row(p, region, &out, n);

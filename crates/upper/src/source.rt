@@ -52,7 +52,7 @@ pub fn source(w: Writer, region: &mut [u8], s: Source) -> Step
     if !may_append(w) | is_open(x) {
         return stays(w, Refusal::Turn);
     }
-    if (SOURCES_32 <= x.count) | !fits(w.taken, DATES_SIZE) {
+    if (SOURCES_32 <= x.count) | !fits(w.contents, DATES_SIZE) {
         return stays(w, Refusal::Full);
     }
     let v = run_source(w, region, s);

@@ -95,7 +95,7 @@ pub fn table(w: Writer, region: &mut [u8], table: u32) -> Step
     let l = names(table);
     let n = l.n;
     let bytes = l.bytes;
-    if !fits(w.taken, n) {
+    if !fits(w.contents, n) {
         return stays(w, Refusal::Full);
     }
     let v = run_table(w, region, table, bytes, n);

@@ -4,11 +4,11 @@ use mathlib.Core.Bool.{Bool, true, false, not, _&&_, _||_, false≢true}
 use Prim.Native.Nat.{ℕ, _≤_}
 use lib.Dec.{leb, eqb}
 use borrow.Author.Tests.{leb-true}
-use Rattle.writer.specs.declared.Taken.{Taken}
+use Rattle.writer.specs.declared.Contents.{Contents}
 use Rattle.writer.specs.declared.Tables.{Tables}
 use Rattle.writer.specs.declared.Writer.{Writer}
 use Rattle.base.proofs.Bools.{and-left, and-right}
-use Rattle.writer.specs.State.{position, aligned, openOk, isOpen, inRange, activeOk, takenOk, tablesOk, stageOk, tailSize}
+use Rattle.writer.specs.State.{position, aligned, openOk, isOpen, inRange, activeOk, contentsOk, tablesOk, stageOk, tailSize}
 use Rattle.region.specs.Region.{capacity}
 use Rattle.base.specs.Table.{lastTable}
 use Rattle.header.specs.Header.{maxSources}
@@ -16,29 +16,29 @@ use Rattle.header.specs.Header.{maxSources}
 -- the four tests of a state within its ranges
 pub record Ranged (w : Writer) : Type 0 where
   pub active : activeOk (w .beginning .active) ≡ true
-  pub taken : takenOk (w .taken) ≡ true
-  pub tables : tablesOk (position (w .taken)) (w .tables) ≡ true
-  pub stage : stageOk (w .beginning .comparing) (w .taken) (w .stage) ≡ true
+  pub contents : contentsOk (w .contents) ≡ true
+  pub tables : tablesOk (position (w .contents)) (w .tables) ≡ true
+  pub stage : stageOk (w .beginning .comparing) (w .contents) (w .stage) ≡ true
 
 module _ (w : Writer) where
   pub ranged : inRange w ≡ true → Ranged w
   unfolding inRange
   ranged e =
       let a = activeOk (w .beginning .active) in
-      let t = takenOk (w .taken) in
-      let s = tablesOk (position (w .taken)) (w .tables) in
-      let o = stageOk (w .beginning .comparing) (w .taken) (w .stage) in
+      let t = contentsOk (w .contents) in
+      let s = tablesOk (position (w .contents)) (w .tables) in
+      let o = stageOk (w .beginning .comparing) (w .contents) (w .stage) in
       let r = and-right a (t && (s && o)) e in
       let q = and-right t (s && o) r in
-      record { active = and-left a (t && (s && o)) e; taken = and-left t (s && o) r; tables = and-left s o q; stage = and-right s o q }
+      record { active = and-left a (t && (s && o)) e; contents = and-left t (s && o) r; tables = and-left s o q; stage = and-right s o q }
 
-module _ (t : Taken) where
-  pub fill-fits : takenOk t ≡ true → t .fill ≤ tailSize
-  unfolding takenOk
+module _ (t : Contents) where
+  pub fill-fits : contentsOk t ≡ true → t .fill ≤ tailSize
+  unfolding contentsOk
   fill-fits e = leb-true (t .fill) tailSize (and-left (leb (t .fill) tailSize) (leb (position t) capacity && aligned t) e)
 
-  pub position-fits : takenOk t ≡ true → position t ≤ capacity
-  unfolding takenOk
+  pub position-fits : contentsOk t ≡ true → position t ≤ capacity
+  unfolding contentsOk
   position-fits e = leb-true (position t) capacity (and-left (leb (position t) capacity) (aligned t) (and-right (leb (t .fill) tailSize) (leb (position t) capacity && aligned t) e))
 
 module _ (n : ℕ) (s : Tables) where

@@ -9,10 +9,10 @@ use Rattle.writer.specs.declared.Parts.{Parts}
 use Rattle.writer.specs.declared.PartsStep.{PartsStep}
 
 abbrev pub partsOf : Writer → Parts
-partsOf w = record { stage = w .stage; beginning = w .beginning; taken = w .taken; tables = w .tables; tail = w .tail }
+partsOf w = record { stage = w .stage; beginning = w .beginning; contents = w .contents; tables = w .tables; tail = w .tail }
 
 abbrev pub withSources : Parts → List Source → Writer
-withSources p ss = record { stage = p .stage; beginning = p .beginning; taken = p .taken; tables = p .tables; sources = ss; tail = p .tail }
+withSources p ss = record { stage = p .stage; beginning = p .beginning; contents = p .contents; tables = p .tables; sources = ss; tail = p .tail }
 
 abbrev pub stepWith : PartsStep → List Source → Step
 stepWith s ss = record { answer = s .answer; writer = withSources (s .parts) ss }

@@ -14,7 +14,7 @@ use Rattle.writer.specs.declared.Operation.{Operation}
 use Rattle.writer.specs.declared.Operation.the-variants.{Erase, Write, Compare}
 use Rattle.writer.specs.declared.Stage.{Stage}
 use Rattle.writer.specs.declared.Stage.the-variants.{Idle, Due, HeaderWritten, Committed}
-use Rattle.writer.specs.declared.Taken.{Taken}
+use Rattle.writer.specs.declared.Contents.{Contents}
 use Rattle.writer.specs.declared.Tables.{Tables}
 use Rattle.writer.specs.declared.Writer.{Writer}
 use Rattle.writer.specs.declared.Answer.the-variants.{Done, Refused}
@@ -30,27 +30,27 @@ abbrev pub lastWrite : ℕ
 lastWrite = capacity - tailSize
 
 -- the position, "tail included": the bytes written and those in the tail
-abbrev pub position : Taken → ℕ
+abbrev pub position : Contents → ℕ
 position t = t .written + t .fill
 
 -- "One is due exactly when the tail is full, or after closing while bytes are unwritten."
-unfoldable pub isDue : Taken → Bool
+unfoldable pub isDue : Contents → Bool
 isDue t = eqb (t .fill) tailSize || (t .closed && ltb 0 (t .fill))
 
 -- the tail's write
-abbrev pub writeDue : Taken → Operation
+abbrev pub writeDue : Contents → Operation
 writeDue t = Write (t .written) (t .fill)
 
 -- before the first write to a sector its erase, else the write; sector 0 is the header's
-unfoldable pub dataDue : Taken → Operation
+unfoldable pub dataDue : Contents → Operation
 dataDue t = pick (eqb (t .written % sectorSize) 0) (Erase (t .written / sectorSize + 1)) (writeDue t)
 
 -- "Erases come just before the write that needs them, the header sector first of all." In comparing mode the tail is compared.
-unfoldable pub firstDue : Bool → Taken → Operation
+unfoldable pub firstDue : Bool → Contents → Operation
 firstDue comparing t = pick comparing (Compare (t .written) (t .fill)) (pick (eqb (t .written) 0) (Erase 0) (dataDue t))
 
 -- the stage after bytes are appended or the update is closed, if nothing was due before
-unfoldable pub stageOf : Bool → Taken → Stage
+unfoldable pub stageOf : Bool → Contents → Stage
 stageOf comparing t = pick (isDue t) (Due (firstDue comparing t)) Idle
 
 -- The bank that isn't the active one, and the generation after the active one's; 0 and 0 with no active bank.
@@ -88,12 +88,12 @@ activeOk Nothing = true
 activeOk (NotRead r) = false
 
 -- a count of written bytes is a multiple of 256 until the last write
-abbrev pub aligned : Taken → Bool
+abbrev pub aligned : Contents → Bool
 aligned t = eqb (t .written % tailSize) 0 || (t .closed && eqb (t .fill) 0)
 
 -- tail fill and position
-unfoldable pub takenOk : Taken → Bool
-takenOk t = leb (t .fill) tailSize && (leb (position t) capacity && aligned t)
+unfoldable pub contentsOk : Contents → Bool
+contentsOk t = leb (t .fill) tailSize && (leb (position t) capacity && aligned t)
 
 -- an open table has a source and starts at or before the position
 abbrev pub openOk : ℕ → Tables → Bool
@@ -104,19 +104,19 @@ unfoldable pub tablesOk : ℕ → Tables → Bool
 tablesOk n s = leb (s .count) maxSources && (eqb (s .table) noTable || openOk n s)
 
 -- a due operation is one that fits the mode, the written count and the tail
-unfoldable pub operationOk : Bool → Taken → Operation → Bool
+unfoldable pub operationOk : Bool → Contents → Operation → Bool
 operationOk comparing t (Erase k) = not comparing && ((eqb (t .written) 0 && eqb k 0) || (eqb (t .written % sectorSize) 0 && eqb k (t .written / sectorSize + 1)))
 operationOk comparing t (Write a n) = not comparing && (eqb a (t .written) && eqb n (t .fill))
 operationOk comparing t (Compare a n) = comparing && (eqb a (t .written) && eqb n (t .fill))
 
-unfoldable pub stageOk : Bool → Taken → Stage → Bool
+unfoldable pub stageOk : Bool → Contents → Stage → Bool
 stageOk comparing t Idle = not (isDue t)
 stageOk comparing t (Due o) = isDue t && operationOk comparing t o
 stageOk comparing t HeaderWritten = not comparing && (t .closed && eqb (t .fill) 0)
 stageOk comparing t Committed = not comparing && (t .closed && eqb (t .fill) 0)
 
 unfoldable pub inRange : Writer → Bool
-inRange w = activeOk (w .beginning .active) && (takenOk (w .taken) && (tablesOk (position (w .taken)) (w .tables) && stageOk (w .beginning .comparing) (w .taken) (w .stage)))
+inRange w = activeOk (w .beginning .active) && (contentsOk (w .contents) && (tablesOk (position (w .contents)) (w .tables) && stageOk (w .beginning .comparing) (w .contents) (w .stage)))
 
 -- a call that is done, and one that is refused, which leaves the state unchanged
 abbrev pub did : Writer → Step

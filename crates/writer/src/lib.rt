@@ -43,7 +43,7 @@ pub struct Beginning {
 }
 
 // The bytes written and those in the tail, the CRC of all, whether a comparison found a difference, and whether the update is closed.
-pub struct Taken {
+pub struct Contents {
     pub written: u32,
     pub fill: u32,
     pub crc: u32,
@@ -64,7 +64,7 @@ pub struct Tables {
 pub struct Writer {
     pub stage: Stage,
     pub beginning: Beginning,
-    pub taken: Taken,
+    pub contents: Contents,
     pub tables: Tables,
     pub sources: [Source; SOURCES],
     pub tail: [u8; TAIL_SIZE],
@@ -90,7 +90,7 @@ pub struct Step {
 pub struct Parts {
     pub stage: Stage,
     pub beginning: Beginning,
-    pub taken: Taken,
+    pub contents: Contents,
     pub tables: Tables,
     pub tail: [u8; TAIL_SIZE],
 }
@@ -101,14 +101,14 @@ pub struct PartsStep {
     pub parts: Parts,
 }
 
-pub fn is_due(t: Taken) -> bool
+pub fn is_due(t: Contents) -> bool
     ensures { λ r. ⌜ r ≡ State.isDue t ⌝ }
 {
     (t.fill == TAIL_SIZE_32) | (t.closed & (0 < t.fill))
 }
 
 // The next sector's erase before the first write to it, else the write.
-pub fn data_due(t: Taken) -> Operation
+pub fn data_due(t: Contents) -> Operation
     ensures { λ r. ⌜ r ≡ State.dataDue t ⌝ }
 {
     if t.written % SECTOR_SIZE_32 == 0 {
@@ -122,7 +122,7 @@ pub fn data_due(t: Taken) -> Operation
     }
 }
 
-fn first_due(comparing: bool, t: Taken) -> Operation
+fn first_due(comparing: bool, t: Contents) -> Operation
     ensures { λ r. ⌜ r ≡ State.firstDue comparing t ⌝ }
 {
     if comparing {
@@ -137,7 +137,7 @@ fn first_due(comparing: bool, t: Taken) -> Operation
     data_due(t)
 }
 
-pub fn stage_of(comparing: bool, t: Taken) -> Stage
+pub fn stage_of(comparing: bool, t: Contents) -> Stage
     ensures { λ r. ⌜ r ≡ State.stageOf comparing t ⌝ }
 {
     if is_due(t) {
@@ -168,14 +168,14 @@ fn active_ok(l: Loaded) -> bool
     }
 }
 
-fn position(t: Taken) -> u64
+fn position(t: Contents) -> u64
     ensures { λ r. ⌜ r ≡ State.position t ⌝ }
 {
     t.written as u64 + t.fill as u64
 }
 
-fn taken_ok(t: Taken) -> bool
-    ensures { λ r. ⌜ r ≡ State.takenOk t ⌝ }
+fn contents_ok(t: Contents) -> bool
+    ensures { λ r. ⌜ r ≡ State.contentsOk t ⌝ }
 {
     (t.fill <= TAIL_SIZE_32)
         & ((position(t) <= CAPACITY_64)
@@ -190,7 +190,7 @@ fn tables_ok(n: u64, s: Tables) -> bool
             | ((s.table <= LAST_TABLE) & ((1 <= s.count) & (s.start as u64 <= n))))
 }
 
-fn operation_ok(comparing: bool, t: Taken, o: Operation) -> bool
+fn operation_ok(comparing: bool, t: Contents, o: Operation) -> bool
     ensures { λ r. ⌜ r ≡ State.operationOk comparing t o ⌝ }
 {
     match o {
@@ -209,7 +209,7 @@ fn operation_ok(comparing: bool, t: Taken, o: Operation) -> bool
     }
 }
 
-fn stage_ok(comparing: bool, t: Taken, s: Stage) -> bool
+fn stage_ok(comparing: bool, t: Contents, s: Stage) -> bool
     ensures { λ r. ⌜ r ≡ State.stageOk comparing t s ⌝ }
 {
     match s {
@@ -221,11 +221,11 @@ fn stage_ok(comparing: bool, t: Taken, s: Stage) -> bool
 }
 
 // Whether a state is within its ranges, by those few of its bytes that matter.
-pub fn parts_in_range(b: Beginning, t: Taken, x: Tables, s: Stage) -> bool
-    ensures { λ r. ⌜ r ≡ (State.activeOk (b .active) && (State.takenOk t && (State.tablesOk (State.position t) x && State.stageOk (b .comparing) t s))) ⌝ }
+pub fn parts_in_range(b: Beginning, t: Contents, x: Tables, s: Stage) -> bool
+    ensures { λ r. ⌜ r ≡ (State.activeOk (b .active) && (State.contentsOk t && (State.tablesOk (State.position t) x && State.stageOk (b .comparing) t s))) ⌝ }
 {
     let a = b.active;
-    active_ok(a) & (taken_ok(t) & (tables_ok(position(t), x) & stage_ok(b.comparing, t, s)))
+    active_ok(a) & (contents_ok(t) & (tables_ok(position(t), x) & stage_ok(b.comparing, t, s)))
 }
 
 // Whether a state, whoever made it, is within its ranges.
@@ -233,7 +233,7 @@ pub fn in_range(w: Writer) -> bool
     ensures { λ r. ⌜ r ≡ State.inRange w ⌝ }
 {
     let b = w.beginning;
-    let t = w.taken;
+    let t = w.contents;
     let x = w.tables;
     let s = w.stage;
     parts_in_range(b, t, x, s)
@@ -264,13 +264,13 @@ pub fn parts_of(w: Writer) -> Parts
 {
     let stage = w.stage;
     let beginning = w.beginning;
-    let taken = w.taken;
+    let contents = w.contents;
     let tables = w.tables;
     let tail = w.tail;
     Parts {
         stage,
         beginning,
-        taken,
+        contents,
         tables,
         tail,
     }
@@ -281,13 +281,13 @@ pub fn with_sources(p: Parts, sources: [Source; SOURCES]) -> Writer
 {
     let stage = p.stage;
     let beginning = p.beginning;
-    let taken = p.taken;
+    let contents = p.contents;
     let tables = p.tables;
     let tail = p.tail;
     Writer {
         stage,
         beginning,
-        taken,
+        contents,
         tables,
         sources,
         tail,

@@ -36,8 +36,8 @@ returns c =
       number = t .target .ensures i;
       version = 3;
       generation = g .next-generation .ensures i;
-      length = a .w .taken .written;
-      crc = a .w .taken .crc;
+      length = a .w .contents .written;
+      crc = a .w .contents .crc;
       count = a .w .tables .count;
       key = (k .key-length .ensures ∙ ap keyLength (o .routes-offset .ensures)) i;
       checked = (toZ-ofZ w64 (c .checked-time .result) (record { sfits = c .checked-time .ok }) ∙ c .checked-time .ensures ∙ ap (checkedTime (a .stamp)) z) i;

@@ -29,7 +29,7 @@ returns c =
     λ i. record {
       stage = c .before .before .before .before .before .before .before .before .stage-of .ensures i;
       beginning = record { active = c .before .before .before .before .before .before .active-of .ensures i; comparing = c .before .before .before .before .before .is-set .ensures i; now = t i };
-      taken = record { written = s .written; fill = s .fill; crc = s .crc; different = c .before .before .before .is-set2 .ensures i; closed = c .before .before .is-set3 .ensures i };
+      contents = record { written = s .written; fill = s .fill; crc = s .crc; different = c .before .before .before .is-set2 .ensures i; closed = c .before .before .is-set3 .ensures i };
       tables = s .tables;
       tail = s .tail;
     }

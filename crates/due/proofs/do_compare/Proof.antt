@@ -22,7 +22,7 @@ returns : tie.Need-returns
 returns c =
     let d = c .before .before .before in
     let a = d .before .before .before .before .before .args in
-    λ ss. ap (λ (s : PartsStep). stepWith s ss) (c .parts-did .ensures) ∙ ap did (c .before .with-emptied .ensures ss ∙ ap (λ (t : Bool). withEmptied (withSources (a .p) ss) (a .p .taken .different || t)) (d .differs .ensures) ∙ compared (a .region .now) (withSources (a .p) ss) (a .offset) (a .n))
+    λ ss. ap (λ (s : PartsStep). stepWith s ss) (c .parts-did .ensures) ∙ ap did (c .before .with-emptied .ensures ss ∙ ap (λ (t : Bool). withEmptied (withSources (a .p) ss) (a .p .contents .different || t)) (d .differs .ensures) ∙ compared (a .region .now) (withSources (a .p) ss) (a .offset) (a .n))
 
 pub do-compare-spec : {M : Type 1} → statement M
 do-compare-spec = tie.close (tie.spec differs-requires with-emptied-requires parts-did-requires returns)

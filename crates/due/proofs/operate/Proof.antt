@@ -33,7 +33,7 @@ do-write-requires c κs =
     let s = o .before .before .before in
     let a = s .args in
     let f = write-ranged (withSources (a .p) []) _ _ (s .pre .1) (s .pre .2 ∙ ap Due (o .o2 .given .1)) in
-    (s .pre .0, f .0, f .1, position-fits (a .p .taken) (ranged (withSources (a .p) []) (s .pre .1) .taken))
+    (s .pre .0, f .0, f .1, position-fits (a .p .contents) (ranged (withSources (a .p) []) (s .pre .1) .contents))
 
 enum-known-o-3 : tie.Need-enum-known-o-3
 enum-known-o-3 c = search needs
@@ -41,8 +41,8 @@ enum-known-o-3 c = search needs
 do-compare-requires : tie.Need-do-compare-requires
 do-compare-requires c κs =
     let s = c .before .before .before .before .before in
-    let r = ranged (withSources (s .args .p) []) (s .pre .1) .taken in
-    (fill-fits (s .args .p .taken) r, position-fits (s .args .p .taken) r)
+    let r = ranged (withSources (s .args .p) []) (s .pre .1) .contents in
+    (fill-fits (s .args .p .contents) r, position-fits (s .args .p .contents) r)
 
 same-length : tie.Need-same-length
 same-length c = search needs

@@ -6,8 +6,8 @@ use Rattle.writer.proofs.parts_in_range.Tie as tie
 active-ok-requires : tie.Need-active-ok-requires
 active-ok-requires c κs = search needs
 
-taken-ok-requires : tie.Need-taken-ok-requires
-taken-ok-requires c κs = search needs
+contents-ok-requires : tie.Need-contents-ok-requires
+contents-ok-requires c κs = search needs
 
 position-requires : tie.Need-position-requires
 position-requires c κs = search needs
@@ -19,14 +19,14 @@ stage-ok-requires : tie.Need-stage-ok-requires
 stage-ok-requires c κs = search needs
 
 returns : tie.Need-returns
-returns c = rw (c .before .before .before .before .active-ok .ensures, c .before .before .before .taken-ok .ensures, c .before .tables-ok .ensures, c .before .before .position .ensures, c .stage-ok .ensures)
+returns c = rw (c .before .before .before .before .active-ok .ensures, c .before .before .before .contents-ok .ensures, c .before .tables-ok .ensures, c .before .before .position .ensures, c .stage-ok .ensures)
 
 pub parts-in-range-spec : {M : Type 1} → statement M
 parts-in-range-spec =
     tie.close
     (tie.spec
     active-ok-requires
-    taken-ok-requires
+    contents-ok-requires
     position-requires
     tables-ok-requires
     stage-ok-requires

@@ -12,7 +12,7 @@ is-idle-requires c κs = search needs
 returns : tie.Need-returns
 returns c =
     let w = c .before .before .before .before .before .before .args .w in
-    λ i. c .before .before .before .in-range .ensures i && (w .beginning .comparing && (w .taken .closed && c .before .before .is-idle .ensures i))
+    λ i. c .before .before .before .in-range .ensures i && (w .beginning .comparing && (w .contents .closed && c .before .before .is-idle .ensures i))
 
 pub may-ask-spec : {M : Type 1} → statement M
 may-ask-spec = tie.close (tie.spec in-range-requires is-idle-requires returns)

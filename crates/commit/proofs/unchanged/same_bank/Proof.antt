@@ -35,7 +35,7 @@ returns c =
     let w = a .w in
     let x = k .key-length .ensures ∙ ap keyLength (o .routes-offset .ensures) in
     let y = s .same-sources .ensures ∙ (λ i. sameEach sameSource (take (w .tables .count) (w .sources)) (recordsOf (a .b .version) (b .bank-of .ensures i) (w .tables .count))) in
-    λ i. not (w .taken .different) && (eqb (w .taken .written) (a .b .length) && (eqb (w .tables .count) (a .b .count) && (eqb (x i) (a .b .key) && y i)))
+    λ i. not (w .contents .different) && (eqb (w .contents .written) (a .b .length) && (eqb (w .tables .count) (a .b .count) && (eqb (x i) (a .b .key) && y i)))
 
 pub same-bank-spec : {M : Type 1} → statement M
 same-bank-spec =

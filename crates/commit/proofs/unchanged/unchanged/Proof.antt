@@ -36,8 +36,8 @@ is-unchanged-requires : tie.Need-is-unchanged-requires
 is-unchanged-requires c κs =
     let m = c .before .before in
     let w = m .before .before .before .args .w in
-    let r = and-left (inRange w) (w .beginning .comparing && (w .taken .closed && isIdle (w .stage))) (sym (m .may-ask .ensures) ∙ not-false _ (c .before .if2 .left)) in
-    count-fits (position (w .taken)) (w .tables) (ranged w r .tables)
+    let r = and-left (inRange w) (w .beginning .comparing && (w .contents .closed && isIdle (w .stage))) (sym (m .may-ask .ensures) ∙ not-false _ (c .before .if2 .left)) in
+    count-fits (position (w .contents)) (w .tables) (ranged w r .tables)
 
 same-answer-requires : tie.Need-same-answer-requires
 same-answer-requires c κs = search needs

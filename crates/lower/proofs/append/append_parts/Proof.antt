@@ -32,7 +32,7 @@ returns c = λ ss.
     let a = g .before .before .args in
     let r = g .append-any .result in
     let e = t .tail-with .ensures ∙ ap (λ (m : ℕ). sets (a .p .tail) (r .at) (take m (a .offered .now))) (sub-zero (r .n)) in
-    ap (λ (l : List ℕ). stepWith (record { answer = r .answer; parts = record { stage = r .stage; beginning = a .p .beginning; taken = r .taken; tables = r .tables; tail = l } }) ss) e ∙ g .append-any .ensures .2 ss
+    ap (λ (l : List ℕ). stepWith (record { answer = r .answer; parts = record { stage = r .stage; beginning = a .p .beginning; contents = r .contents; tables = r .tables; tail = l } }) ss) e ∙ g .append-any .ensures .2 ss
 
 pub append-parts-spec : {M : Type 1} → statement M
 append-parts-spec =

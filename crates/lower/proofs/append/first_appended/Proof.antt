@@ -47,7 +47,7 @@ returns c =
     let a = s .args in
     let n = a .n in
     let xs = a .bytes .now in
-    let t = a .p .taken in
+    let t = a .p .contents in
     let l = sym (length-take-le n xs (s .pre .0)) in
     let x = k .crc32-both .ensures .0 ∙ ap (λ (m : ℕ). crc32 (t .crc) (take m xs)) (sub-zero n) in
     let y = k .crc32-both .ensures .1 ∙ ap (λ (m : ℕ). crc32 (a .p .tables .crc) (take m xs)) (sub-zero n) in (
@@ -57,7 +57,7 @@ returns c =
       λ ss. λ i. record {
         stage = (g .stage-of .ensures ∙ (λ j. stageOf (a .p .beginning .comparing) (record { written = t .written; fill = t .fill + l j; crc = x j; different = t .different; closed = t .closed }))) i;
         beginning = a .p .beginning;
-        taken = record { written = t .written; fill = t .fill + l i; crc = x i; different = t .different; closed = t .closed };
+        contents = record { written = t .written; fill = t .fill + l i; crc = x i; different = t .different; closed = t .closed };
         tables = record { count = a .p .tables .count; table = a .p .tables .table; start = a .p .tables .start; crc = y i; begun = a .p .tables .begun };
         sources = ss;
         tail = sets (a .p .tail) (t .fill) (take n xs);

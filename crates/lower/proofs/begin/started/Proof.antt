@@ -28,7 +28,7 @@ returns c =
     λ i. record {
       stage = Idle;
       beginning = record { active = a .active; comparing = a .comparing; now = z i };
-      taken = record { written = 0; fill = 0; crc = 0; different = false; closed = false };
+      contents = record { written = 0; fill = 0; crc = 0; different = false; closed = false };
       tables = record { count = 0; table = 8; start = 0; crc = 0; begun = 0 };
       sources = ss i;
       tail = ts i;

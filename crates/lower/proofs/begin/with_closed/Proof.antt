@@ -1,5 +1,5 @@
 use mathlib.Core.Path.{sym, ap, _∙_}
-use Rattle.lower.specs.Lower.{withClosed, closedTaken}
+use Rattle.lower.specs.Lower.{withClosed, closedContents}
 use Rattle.writer.specs.declared.Stage.{Stage}
 use borrow.Author.Needs.{needs}
 use Rattle.lower.proofs.begin.with_closed.Statement.{statement}
@@ -20,7 +20,7 @@ unfolding withClosed
 returns-2 c =
     let a = c .before .before .before .before .before .before .before .before .before .args in
     rw (sym (c .before .before .before .before .before .before .is-due .ensures) ∙ c .before .before .before .before .before .if1 .left)
-    (ap (λ (s : Stage). record { stage = s; beginning = a .w .beginning; taken = closedTaken (a .w .taken); tables = a .w .tables; sources = a .w .sources; tail = a .w .tail }) (c .before .before .before .before .stage-of .ensures))
+    (ap (λ (s : Stage). record { stage = s; beginning = a .w .beginning; contents = closedContents (a .w .contents); tables = a .w .tables; sources = a .w .sources; tail = a .w .tail }) (c .before .before .before .before .stage-of .ensures))
 
 pub with-closed-spec : {M : Type 1} → statement M
 with-closed-spec = tie.close (tie.spec is-due-requires returns stage-of-requires returns-2)

@@ -32,7 +32,7 @@ returns c =
     (λ (e : Source). record {
       stage = a .w .stage;
       beginning = a .w .beginning;
-      taken = a .w .taken;
+      contents = a .w .contents;
       tables = record { count = a .w .tables .count + 1; table = noTable; start = a .w .tables .start; crc = a .w .tables .crc; begun = 0 };
       sources = set (a .w .sources) (a .w .tables .count) e;
       tail = a .w .tail;

@@ -34,9 +34,9 @@ with-end-requires c κs =
     let m = o .before in
     let a = m .before .args in
     let e = both-hold (m .may-append .ensures) (o .is-open .ensures) (c .if1 .left) in
-    let r = ranged (a .w) (and-left (inRange (a .w)) (not (a .w .taken .closed)) (and-left (mayAppend (a .w)) (isOpen (a .w .tables)) e)) in
-    let t = open-table (position (a .w .taken)) (a .w .tables) (r .tables) (and-right (mayAppend (a .w)) (isOpen (a .w .tables)) e) in
-    (t .0, t .1, count-fits (position (a .w .taken)) (a .w .tables) (r .tables), t .2, position-fits (a .w .taken) (r .taken))
+    let r = ranged (a .w) (and-left (inRange (a .w)) (not (a .w .contents .closed)) (and-left (mayAppend (a .w)) (isOpen (a .w .tables)) e)) in
+    let t = open-table (position (a .w .contents)) (a .w .tables) (r .tables) (and-right (mayAppend (a .w)) (isOpen (a .w .tables)) e) in
+    (t .0, t .1, count-fits (position (a .w .contents)) (a .w .tables) (r .tables), t .2, position-fits (a .w .contents) (r .contents))
 
 did-requires : tie.Need-did-requires
 did-requires c κs = search needs

@@ -41,7 +41,7 @@ with-table-requires c κs =
     let o = c .before in
     let m = o .before in
     let a = m .before .before .args in
-    (m .before .if1 .left, position-fits (a .w .taken) (ranged (a .w) (and-left (inRange (a .w)) (not (a .w .taken .closed)) (and-left (mayAppend (a .w)) (mayBegin (a .w .tables) (a .table)) (both-hold (m .may-append .ensures) (o .may-begin .ensures) (c .if2 .left)))) .taken))
+    (m .before .if1 .left, position-fits (a .w .contents) (ranged (a .w) (and-left (inRange (a .w)) (not (a .w .contents .closed)) (and-left (mayAppend (a .w)) (mayBegin (a .w .tables) (a .table)) (both-hold (m .may-append .ensures) (o .may-begin .ensures) (c .if2 .left)))) .contents))
 
 did-requires : tie.Need-did-requires
 did-requires c κs = search needs

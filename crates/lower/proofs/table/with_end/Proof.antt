@@ -44,7 +44,7 @@ returns c =
     (λ (s : Source). record {
       stage = a .w .stage;
       beginning = a .w .beginning;
-      taken = a .w .taken;
+      contents = a .w .contents;
       tables = record { count = a .w .tables .count; table = noTable; start = a .w .tables .start; crc = a .w .tables .crc; begun = a .w .tables .begun };
       sources = set (a .w .sources) (a .w .tables .count - 1) s;
       tail = a .w .tail;

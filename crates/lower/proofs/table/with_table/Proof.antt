@@ -23,8 +23,8 @@ returns c =
     (λ (b : ℕ). record {
       stage = a .w .stage;
       beginning = a .w .beginning;
-      taken = a .w .taken;
-      tables = record { count = a .w .tables .count; table = a .table; start = a .w .taken .written + a .w .taken .fill; crc = 0; begun = bitOr (a .w .tables .begun) b };
+      contents = a .w .contents;
+      tables = record { count = a .w .tables .count; table = a .table; start = a .w .contents .written + a .w .contents .fill; crc = 0; begun = bitOr (a .w .tables .begun) b };
       sources = a .w .sources;
       tail = a .w .tail;
     })

@@ -60,7 +60,7 @@ returns-2 c = λ ss.
     let f = t .before in
     let n = f .before .before .a .given in
     let w = row-written (y .p .tables .table) (y .texts .now) (y .lengths .now) (replicate 512 0) (r .row .last .1 .1 .1 .0) (r .row .result) (s .pre .2) (r .row .ensures .0) (r .row .ensures .1) (n .0 .0) (n .1) in
-    let d = upper-full (y .region .now) (withSources (y .p) ss) (row (y .texts .now) (y .lengths .now)) (s .pre .0) refl (s .pre .1 ss) (w .0) (ap (λ (k : ℕ). leb (position (y .p .taken) + k) capacity) (sym (w .1)) ∙ sym (f .fits2 .ensures) ∙ not-true _ (t .if1 .taken)) in
+    let d = upper-full (y .region .now) (withSources (y .p) ss) (row (y .texts .now) (y .lengths .now)) (s .pre .0) refl (s .pre .1 ss) (w .0) (ap (λ (k : ℕ). leb (position (y .p .contents) + k) capacity) (sym (w .1)) ∙ sym (f .fits2 .ensures) ∙ not-true _ (t .if1 .taken)) in
     (ap (λ (z : PartsStep). stepWith z ss) (c .parts-stay .ensures) ∙ d .0, d .1)
 
 slice-aggregate-run-row : tie.Need-slice-aggregate-run-row
@@ -95,7 +95,7 @@ returns-3 c = λ ss.
     let b = row-there (y .p .tables .table) (y .texts .now) (y .lengths .now) (replicate 512 0) (r .row .last .1 .1 .1 .0) (r .row .result) (s .pre .2) (r .row .ensures .0) (r .row .ensures .1) (n .0 .0) (n .1) in
     let d =
     upper-done (y .region .now) (withSources (y .p) ss) (row (y .texts .now) (y .lengths .now)) (s .pre .0) refl (s .pre .1 ss) (w .0)
-    (ap (λ (k : ℕ). leb (position (y .p .taken) + k) capacity) (sym (w .1)) ∙ sym (f .fits2 .ensures) ∙ not-false _ (t .if1 .left))
+    (ap (λ (k : ℕ). leb (position (y .p .contents) + k) capacity) (sym (w .1)) ∙ sym (f .fits2 .ensures) ∙ not-false _ (t .if1 .left))
     (withSources (x .run-row .result) ss)
     (x .run-row .last .1 .0)
     (x .run-row .ensures ss .0 ∙ ap (λ (l : List ℕ). ranWriter (y .region .now) (withSources (y .p) ss) (dues ++ (dues ++ appends l))) b)

@@ -72,7 +72,7 @@ returns-4 c =
     let m = o .before in
     let a = m .before .before .before .before .args in
     let h = le-leb (a .table) 7 (omega arith) in
-    let d = upper-full (a .region .now) (a .w) (tableWithNames (a .table)) (omega arith) h (both-hold (m .may-append .ensures) (o .may-begin .ensures) (g .if3 .left)) refl (ap (λ (k : ℕ). leb (position (a .w .taken) + k) capacity) (sym (n .names .ensures .1)) ∙ sym (f .fits2 .ensures) ∙ not-true _ (t .if4 .taken)) in
+    let d = upper-full (a .region .now) (a .w) (tableWithNames (a .table)) (omega arith) h (both-hold (m .may-append .ensures) (o .may-begin .ensures) (g .if3 .left)) refl (ap (λ (k : ℕ). leb (position (a .w .contents) + k) capacity) (sym (n .names .ensures .1)) ∙ sym (f .fits2 .ensures) ∙ not-true _ (t .if4 .taken)) in
     (c .stays4 .ensures ∙ d .0, d .1)
 
 run-table-requires : tie.Need-run-table-requires
@@ -101,7 +101,7 @@ returns-5 c =
     upper-done (a .region .now) (a .w) (tableWithNames (a .table)) (omega arith) h
     (both-hold (m .may-append .ensures) (o .may-begin .ensures) (g .if3 .left))
     refl
-    (ap (λ (k : ℕ). leb (position (a .w .taken) + k) capacity) (sym (e .1)) ∙ sym (f .fits2 .ensures) ∙ not-false _ (t .if4 .left))
+    (ap (λ (k : ℕ). leb (position (a .w .contents) + k) capacity) (sym (e .1)) ∙ sym (f .fits2 .ensures) ∙ not-false _ (t .if4 .left))
     (x .run-table .result)
     (x .run-table .last .1 .0)
     (x .run-table .ensures .0 ∙ ap (λ (l : List ℕ). ranWriter (a .region .now) (a .w) (dues ++ (table (a .table) ∷ (dues ++ appends l)))) (e .2))
