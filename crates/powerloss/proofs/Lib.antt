@@ -16,7 +16,7 @@ pub mod Appends
 pub mod Uppers
 pub mod States
 pub mod Computed
-pub mod Settled
+pub mod NothingDue
 pub mod Exactly
 pub mod Count
 pub mod Events

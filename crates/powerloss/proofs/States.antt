@@ -17,7 +17,7 @@ use Rattle.run.specs.Appends.{dues, appends}
 use Rattle.upper.specs.Upper.{Upper, appendedBytes, lowerOf, runOf, refusalOf, runIf, upperRun, answered, upperStep}
 use Rattle.powerloss.specs.History.{Update, isDone}
 use Rattle.powerloss.specs.Machine.{Image, nextAll, found}
-use Rattle.powerloss.specs.Claim.{UpperTyped, Reached, Settled}
+use Rattle.powerloss.specs.Claim.{UpperTyped, Reached, NothingDue}
 use Rattle.powerloss.proofs.Bytes.{bytes-nil, bytes-cons}
 use Rattle.powerloss.proofs.Inv.{Kept, Open, State}
 use Rattle.powerloss.proofs.Runs.{AllPlain, ran}
@@ -80,22 +80,22 @@ module _ (hd : Loaded) (rs : List Source) (im : Image) (region : List ℕ) (w : 
       subst Ends (append-assoc dues (lowerOf c) (dues ++ appends (appendedBytes c)))
       (ends (dues ++ lowerOf c) (appendedBytes c) (plain-append dues (lowerOf c) plain-dues (plain-lower c p)) (bytes-appended c p))
 
-  settled-by : (c : Upper) → UpperTyped c → (x : Option Refusal) → answered x (ranWriter region w (runIf x (runOf c))) .answer ≡ Done → isDue (answered x (ranWriter region w (runIf x (runOf c))) .writer .contents) ≡ false
-  settled-by c p none e = still-after (runOf c) (run-ends c p)
-  settled-by c p (some r) e = absurd (false≢true (ap isDone e))
+  nothingDue-by : (c : Upper) → UpperTyped c → (x : Option Refusal) → answered x (ranWriter region w (runIf x (runOf c))) .answer ≡ Done → isDue (answered x (ranWriter region w (runIf x (runOf c))) .writer .contents) ≡ false
+  nothingDue-by c p none e = still-after (runOf c) (run-ends c p)
+  nothingDue-by c p (some r) e = absurd (false≢true (ap isDone e))
 
-  settled-at : (c : Upper) → UpperTyped c → upperStep region w c .answer ≡ Done → isDue (upperStep region w c .writer .contents) ≡ false
+  nothingDue-at : (c : Upper) → UpperTyped c → upperStep region w c .answer ≡ Done → isDue (upperStep region w c .writer .contents) ≡ false
   unfolding upperStep upperRun
-  settled-at c p e = settled-by c p (refusalOf region w c) e
+  nothingDue-at c p e = nothingDue-by c p (refusalOf region w c) e
 
-settled-in : (region : List ℕ) (hd : Loaded) (rs : List Source) (im : Image) (s : Option Writer) (v : Option Update) (w : Writer) → Kept region hd rs im → State region hd s v → s ≡ some w
+nothingDue-in : (region : List ℕ) (hd : Loaded) (rs : List Source) (im : Image) (s : Option Writer) (v : Option Update) (w : Writer) → Kept region hd rs im → State region hd s v → s ≡ some w
     → (c : Upper) → UpperTyped c → upperStep region w c .answer ≡ Done → isDue (upperStep region w c .writer .contents) ≡ false
-settled-in region hd rs im none v w k o e = absurd (false≢true (ap isState e))
-settled-in region hd rs im (some x) none w k o e = absurd o
-settled-in region hd rs im (some x) (some u) w k o e = settled-at hd rs im region w u k (subst (λ (y : Writer). Open region hd y u) (ap (stateOr w) e) o)
+nothingDue-in region hd rs im none v w k o e = absurd (false≢true (ap isState e))
+nothingDue-in region hd rs im (some x) none w k o e = absurd o
+nothingDue-in region hd rs im (some x) (some u) w k o e = nothingDue-at hd rs im region w u k (subst (λ (y : Writer). Open region hd y u) (ap (stateOr w) e) o)
 
-pub settled : Settled
-settled region events l y p w e =
+pub nothingDue : NothingDue
+nothingDue region events l y p w e =
     let r = nextAll (found region) events in
     let h = inv-all events (found region) p (inv-found region l y) in
-    settled-in (r .region) (r .history .held) (r .history .records) (r .image) (r .state) (r .history .open·) w (h .kept) (h .open·) e
+    nothingDue-in (r .region) (r .history .held) (r .history .records) (r .image) (r .state) (r .history .open·) w (h .kept) (h .open·) e

@@ -89,9 +89,9 @@ Reached =
     (region : List ℕ) (events : List Event) → length region ≡ regionSize → Bytes region → AllTyped events → (w : Writer) → nextAll (found region) events .state ≡ some w → inRange w ≡ true
 
 -- "each of its calls is a run of lower calls that ends with nothing due": an upper call that is answered, on a state that a list reaches
--- (proofs/States.antt: settled)
-abbrev pub Settled : Type 0
-Settled =
+-- (proofs/States.antt: nothingDue)
+abbrev pub NothingDue : Type 0
+NothingDue =
     (region : List ℕ) (events : List Event) → length region ≡ regionSize → Bytes region → AllTyped events → (w : Writer) → nextAll (found region) events .state ≡ some w
     → (c : Upper) → UpperTyped c → upperStep (nextAll (found region) events .region) w c .answer ≡ Done → isDue (upperStep (nextAll (found region) events .region) w c .writer .contents) ≡ false
 
@@ -140,7 +140,7 @@ pub record Between : Type 0 where
 pub record Claims : Type 0 where
   pub survives : Demand3
   pub reached : Reached
-  pub settled : Settled
+  pub nothingDue : NothingDue
   pub torn· : Torn
   pub typed : CutTyped
   pub dropped : Dropped

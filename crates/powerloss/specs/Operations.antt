@@ -49,10 +49,10 @@ DueExactly =
     (region : List ℕ) (events : List Event) → length region ≡ regionSize → Bytes region → AllTyped events → (w : Writer) → nextAll (found region) events .state ≡ some w
     → Exactly (nextAll (found region) events .region) w
 
--- "each of its calls is a run of lower calls that ends with nothing due": the upper beginning too, if it is answered (proofs/Settled.antt;
--- the other five: specs/Claim.antt, `Settled`)
-abbrev pub BeginSettled : Type 0
-BeginSettled =
+-- "each of its calls is a run of lower calls that ends with nothing due": the upper beginning too, if it is answered (proofs/NothingDue.antt;
+-- the other five: specs/Claim.antt, `NothingDue`)
+abbrev pub BeginNothingDue : Type 0
+BeginNothingDue =
     (region : List ℕ) (events : List Event) → length region ≡ regionSize → Bytes region → AllTyped events
     → (comparing : Bool) (now : ℤ) (identity texts lengths : List ℕ) → SFits w64 now → Bytes identity → Bytes texts
     → beginStep (nextAll (found region) events .region) comparing now identity texts lengths .answer ≡ Done
@@ -143,7 +143,7 @@ ThreeLengths = (operationsOf 255 ≡ 5) × (operationsOf 257 ≡ 6) × (operatio
 -- all of them: what `operations_hold` promises
 pub record Operations : Type 0 where
   pub dueExactly : DueExactly
-  pub beginSettled : BeginSettled
+  pub beginNothingDue : BeginNothingDue
   pub committed : CommittedOperations
   pub comparing : ComparingOperations
   pub lower : LowerOperations

@@ -34,7 +34,7 @@ use Rattle.run.specs.Run.{lowerStep, lowerOps, ranWriter, ranRegion}
 use Rattle.run.specs.Appends.{dues, appends}
 use Rattle.run.specs.Parts.{Ran, AfterAppend, countOf}
 use Rattle.flash.specs.Flash.{performed}
-use Rattle.run.proofs.Laws.{quiet, quiet-settled, quiet-dues-writer, quiet-dues-ran, then-writer, then-region, fed-all-writer, fed-all-region}
+use Rattle.run.proofs.Laws.{quiet, quiet-flush, quiet-dues-writer, quiet-dues-ran, then-writer, then-region, fed-all-writer, fed-all-region}
 use Rattle.region.specs.Region.{capacity}
 
 pub is-false : (b : Bool) → not b ≡ true → b ≡ false
@@ -313,7 +313,7 @@ module _ (region : List ℕ) (w : Writer) (bs : List ℕ) (m : mayAppend w ≡ t
 
     pub short-fed : (s .writer ≡ ranWriter region w (dues ++ (dues ++ appends bs))) × (region ≡ ranRegion region w (dues ++ (dues ++ appends bs)))
     short-fed =
-        let q = quiet-settled region (s .writer) (s .writer .stage) refl quiet-after in
+        let q = quiet-flush region (s .writer) (s .writer .stage) refl quiet-after in
         let c = chunk-fed region w bs m d k l (length bs) all-fit s f (s .writer) region (q .0) (q .1) in (
           fed-all-writer region (s .writer) bs (length bs) (omega arith) (ranWriter region w (appends bs)) (c .2) ∙ sym (quiet-dues-writer region w (dues ++ appends bs) quiet-before ∙ quiet-dues-writer region w (appends bs) quiet-before),
           fed-all-region region (s .writer) bs (length bs) (omega arith) (ranRegion region w (appends bs)) (c .3) ∙ sym (quiet-dues-ran region w (dues ++ appends bs) quiet-before ∙ quiet-dues-ran region w (appends bs) quiet-before),

@@ -73,9 +73,9 @@ module _ (region : List ℕ) (w : Writer) where
   pub quiet-dues-ran : (cs : List Lower) → quiet (w .stage) ≡ true → ranRegion region w (dues ++ cs) ≡ ranRegion region w cs
   quiet-dues-ran cs e = quiet-ran (due ∷ due ∷ cs) e ∙ quiet-ran (due ∷ cs) e ∙ quiet-ran cs e
 
-  pub quiet-settled : (s : Stage) → w .stage ≡ s → quiet s ≡ true → (w ≡ ranWriter region w dues) × (region ≡ ranRegion region w dues)
+  pub quiet-flush : (s : Stage) → w .stage ≡ s → quiet s ≡ true → (w ≡ ranWriter region w dues) × (region ≡ ranRegion region w dues)
   unfolding ranWriter ranRegion
-  quiet-settled s h e = let q = ap quiet h ∙ e in (sym (quiet-dues-writer [] q), sym (quiet-dues-ran [] q))
+  quiet-flush s h e = let q = ap quiet h ∙ e in (sym (quiet-dues-writer [] q), sym (quiet-dues-ran [] q))
 
   pub quiet-two : (s : Stage) → w .stage ≡ s → quiet s ≡ true → (w ≡ ranWriter region w (due ∷ due ∷ [])) × (region ≡ ranRegion region w (due ∷ due ∷ []))
   unfolding ranWriter ranRegion

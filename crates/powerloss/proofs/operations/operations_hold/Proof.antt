@@ -1,5 +1,5 @@
 use mathlib.Core.Path.{refl}
-use Rattle.powerloss.proofs.Settled.{begin-settled}
+use Rattle.powerloss.proofs.NothingDue.{begin-nothingDue}
 use Rattle.powerloss.proofs.Exactly.{due-exactly}
 use Rattle.powerloss.proofs.Events.{committed-operations, comparing-operations, lower-operations}
 use Rattle.powerloss.proofs.operations.operations_hold.Statement.{statement}
@@ -9,7 +9,7 @@ returns : tie.Need-returns
 returns c =
     record {
       dueExactly = due-exactly;
-      beginSettled = begin-settled;
+      beginNothingDue = begin-nothingDue;
       committed = committed-operations;
       comparing = comparing-operations;
       lower = lower-operations;

@@ -27,7 +27,7 @@ use Rattle.powerloss.proofs.Lowers.{plain-call, begun-open}
 use Rattle.powerloss.proofs.Texts.{bytes-key}
 use Rattle.powerloss.proofs.Appends.{Now, regionThree, writerThree, three}
 use Rattle.powerloss.proofs.Uppers.{done-by, inv-found, inv-all}
-use Rattle.powerloss.specs.Operations.{BeginSettled}
+use Rattle.powerloss.specs.Operations.{BeginNothingDue}
 
 -- nothing is due after bytes are appended, each with what is due then
 appends-still : (hd : Loaded) (rs : List Source) (im : Image) (xs region : List ℕ) (w : Writer) (u : Update) → Now hd rs im region w u → isDue (w .contents) ≡ false → Bytes xs
@@ -62,8 +62,8 @@ begin-at region hd rs im k comparing now identity texts lengths f bi bt =
     (λ e. rw (e, k .loads)
     (appends-still hd rs im (keyBytes identity texts lengths) region (started hd comparing now) (takes [] (opened hd now)) (record { kept = k; open· = o }) (first-still hd comparing now) (bytes-key identity texts lengths bi bt)))
 
-pub begin-settled : BeginSettled
-begin-settled region events l y p comparing now identity texts lengths f bi bt =
+pub begin-nothingDue : BeginNothingDue
+begin-nothingDue region events l y p comparing now identity texts lengths f bi bt =
     let r = nextAll (found region) events in
     let h = inv-all events (found region) p (inv-found region l y) in
     begin-at (r .region) (r .history .held) (r .history .records) (r .image) (h .kept) comparing now identity texts lengths f bi bt
