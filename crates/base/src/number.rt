@@ -38,21 +38,21 @@ const UP_13: u32 = 8192;
 const DOWN_19: u32 = 524288;
 
 // A byte as a 32-bit number.
-pub fn wide(x: u8) -> u32
+pub fn u8_to_u32(x: u8) -> u32
     ensures { λ r. ⌜ (r ≡ x) × (r < byteValues) ⌝ }
 {
     x as u32
 }
 
 // A byte as a 64-bit number.
-pub fn wide64(x: u8) -> u64
+pub fn u8_to_u64(x: u8) -> u64
     ensures { λ r. ⌜ (r ≡ x) × (r < byteValues) ⌝ }
 {
     x as u64
 }
 
 // A 32-bit number as a 64-bit one.
-pub fn wider(n: u32) -> u64
+pub fn u32_to_u64(n: u32) -> u64
     ensures { λ r. ⌜ (r ≡ n) × (r < wordValues) ⌝ }
 {
     n as u64

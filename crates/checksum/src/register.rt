@@ -14,8 +14,8 @@ use base::number::FOURTH_BYTE_64;
 use base::number::SECOND_BYTE_64;
 use base::number::THIRD_BYTE_64;
 use base::number::WORD_VALUES;
-use base::number::wide64;
-use base::number::wider;
+use base::number::u8_to_u64;
+use base::number::u32_to_u64;
 
 // The table has a row of 16 nibbles for each of 8 numbers of steps.
 pub(crate) const NIBBLES: u32 = 16;
@@ -199,10 +199,10 @@ fn half(s: &[u8], i: usize) -> u64
     requires { ⌜ i + halfBytes ≤ length (now s) ⌝ }
     ensures { λ r. ⌜ (r ≡ little (take halfBytes (drop i (now (s .entry))))) × (r < wordValues) ⌝ }
 {
-    wide64(s[i])
-        + wide64(s[i + 1]) * SECOND_BYTE_64
-        + wide64(s[i + 2]) * THIRD_BYTE_64
-        + wide64(s[i + 3]) * FOURTH_BYTE_64
+    u8_to_u64(s[i])
+        + u8_to_u64(s[i + 1]) * SECOND_BYTE_64
+        + u8_to_u64(s[i + 2]) * THIRD_BYTE_64
+        + u8_to_u64(s[i + 3]) * FOURTH_BYTE_64
 }
 
 // The eight bytes at offset i as a little-endian number.
@@ -394,7 +394,7 @@ fn near_all(crc: u32, s: &[u8]) -> ThreeAt
     ensures { λ r. ⌜ (r .at + 3 * longBytes ≤ length (now (s .entry))) × (run (three (r .a) (r .b) (r .c)) (drop (r .at) (now (s .entry))) ≡ run crc (now (s .entry))) ⌝ }
 {
     let mut p = Three {
-        a: wider(crc),
+        a: u32_to_u64(crc),
         b: 0,
         c: 0,
     };
@@ -417,7 +417,7 @@ fn far_all(crc: u32, s: &[u8]) -> FiveAt
     ensures { λ r. ⌜ (r .at + 5 * longBytes ≤ length (now (s .entry))) × (run (five (r .a) (r .b) (r .c) (r .d) (r .e)) (drop (r .at) (now (s .entry))) ≡ run crc (now (s .entry))) ⌝ }
 {
     let mut p = Five {
-        a: wider(crc),
+        a: u32_to_u64(crc),
         b: 0,
         c: 0,
         d: 0,
@@ -448,7 +448,7 @@ fn words(t: &[u32; ENTRIES], crc: u32, s: &[u8], from: usize) -> Part
     let mut c = crc;
     let mut i = from;
     while ONE_WORD <= s.len() - i {
-        c = pair(t, wider(c) ^ load(s, i));
+        c = pair(t, u32_to_u64(c) ^ load(s, i));
         i += ONE_WORD;
     }
     Part { crc: c, at: i }
@@ -485,7 +485,7 @@ fn one(t: &[u32; ENTRIES], a: u64, s: &[u8], at: usize) -> u64
     requires { ⌜ at + longBytes ≤ length (now s) ⌝ }
     ensures { λ r. ⌜ (r ≡ steps longBits (bitXor a (little (take longBytes (drop at (now (s .entry))))))) × (r < wordValues) ⌝ }
 {
-    wider(pair(t, a ^ load(s, at)))
+    u32_to_u64(pair(t, a ^ load(s, at)))
 }
 
 // Reads the last three words, with the pending words added.

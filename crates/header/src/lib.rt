@@ -22,7 +22,7 @@ ghost use Rattle.header.specs.Header.{
 ghost use Rattle.record.specs.Record.{recordSize};
 ghost use Rattle.header.specs.Header.{maxSources};
 use base::number::le;
-use base::number::wider;
+use base::number::u32_to_u64;
 use base::slice::part;
 use base::table::TABLES;
 use leaf::bytes::get;
@@ -168,7 +168,9 @@ fn updated_ok(checked: i64, u: i64) -> bool
 fn block_ok(b: Bank, t: Block) -> bool
     ensures { λ r. ⌜ r ≡ blockOk b t ⌝ }
 {
-    (t.length == 0) | ((b.key <= t.offset) & (wider(t.offset) + wider(t.length) <= wider(b.length)))
+    (t.length == 0)
+        | ((b.key <= t.offset)
+            & (u32_to_u64(t.offset) + u32_to_u64(t.length) <= u32_to_u64(b.length)))
 }
 
 fn blocks_ok(b: Bank, ts: [Block; TABLES]) -> bool

@@ -1,8 +1,8 @@
 // Pieces of a line on standard output.
 use crate::text::bits;
 use crate::text::put8;
-use base::number::wide64;
-use base::number::wider;
+use base::number::u8_to_u64;
+use base::number::u32_to_u64;
 use base::slice::part;
 use leaf::bytes::get8;
 use libc::STDOUT_FILENO;
@@ -15,7 +15,7 @@ pub fn say(text: &[u8]) {
 // A text and a number.
 pub fn field(name: &[u8], n: u32) {
     say(name);
-    io::print_decimal(STDOUT_FILENO, wider(n));
+    io::print_decimal(STDOUT_FILENO, u32_to_u64(n));
 }
 
 // A text and an offset.
@@ -27,7 +27,7 @@ pub fn place_field(name: &[u8], n: usize) {
 // A text and a CRC.
 pub fn hex_field(name: &[u8], crc: u32) {
     say(name);
-    io::print_hex(STDOUT_FILENO, wider(crc), 8);
+    io::print_hex(STDOUT_FILENO, u32_to_u64(crc), 8);
 }
 
 // A text and a signed number.
@@ -83,7 +83,7 @@ fn word(r: Refusal) {
 // A refusal by its number and its word, and the line's end.
 pub fn refused(r: Refusal) {
     say(b"refusal ");
-    io::print_decimal(STDOUT_FILENO, wide64(refusal::number(r)));
+    io::print_decimal(STDOUT_FILENO, u8_to_u64(refusal::number(r)));
     word(r);
     say(b"\n");
 }

@@ -1,5 +1,5 @@
 // Words and numbers in an argument.
-use base::number::wide64;
+use base::number::u8_to_u64;
 use base::slice::part;
 use leaf::bytes::get8;
 use std::num::wrapping_add_usize;
@@ -50,7 +50,7 @@ fn digit(c: u8) -> u64 {
     if c < b'0' {
         return 255;
     }
-    wide64(c - b'0')
+    u8_to_u64(c - b'0')
 }
 
 // The number whose digits all bytes are; none above 9223372036854775809.
@@ -106,8 +106,8 @@ pub fn set(lengths: &mut [u32], at: usize, n: u32) {
 pub fn bits(z: i64) -> u64 {
     let mut b = [0u8; 8];
     leaf::bytes::put_time(&mut b, 0, z);
-    base::number::wider(leaf::bytes::get(&b, 0))
-        + base::number::wider(leaf::bytes::get(&b, 4)) * 4294967296
+    base::number::u32_to_u64(leaf::bytes::get(&b, 0))
+        + base::number::u32_to_u64(leaf::bytes::get(&b, 4)) * 4294967296
 }
 
 // The signed number of 64 bits.

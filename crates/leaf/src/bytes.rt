@@ -12,8 +12,8 @@ use base::number::FOURTH_BYTE;
 use base::number::SECOND_BYTE;
 use base::number::THIRD_BYTE;
 use base::number::WORD_VALUES;
-use base::number::wide;
-use base::number::wider;
+use base::number::u8_to_u32;
+use base::number::u32_to_u64;
 
 // The bytes of a 32-bit number, and of a 64-bit one.
 pub const WORD_SIZE: usize = 4;
@@ -45,10 +45,10 @@ pub fn get(b: &[u8], i: usize) -> u32
     ensures { λ r. ⌜ r ≡ Bytes.word (now (b .entry)) i ⌝ }
 {
     let p = rest(b, i);
-    wide(get8(p, 0))
-        + wide(get8(p, 1)) * SECOND_BYTE
-        + wide(get8(p, 2)) * THIRD_BYTE
-        + wide(get8(p, 3)) * FOURTH_BYTE
+    u8_to_u32(get8(p, 0))
+        + u8_to_u32(get8(p, 1)) * SECOND_BYTE
+        + u8_to_u32(get8(p, 2)) * THIRD_BYTE
+        + u8_to_u32(get8(p, 3)) * FOURTH_BYTE
 }
 
 // Whether n bytes at offset i fit in len bytes.
@@ -100,7 +100,7 @@ pub fn get_time(b: &[u8], i: usize) -> i64
     ensures { λ r. ⌜ r ≡ Bytes.time (now (b .entry)) i ⌝ }
 {
     let p = rest(b, i);
-    signed_of(wider(get(p, 0)) + wider(get(p, WORD_SIZE)) * WORD_VALUES)
+    signed_of(u32_to_u64(get(p, 0)) + u32_to_u64(get(p, WORD_SIZE)) * WORD_VALUES)
 }
 
 // Writes a signed 64-bit number at offset i if it fits; otherwise nothing changes.

@@ -1,5 +1,5 @@
 // Pieces of a line.
-use base::number::wider;
+use base::number::u32_to_u64;
 
 pub fn say(fd: i32, text: &[u8]) {
     io::write_all(fd, text);
@@ -7,7 +7,7 @@ pub fn say(fd: i32, text: &[u8]) {
 
 pub fn field(fd: i32, name: &[u8], n: u32) {
     say(fd, name);
-    io::print_decimal(fd, wider(n));
+    io::print_decimal(fd, u32_to_u64(n));
 }
 
 // A text and a number below a million, with a comma before its last three digits.
@@ -22,9 +22,9 @@ fn thousands(fd: i32, name: &[u8], n: u32) {
 }
 
 fn three_digits(fd: i32, n: u32) {
-    io::print_decimal(fd, wider(n / 100 % 10));
-    io::print_decimal(fd, wider(n / 10 % 10));
-    io::print_decimal(fd, wider(n % 10));
+    io::print_decimal(fd, u32_to_u64(n / 100 % 10));
+    io::print_decimal(fd, u32_to_u64(n / 10 % 10));
+    io::print_decimal(fd, u32_to_u64(n % 10));
 }
 
 // A text and a number below a thousand million, with a comma before each three digits.

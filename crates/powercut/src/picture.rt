@@ -92,7 +92,7 @@ fn patterns(fd: i32) {
 }
 
 fn rect(fd: i32, mark: u8, x: u32, y: u32, width: u32) {
-    field(fd, b"<rect class=\"m", base::number::wide(mark));
+    field(fd, b"<rect class=\"m", base::number::u8_to_u32(mark));
     field(fd, b"\" x=\"", x);
     field(fd, b"\" y=\"", y);
     field(fd, b"\" width=\"", width);

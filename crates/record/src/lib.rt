@@ -36,7 +36,7 @@ ghost use Rattle.base.specs.Table.{maxTables};
 use base::number::FOURTH_BYTE;
 use base::number::SECOND_BYTE;
 use base::number::THIRD_BYTE;
-use base::number::wide;
+use base::number::u8_to_u32;
 use base::table::TABLES;
 use leaf::bytes::WORD_SIZE;
 use leaf::bytes::get;
@@ -228,10 +228,10 @@ fn word_at(r: &[u8], at: usize) -> u32
     if r.len() - WORD_SIZE < at {
         return get(r, at);
     }
-    wide(r[at])
-        + wide(r[at + 1]) * SECOND_BYTE
-        + wide(r[at + 2]) * THIRD_BYTE
-        + wide(r[at + 3]) * FOURTH_BYTE
+    u8_to_u32(r[at])
+        + u8_to_u32(r[at + 1]) * SECOND_BYTE
+        + u8_to_u32(r[at + 2]) * THIRD_BYTE
+        + u8_to_u32(r[at + 3]) * FOURTH_BYTE
 }
 
 fn block_at(r: &[u8], at: usize) -> Block

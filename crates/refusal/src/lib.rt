@@ -1,7 +1,7 @@
 // The refusals: 1 to 14 are document 01's; 15 to 23 are document 02's, and no call gives them yet. A refusal has one number in all calls.
 ghost use mathlib.Core.Path.{_≡_};
 ghost use Rattle.refusal.specs.Refusal.{numberOf};
-use base::number::wide;
+use base::number::u8_to_u32;
 
 pub enum Refusal {
     Region,
@@ -64,5 +64,5 @@ pub fn number(r: Refusal) -> u8
 pub fn number_of(r: Refusal) -> u32
     ensures { λ n. ⌜ n ≡ numberOf r ⌝ }
 {
-    wide(number(r))
+    u8_to_u32(number(r))
 }

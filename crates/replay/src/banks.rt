@@ -14,7 +14,7 @@ use bank::Loaded;
 use bank::turns::Checking;
 use bank::turns::Progress;
 use bank::turns::Turn;
-use base::number::wide;
+use base::number::u8_to_u32;
 use header::Bank;
 use header::Validated;
 use key::SameKey;
@@ -32,7 +32,7 @@ fn is(a: &[u8], k: u8, n: u32) -> bool {
 
 // Whether an answer is a refusal's number and nothing else.
 fn is_refusal(a: &[u8], r: Refusal) -> bool {
-    is(a, 0, wide(refusal::number(r))) & (words(a) == 1)
+    is(a, 0, u8_to_u32(refusal::number(r))) & (words(a) == 1)
 }
 
 // Whether an answer starts with these three numbers.
@@ -150,7 +150,7 @@ fn is_progress(a: &[u8], p: Progress) -> bool {
     match p {
         Progress::Hashed(n) => three(a, 0, 0, n),
         Progress::Yes => three(a, 0, 1, 0),
-        Progress::Refused(r) => three(a, wide(refusal::number(r)), 0, 0),
+        Progress::Refused(r) => three(a, u8_to_u32(refusal::number(r)), 0, 0),
     }
 }
 

@@ -3,7 +3,7 @@ use crate::text::first;
 use crate::text::is_word;
 use crate::text::unhex;
 use crate::text::word;
-use base::number::wide;
+use base::number::u8_to_u32;
 use key::KeyAnswer;
 use key::SameKey;
 use leaf::bytes::get8;
@@ -12,7 +12,7 @@ use leaf::bytes::get8;
 fn widen(bytes: &[u8], out: &mut [u32]) {
     let mut i = 0;
     while i < out.len() {
-        out[i] = wide(get8(bytes, i));
+        out[i] = u8_to_u32(get8(bytes, i));
         i += 1;
     }
 }

@@ -7,7 +7,7 @@ use crate::text::place;
 use crate::text::unhex;
 use crate::text::word;
 use crate::text::words;
-use base::number::wide;
+use base::number::u8_to_u32;
 use base::slice::part;
 use leaf::bytes::get8;
 use row::RowAnswer;
@@ -26,7 +26,7 @@ pub fn names_line(l: &[u8]) -> bool {
 
 // The 16-bit number at an offset.
 fn pair(bytes: &[u8], at: usize) -> u32 {
-    wide(get8(bytes, at)) + wide(get8(bytes, wrapping_add_usize(at, 1))) * 256
+    u8_to_u32(get8(bytes, at)) + u8_to_u32(get8(bytes, wrapping_add_usize(at, 1))) * 256
 }
 
 // The 16-bit numbers of bytes, 0 past the end.

@@ -19,20 +19,20 @@ get-requires-2 c κs = search needs
 returns-2 : tie.Need-returns-2
 returns-2 c = search needs
 
-shared-slice-read-wide : tie.Need-shared-slice-read-wide
-shared-slice-read-wide c = search needs
+shared-slice-read-u8-to-u32 : tie.Need-shared-slice-read-u8-to-u32
+shared-slice-read-u8-to-u32 c = search needs
 
-wide-requires : tie.Need-wide-requires
-wide-requires c κs = search needs
+u8-to-u32-requires : tie.Need-u8-to-u32-requires
+u8-to-u32-requires c κs = search needs
 
-add-wide : tie.Need-add-wide
-add-wide c = search needs
+add-u8-to-u32 : tie.Need-add-u8-to-u32
+add-u8-to-u32 c = search needs
 
-shared-slice-read-wide-2 : tie.Need-shared-slice-read-wide-2
-shared-slice-read-wide-2 c = search needs
+shared-slice-read-u8-to-u32-2 : tie.Need-shared-slice-read-u8-to-u32-2
+shared-slice-read-u8-to-u32-2 c = search needs
 
-wide-requires-2 : tie.Need-wide-requires-2
-wide-requires-2 c κs = search needs
+u8-to-u32-requires-2 : tie.Need-u8-to-u32-requires-2
+u8-to-u32-requires-2 c κs = search needs
 
 mul-result : tie.Need-mul-result
 mul-result c = search needs
@@ -40,14 +40,14 @@ mul-result c = search needs
 add-result : tie.Need-add-result
 add-result c = search needs
 
-add-wide-2 : tie.Need-add-wide-2
-add-wide-2 c = search needs
+add-u8-to-u32-2 : tie.Need-add-u8-to-u32-2
+add-u8-to-u32-2 c = search needs
 
-shared-slice-read-wide-3 : tie.Need-shared-slice-read-wide-3
-shared-slice-read-wide-3 c = search needs
+shared-slice-read-u8-to-u32-3 : tie.Need-shared-slice-read-u8-to-u32-3
+shared-slice-read-u8-to-u32-3 c = search needs
 
-wide-requires-3 : tie.Need-wide-requires-3
-wide-requires-3 c κs = search needs
+u8-to-u32-requires-3 : tie.Need-u8-to-u32-requires-3
+u8-to-u32-requires-3 c κs = search needs
 
 mul-result-2 : tie.Need-mul-result-2
 mul-result-2 c = search needs
@@ -55,14 +55,14 @@ mul-result-2 c = search needs
 add-result-2 : tie.Need-add-result-2
 add-result-2 c = search needs
 
-add-wide-3 : tie.Need-add-wide-3
-add-wide-3 c = search needs
+add-u8-to-u32-3 : tie.Need-add-u8-to-u32-3
+add-u8-to-u32-3 c = search needs
 
-shared-slice-read-wide-4 : tie.Need-shared-slice-read-wide-4
-shared-slice-read-wide-4 c = search needs
+shared-slice-read-u8-to-u32-4 : tie.Need-shared-slice-read-u8-to-u32-4
+shared-slice-read-u8-to-u32-4 c = search needs
 
-wide-requires-4 : tie.Need-wide-requires-4
-wide-requires-4 c κs = search needs
+u8-to-u32-requires-4 : tie.Need-u8-to-u32-requires-4
+u8-to-u32-requires-4 c κs = search needs
 
 mul-result-3 : tie.Need-mul-result-3
 mul-result-3 c = search needs
@@ -72,7 +72,7 @@ add-result-3 c = search needs
 
 returns-3 : tie.Need-returns-3
 unfolding word
-returns-3 c = rw (c .wide4 .ensures .0, c .before .before .wide3 .ensures .0, c .before .before .before .before .wide2 .ensures .0, c .before .before .before .before .before .before .wide .ensures .0)
+returns-3 c = rw (c .u8-to-u324 .ensures .0, c .before .before .u8-to-u323 .ensures .0, c .before .before .before .before .u8-to-u322 .ensures .0, c .before .before .before .before .before .before .u8-to-u32 .ensures .0)
 
 pub word-at-spec : {M : Type 1} → statement M
 word-at-spec =
@@ -83,21 +83,21 @@ word-at-spec =
     sub-if2
     get-requires-2
     returns-2
-    shared-slice-read-wide
-    wide-requires
-    add-wide
-    shared-slice-read-wide-2
-    wide-requires-2
+    shared-slice-read-u8-to-u32
+    u8-to-u32-requires
+    add-u8-to-u32
+    shared-slice-read-u8-to-u32-2
+    u8-to-u32-requires-2
     mul-result
     add-result
-    add-wide-2
-    shared-slice-read-wide-3
-    wide-requires-3
+    add-u8-to-u32-2
+    shared-slice-read-u8-to-u32-3
+    u8-to-u32-requires-3
     mul-result-2
     add-result-2
-    add-wide-3
-    shared-slice-read-wide-4
-    wide-requires-4
+    add-u8-to-u32-3
+    shared-slice-read-u8-to-u32-4
+    u8-to-u32-requires-4
     mul-result-3
     add-result-3
     returns-3)

@@ -17,11 +17,11 @@ Inv-loop crc s p₀ i₀ p i = (i + 24 ≤ length s) × (run (three (p .a) (p .b
 abbrev μ-loop : tie.MeasureT-loop
 μ-loop crc s p₀ i₀ p i = length s - i
 
-wider-requires : tie.Need-wider-requires Inv-loop μ-loop
-wider-requires c κs = search needs
+u32-to-u64-requires : tie.Need-u32-to-u64-requires Inv-loop μ-loop
+u32-to-u64-requires c κs = search needs
 
 loop-holds : tie.Need-loop-holds Inv-loop μ-loop
-loop-holds c = (omega arith, ap (λ (z : ℕ). run z (c .before .before .args .s .now)) (zero-add (c .wider .result) ∙ c .wider .ensures .0))
+loop-holds c = (omega arith, ap (λ (z : ℕ). run z (c .before .before .args .s .now)) (zero-add (c .u32-to-u64 .result) ∙ c .u32-to-u64 .ensures .0))
 
 sub-loop : tie.Need-sub-loop Inv-loop μ-loop
 sub-loop c = search needs
@@ -56,7 +56,7 @@ near-all-spec =
     (tie.spec
     Inv-loop
     μ-loop
-    wider-requires
+    u32-to-u64-requires
     loop-holds
     sub-loop
     load-requires

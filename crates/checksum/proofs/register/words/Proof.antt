@@ -23,8 +23,8 @@ loop-holds c = (omega arith, refl)
 sub-loop : tie.Need-sub-loop Inv-loop μ-loop
 sub-loop c = search needs
 
-wider-requires : tie.Need-wider-requires Inv-loop μ-loop
-wider-requires c κs = search needs
+u32-to-u64-requires : tie.Need-u32-to-u64-requires Inv-loop μ-loop
+u32-to-u64-requires c κs = search needs
 
 load-requires : tie.Need-load-requires Inv-loop μ-loop
 load-requires c κs = search needs
@@ -44,7 +44,7 @@ loop-again c =
     let s = c .before .before .before .before .before .before .args .s .now in (
       omega arith,
       taken-at (l .c) (c .pair .result) (c .before .load .result) (l .i) s (omega arith) (c .before .load .ensures)
-          (c .pair .ensures ∙ ap (λ (z : ℕ). steps 64 (bitXor z (c .before .load .result))) (c .before .before .wider .ensures .0))
+          (c .pair .ensures ∙ ap (λ (z : ℕ). steps 64 (bitXor z (c .before .load .result))) (c .before .before .u32-to-u64 .ensures .0))
           ∙ l .inv .1,
     )
 
@@ -59,7 +59,7 @@ words-spec =
     μ-loop
     loop-holds
     sub-loop
-    wider-requires
+    u32-to-u64-requires
     load-requires
     pair-requires
     add-i

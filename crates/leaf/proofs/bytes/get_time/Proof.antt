@@ -19,14 +19,14 @@ rest-requires c κs = search needs
 get-requires : tie.Need-get-requires
 get-requires c κs = search needs
 
-wider-requires : tie.Need-wider-requires
-wider-requires c κs = search needs
+u32-to-u64-requires : tie.Need-u32-to-u64-requires
+u32-to-u64-requires c κs = search needs
 
 get-requires-2 : tie.Need-get-requires-2
 get-requires-2 c κs = search needs
 
-wider-requires-2 : tie.Need-wider-requires-2
-wider-requires-2 c κs = search needs
+u32-to-u64-requires-2 : tie.Need-u32-to-u64-requires-2
+u32-to-u64-requires-2 c κs = search needs
 
 mul-signed-of : tie.Need-mul-signed-of
 mul-signed-of c = search needs
@@ -41,14 +41,14 @@ returns : tie.Need-returns
 returns c =
     let a = c .before .before .before .before .before .before .before .args in
     let p = c .before .before .before .before .before .rest .ensures in
-    let x = c .before .before .before .wider .result in
-    let y = c .before .wider2 .result in
+    let x = c .before .before .before .u32-to-u64 .result in
+    let y = c .before .u32-to-u642 .result in
     let n : x + y * 4294967296 < 18446744073709551616 = omega arith in
     ap (λ (z : ℤ). toZ w64 (ofZ w64 z)) (c .signed-of .ensures)
     ∙ kept (x + y * 4294967296) n
     ∙ time-of (a .b .now) (a .i) x y
-    (c .before .before .before .wider .ensures .0 ∙ c .before .before .before .before .get .ensures ∙ ap (λ (s : List ℕ). word s 0) p)
-    (c .before .wider2 .ensures .0 ∙ c .before .before .get2 .ensures ∙ ap (λ (s : List ℕ). word s 4) p)
+    (c .before .before .before .u32-to-u64 .ensures .0 ∙ c .before .before .before .before .get .ensures ∙ ap (λ (s : List ℕ). word s 0) p)
+    (c .before .u32-to-u642 .ensures .0 ∙ c .before .before .get2 .ensures ∙ ap (λ (s : List ℕ). word s 4) p)
 
 pub get-time-spec : {M : Type 1} → statement M
 get-time-spec =
@@ -56,9 +56,9 @@ get-time-spec =
     (tie.spec
     rest-requires
     get-requires
-    wider-requires
+    u32-to-u64-requires
     get-requires-2
-    wider-requires-2
+    u32-to-u64-requires-2
     mul-signed-of
     add-signed-of
     signed-of-requires

@@ -19,8 +19,8 @@ loop-holds c = search needs
 get8-requires : tie.Need-get8-requires Inv-loop μ-loop
 get8-requires c κs = search needs
 
-wide-requires : tie.Need-wide-requires Inv-loop μ-loop
-wide-requires c κs = search needs
+u8-to-u32-requires : tie.Need-u8-to-u32-requires Inv-loop μ-loop
+u8-to-u32-requires c κs = search needs
 
 mul-out : tie.Need-mul-out Inv-loop μ-loop
 mul-out c = search needs
@@ -51,7 +51,7 @@ widen-spec =
     μ-loop
     loop-holds
     get8-requires
-    wide-requires
+    u8-to-u32-requires
     mul-out
     slice-write-out
     add-i
