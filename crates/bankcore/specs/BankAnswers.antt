@@ -106,8 +106,8 @@ ofTurn t =
 
 -- a source is given as its record of version 3 in a lent output; 9 if that is shorter
 abbrev pub refusalOf : ℕ → Outcome → ℕ
-refusalOf room Done = pick (leb recordSize room) 0 (numberOf Small)
-refusalOf room (NoSource r) = numberOf r
+refusalOf capacity Done = pick (leb recordSize capacity) 0 (numberOf Small)
+refusalOf capacity (NoSource r) = numberOf r
 
 abbrev pub outputOf : List ℕ → SourceAnswer → Outcome → List ℕ
 outputOf out a Done = written out 0 (sourceBytes (a .source))

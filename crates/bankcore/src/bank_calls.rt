@@ -351,10 +351,10 @@ pub extern "C" fn tt_fresh(
     of_fresh(snapshot::freshness::fresh(region, bank, days, at))
 }
 
-fn fits(room: usize) -> u32
-    ensures { λ r. ⌜ r ≡ pick (leb recordSize room) 0 (numberOf Small) ⌝ }
+fn fits(capacity: usize) -> u32
+    ensures { λ r. ⌜ r ≡ pick (leb recordSize capacity) 0 (numberOf Small) ⌝ }
 {
-    if room < RECORD_SIZE {
+    if capacity < RECORD_SIZE {
         return number_of(Refusal::Small);
     }
     0

@@ -95,34 +95,34 @@ module _ (id b : Text) (l all : List ℕ) (long : length all ≡ startsSize) (fe
 
 -- ---- key
 
-module _ (id b : Text) (l : List ℕ) (room : ℕ) where
-  pub unfit : false ≡ fit b l → Refused Argument ≡ keyAnswer id b l room
+module _ (id b : Text) (l : List ℕ) (capacity : ℕ) where
+  pub unfit : false ≡ fit b l → Refused Argument ≡ keyAnswer id b l capacity
   unfolding keyAnswer
   unfit e = rw (← e)
 
   module _ (fits : true ≡ fit b l) where
-    pub long-identity : maxIdentity < length id → Refused Identity ≡ keyAnswer id b l room
+    pub long-identity : maxIdentity < length id → Refused Identity ≡ keyAnswer id b l capacity
     unfolding keyAnswer
     long-identity h = rw (← fits, lt-leb (length id) maxIdentity h)
 
-    pub else-within : length id ≤ maxIdentity → within room (keyOf id (passedPicks b l)) ≡ keyAnswer id b l room
+    pub else-within : length id ≤ maxIdentity → within capacity (keyOf id (passedPicks b l)) ≡ keyAnswer id b l capacity
     unfolding keyAnswer
     else-within h = rw (← fits, le-leb (length id) maxIdentity h)
 
 -- what preparation refuses
-pub key-refused : (id b : Text) (l : List ℕ) (room : ℕ) (r : Refusal) → NotReady id b l r → Refused r ≡ keyAnswer id b l room
-key-refused id b l room r =
+pub key-refused : (id b : Text) (l : List ℕ) (capacity : ℕ) (r : Refusal) → NotReady id b l r → Refused r ≡ keyAnswer id b l capacity
+key-refused id b l capacity r =
     ⊎-elim
-    (λ h. ap Refused (h .0) ∙ unfit id b l room (h .1))
-    (λ h. ap Refused (h .0) ∙ long-identity id b l room (h .1) (h .2))
+    (λ h. ap Refused (h .0) ∙ unfit id b l capacity (h .1))
+    (λ h. ap Refused (h .0) ∙ long-identity id b l capacity (h .1) (h .2))
 
-pub no-room : (room : ℕ) (key : List ℕ) → room < length key → Refused Small ≡ within room key
+pub too-small : (capacity : ℕ) (key : List ℕ) → capacity < length key → Refused Small ≡ within capacity key
 unfolding within
-no-room room key h = rw (lt-leb (length key) room h)
+too-small capacity key h = rw (lt-leb (length key) capacity h)
 
-pub in-room : (room : ℕ) (key : List ℕ) (n : ℕ) → n ≡ length key → n ≤ room → Written n ≡ within room key
+pub fits-in : (capacity : ℕ) (key : List ℕ) (n : ℕ) → n ≡ length key → n ≤ capacity → Written n ≡ within capacity key
 unfolding within
-in-room room key n e h = let k : length key ≤ room = omega arith in rw (le-leb (length key) room k, e)
+fits-in capacity key n e h = let k : length key ≤ capacity = omega arith in rw (le-leb (length key) capacity k, e)
 
 -- the key's length
 pub key-length : (id : Text) (ps : List Pick) → length (keyOf id ps) ≡ length (prefix id) + 1 + length (joined entry (distinct ps))
@@ -160,7 +160,7 @@ module _ (f : ℕ → Pick) (n : ℕ) (order : List ℕ) (m : ℕ) (o : Ordered 
   part-below = rw all-of (o .below)
 
   pub part-length : length part ≡ m
-  part-length = rw all-of (length-take-le m order (o .room))
+  part-length = rw all-of (length-take-le m order (o .inside))
 
   pub part-count : m ≡ length (distinct (firsts n f))
   part-count = sym (ap length (sym part-is) ∙ length-map part f ∙ part-length)

@@ -130,16 +130,16 @@ module _ (f : ℕ → Pick) where
   map-put : (k v : ℕ) (x : List ℕ) → map f (putIn k v x) ≡ take k (map f x) ++ f v ∷ drop k (map f x)
   map-put k v x = map-append (take k x) (v ∷ drop k x) ∙ rw (map-take k x, map-drop k x)
 
-  module _ (n i m : ℕ) (order : List ℕ) (hi : i < n) (room : m < length order) (b : Below n (take m order)) where
+  module _ (n i m : ℕ) (order : List ℕ) (hi : i < n) (inside : m < length order) (b : Below n (take m order)) where
     pub stays : Goes (f i) (map f (take m order)) There → Ordered f n (insert (f i) (map f (take m order))) order m
-    stays g = record { is = sym g; below = b; room = omega arith }
+    stays g = record { is = sym g; below = b; inside = omega arith }
 
     pub goes-in : (k : ℕ) (order′ : List ℕ) → Goes (f i) (map f (take m order)) (At k) → length order′ ≡ length order
         → take (m + 1) order′ ≡ putIn k i (take m order) → Ordered f n (insert (f i) (map f (take m order))) order′ (m + 1)
     goes-in k order′ g l e = record {
       is = ap (map f) e ∙ map-put k i (take m order) ∙ sym (g .1);
       below = rw e (below-append n (take k (take m order)) (i ∷ drop k (take m order)) (below-take n k (take m order) b) (hi, below-drop n k (take m order) b));
-      room = omega arith;
+      inside = omega arith;
     }
 
     pub place-low : (k : ℕ) → Goes (f i) (map f (take m order)) (At k) → k ≤ m
@@ -153,7 +153,7 @@ module _ (f : ℕ → Pick) where
     none-yet order = record {
       is = rw (drop-of-length-le (firsts n f) {i = n} (omega (arith, firsts-length n f)));
       below = tt;
-      room = omega arith;
+      inside = omega arith;
     }
 
     from : (i : ℕ) → i < n → distinct (drop i (firsts n f)) ≡ insert (f i) (distinct (drop (i + 1) (firsts n f)))

@@ -51,8 +51,8 @@ module _ {A : Type 0} (g : A → List ℕ) where
     pub joined-more : i < length xs → joined g (take (i + 1) xs) ≡ joined g (take i xs) ++ g (getD xs i d)
     joined-more h = rw (add-one, take-suc xs i d h, joined-append (take i xs) (getD xs i d ∷ []), joined-one (getD xs i d))
 
-    pub joined-room : i < length xs → length (joined g (take i xs)) + length (g (getD xs i d)) ≤ length (joined g xs)
-    joined-room h =
+    pub joined-fits : i < length xs → length (joined g (take i xs)) + length (g (getD xs i d)) ≤ length (joined g xs)
+    joined-fits h =
         let e : joined g xs ≡ joined g (take (i + 1) xs) ++ joined g (drop (i + 1) xs) =
         ap (joined g) (sym (take-append-drop (i + 1) xs)) ∙ joined-append (take (i + 1) xs) (drop (i + 1) xs) in
         omega (arith, ap length e, length-append (joined g (take (i + 1) xs)) (joined g (drop (i + 1) xs)), ap length (joined-more h), length-append (joined g (take i xs)) (g (getD xs i d)))
@@ -67,13 +67,13 @@ module _ {A : Type 0} (g : A → List ℕ) (d : A) (xs : List A) (i : ℕ) (h : 
   pub step-length : length (joined g (take (i + 1) xs)) ≡ length (joined g (take i xs)) + length (g x)
   step-length = ap length step ∙ length-append (joined g (take i xs)) (g x)
 
-  pub step-room : length (joined g (take i xs)) + length (g x) ≤ length (joined g xs)
-  step-room = rw e (joined-room g d xs i h)
+  pub step-fits : length (joined g (take i xs)) + length (g x) ≤ length (joined g xs)
+  step-fits = rw e (joined-fits g d xs i h)
 
   pub step-put : (out₀ out out′ : List ℕ) (at to : ℕ) → at + length (joined g xs) ≤ length out₀ → to ≡ at + length (joined g (take i xs))
       → out ≡ written out₀ at (joined g (take i xs)) → out′ ≡ written out to (g x) → out′ ≡ written out₀ at (joined g (take (i + 1) xs))
   step-put out₀ out out′ at to fits t o o′ =
-      let r = step-room in
+      let r = step-fits in
       o′ ∙ ap (λ (l : List ℕ). written l to (g x)) o
       ∙ put-put out₀ at (joined g (take i xs)) (g x) to t (omega arith)
       ∙ ap (written out₀ at) (sym step)

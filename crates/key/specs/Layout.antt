@@ -86,13 +86,13 @@ fit bytes lengths = pick (leb (count lengths) maxPicks) (every (count lengths * 
 
 -- the key's length if the output has the capacity for it, else 9
 unfoldable pub within : ℕ → List ℕ → KeyAnswer
-within room key = pick (leb (length key) room) (Written (length key)) (Refused Small)
+within capacity key = pick (leb (length key) capacity) (Written (length key)) (Refused Small)
 
 -- the answer: 2, then 8, then 9, else how many bytes are written
 unfoldable pub keyAnswer : Text → Text → List ℕ → ℕ → KeyAnswer
-keyAnswer identity bytes lengths room =
+keyAnswer identity bytes lengths capacity =
     pick (fit bytes lengths)
-    (pick (leb (length identity) maxIdentity) (within room (keyOf identity (passedPicks bytes lengths))) (Refused Identity))
+    (pick (leb (length identity) maxIdentity) (within capacity (keyOf identity (passedPicks bytes lengths))) (Refused Identity))
     (Refused Argument)
 
 -- the output after the call: the key at its start, the bytes after it unchanged; on a refusal all unchanged

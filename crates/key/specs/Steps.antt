@@ -64,7 +64,7 @@ Below n (k ∷ s) = (k < n) × Below n s
 pub record Ordered (f : ℕ → Pick) (n : ℕ) (s : List Pick) (order : List ℕ) (m : ℕ) : Type 0 where
   pub is : map f (take m order) ≡ s
   pub below : Below n (take m order)
-  pub room : m ≤ length order
+  pub inside : m ≤ length order
 
 -- each of the first n picks has at most 141 bytes in a key
 abbrev pub Small : (ℕ → Pick) → ℕ → Type 0

@@ -32,10 +32,10 @@ time-of l at x y p q =
     let e : x + y * 4294967296 ≡ word l at + word l (at + 4) * 4294967296 = rw (p, q, word-drop l at 0, word-drop l at 4, add-zero at) in
     ap (λ (n : ℕ). signed 64 n) e
 
--- room: whether n bytes fit at i
-pub room-by : (i n len : ℕ) → n ≤ len → (t : Bool) → leb (i + n) len ≡ t → leb i (len - n) ≡ t
-room-by i n len h true e = let k = leb-true (i + n) len e in le-leb i (len - n) (omega arith)
-room-by i n len h false e = let k = leb-false (i + n) len e in lt-leb i (len - n) (omega arith)
+-- fits-at: whether n bytes fit at i
+pub fits-at-by : (i n len : ℕ) → n ≤ len → (t : Bool) → leb (i + n) len ≡ t → leb i (len - n) ≡ t
+fits-at-by i n len h true e = let k = leb-true (i + n) len e in le-leb i (len - n) (omega arith)
+fits-at-by i n len h false e = let k = leb-false (i + n) len e in lt-leb i (len - n) (omega arith)
 
 -- put
 pub put4 : (l : List ℕ) (i n : ℕ) → i + 4 ≤ length l

@@ -52,7 +52,7 @@ pub fn get(b: &[u8], i: usize) -> u32
 }
 
 // Whether n bytes at offset i fit in len bytes.
-fn room(len: usize, i: usize, n: usize) -> bool
+fn fits_at(len: usize, i: usize, n: usize) -> bool
     ensures { λ r. ⌜ (r ≡ leb (i + n) len) × (r ≡ true → i + n ≤ len) ⌝ }
 {
     if len < n {
@@ -65,7 +65,7 @@ fn room(len: usize, i: usize, n: usize) -> bool
 pub fn put(b: &mut [u8], i: usize, n: u32)
     ensures { λ _. ⌜ now (b .exit) ≡ Bytes.written (now (b .entry)) i (Bytes.le32 n) ⌝ }
 {
-    if room(b.len(), i, WORD_SIZE) {
+    if fits_at(b.len(), i, WORD_SIZE) {
         b[i] = (n % BYTE_VALUES_32) as u8;
         b[i + 1] = (n / SECOND_BYTE % BYTE_VALUES_32) as u8;
         b[i + 2] = (n / THIRD_BYTE % BYTE_VALUES_32) as u8;
@@ -107,7 +107,7 @@ pub fn get_time(b: &[u8], i: usize) -> i64
 pub fn put_time(b: &mut [u8], i: usize, z: i64)
     ensures { λ _. ⌜ now (b .exit) ≡ Bytes.written (now (b .entry)) i (Bytes.le64 z) ⌝ }
 {
-    if room(b.len(), i, TIME_SIZE) {
+    if fits_at(b.len(), i, TIME_SIZE) {
         let n = bits_of(z);
         put(b, i, (n % WORD_VALUES) as u32);
         put(b, i + WORD_SIZE, (n / WORD_VALUES) as u32);

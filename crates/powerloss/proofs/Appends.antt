@@ -34,7 +34,7 @@ use Rattle.powerloss.specs.History.{Update, takes, updateAfter}
 use Rattle.powerloss.specs.Machine.{Image}
 use Rattle.powerloss.proofs.Bytes.{bytes-nil, bytes-cons}
 use Rattle.powerloss.proofs.Inv.{Kept, Open}
-use Rattle.powerloss.proofs.Range.{headed-end, committed-end, idle-due, idle-room}
+use Rattle.powerloss.proofs.Range.{headed-end, committed-end, idle-due, idle-free}
 use Rattle.powerloss.proofs.Quiet.{takes-nil}
 use Rattle.powerloss.proofs.Take.{with-bytes}
 use Rattle.powerloss.proofs.Dues.{due-is}
@@ -194,7 +194,7 @@ byte-step : (hd : Loaded) (region : List ℕ) (w : Writer) (u : Update) (x : ℕ
 unfolding bytesStep appended
 byte-step hd region w u x o e d p =
     appended-one x w (mayAppend w) (leb (position (w .contents) + 1) capacity) (isDue (w .contents)) (accepted (w .contents) 1) (may-append hd region w u o e) (le-leb (position (w .contents) + 1) capacity p) d
-    (omega (arith, idle-room (w .contents) d (ranged w (o .tied .range) .contents)))
+    (omega (arith, idle-free (w .contents) d (ranged w (o .tied .range) .contents)))
 
 takes-more : (x : ℕ) (xs : List ℕ) (u : Update) → takes xs (takes (x ∷ []) u) ≡ takes (x ∷ xs) u
 takes-more x xs u =
@@ -221,7 +221,7 @@ appends-update hd rs im (x ∷ xs) region w u h e d p b =
     let s = byte-step hd region w u x (h .open·) e d (omega arith) in
     let w1 = withBytes w (x ∷ []) in
     let u1 = takes (x ∷ []) u in
-    let rm = idle-room (w .contents) d (ranged w (h .open· .tied .range) .contents) in
+    let rm = idle-free (w .contents) d (ranged w (h .open· .tied .range) .contents) in
     let h1 : Now hd rs im region w1 u1 =
     record { kept = h .kept; open· = with-bytes region hd w u (h .open·) (x ∷ []) (bytes-cons x [] (b 0) bytes-nil) e d (omega arith) (omega arith) } in
     let t = three hd rs im region w1 u1 h1 in

@@ -210,9 +210,9 @@ closed-empty t c e =
     omega (arith, ltb-false 0 (t .fill) f)
 
 -- nothing is due: the tail isn't full
-pub idle-room : (t : Contents) → isDue t ≡ false → contentsOk t ≡ true → t .fill < tailSize
+pub idle-free : (t : Contents) → isDue t ≡ false → contentsOk t ≡ true → t .fill < tailSize
 unfolding isDue
-idle-room t e k =
+idle-free t e k =
     let ne : t .fill ≡ tailSize → ⊥ = eqb-false (t .fill) tailSize (or-both (eqb (t .fill) tailSize) (t .closed && ltb 0 (t .fill)) e .0) in
     omega (arith, fill-fits t k)
 

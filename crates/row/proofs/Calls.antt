@@ -19,9 +19,9 @@ use Rattle.base.specs.Table.{lastTable}
 -- ---- bytes into an output
 
 module _ (bytes out : List ℕ) where
-  pub no-room : length out < length bytes → (Refused Small ≡ within (length out) bytes) × (out ≡ after (Refused Small) bytes out)
+  pub too-small : length out < length bytes → (Refused Small ≡ within (length out) bytes) × (out ≡ after (Refused Small) bytes out)
   unfolding within
-  no-room h = (rw (lt-leb (length bytes) (length out) h), refl)
+  too-small h = (rw (lt-leb (length bytes) (length out) h), refl)
 
   pub put-there : (n : ℕ) (o : List ℕ) → n ≡ length bytes → length bytes ≤ length out → o ≡ sets out 0 bytes
       → (Written n ≡ within (length out) bytes) × (o ≡ after (Written n) bytes out)
@@ -65,9 +65,9 @@ module _ (table : ℕ) (texts lengths out : List ℕ) where
           let m : length (rowOf (passedValues texts lengths)) ≤ maxRow = omega arith in
           rw (le-leb table lastTable t, eq-eqb (length lengths) (columnCount table) h, le-leb (length (rowOf (passedValues texts lengths))) maxRow m)
 
-      pub row-room : n ≤ maxRow → length out < n
+      pub row-small : n ≤ maxRow → length out < n
           → (Refused Small ≡ rowAnswer table texts lengths (length out)) × (out ≡ after (Refused Small) (rowOf (passedValues texts lengths)) out)
-      row-room l r = let k : length out < length (rowOf (passedValues texts lengths)) = omega arith in (no-room (rowOf (passedValues texts lengths)) out k .0 ∙ sym (fits l), refl)
+      row-small l r = let k : length out < length (rowOf (passedValues texts lengths)) = omega arith in (too-small (rowOf (passedValues texts lengths)) out k .0 ∙ sym (fits l), refl)
 
       pub row-fits : n ≤ maxRow → n ≤ length out → (o : List ℕ) → o ≡ sets out 0 (rowOf (passedValues texts lengths))
           → (Written n ≡ rowAnswer table texts lengths (length out)) × (o ≡ after (Written n) (rowOf (passedValues texts lengths)) out)

@@ -222,7 +222,7 @@ module _ (v : List ℕ) (i r k : ℕ) (h : r ≤ k) (g : k ≤ length v - i) (q 
 pub record Ran (v out o : List ℕ) (i n r : ℕ) : Type 0 where
   pub inside : i + r ≤ length v
   pub size : length (doubled (drop i v)) ≡ r + length (doubled (drop (i + r) v))
-  pub room : length o ≡ length out
+  pub lengthKept : length o ≡ length out
   pub is : sets out n (doubled (drop i v)) ≡ sets o (n + r) (doubled (drop (i + r) v))
   pub atQuote : r < 64 → (length (doubled (drop i v)) ≡ length v - i → ⊥) → (i + r < length v) × (getD v (i + r) 0 ≡ quote)
 
@@ -235,7 +235,7 @@ module _ (v out o : List ℕ) (i n r : ℕ) (h : i ≤ length v) where
       record {
         inside = omega arith;
         size = run-size v i r 64 m g q;
-        room = ap length e ∙ length-sets out n (take 64 (drop i v));
+        lengthKept = ap length e ∙ length-sets out n (take 64 (drop i v));
         is = run-sets v i r 64 m g q out n ∙ rw e;
         atQuote = λ s d. (omega arith, sym (getD-drop i v r 0) ∙ sym (getD-take 64 (drop i v) r 0 s) ∙ f .2 (omega (arith, l)));
       }
@@ -249,7 +249,7 @@ module _ (v out o : List ℕ) (i n r : ℕ) (h : i ≤ length v) where
       record {
         inside = omega arith;
         size = z;
-        room = ap length e ∙ length-sets out n (take r (drop i v));
+        lengthKept = ap length e ∙ length-sets out n (take r (drop i v));
         is = run-sets v i r r (omega arith) m (f .1) out n ∙ rw e;
         atQuote = λ s d. (omega (arith, l, less d), sym (getD-drop i v r 0) ∙ f .2 (less d));
       }

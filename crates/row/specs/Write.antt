@@ -24,7 +24,7 @@ passedValues texts lengths = cutBy lengths texts
 
 -- how many bytes are written if the output has the capacity for them, else 9
 unfoldable pub within : ℕ → List ℕ → RowAnswer
-within room bytes = pick (leb (length bytes) room) (Written (length bytes)) (Refused Small)
+within capacity bytes = pick (leb (length bytes) capacity) (Written (length bytes)) (Refused Small)
 
 -- the output after a call: the bytes at its start, the rest unchanged; on a refusal all unchanged
 abbrev pub after : RowAnswer → List ℕ → List ℕ → List ℕ
@@ -33,13 +33,13 @@ after (Refused r) bytes out = out
 
 -- `names_line`: 2 for a table above 7, then 9, else how many bytes are written
 unfoldable pub namesAnswer : ℕ → ℕ → RowAnswer
-namesAnswer table room = pick (leb table lastTable) (within room (namesLine table)) (Refused Argument)
+namesAnswer table capacity = pick (leb table lastTable) (within capacity (namesLine table)) (Refused Argument)
 
 -- `row`: 2 for a table above 7, then 14 for a wrong number of values or a row that is too long, then 9
 unfoldable pub rowAnswer : ℕ → List ℕ → List ℕ → ℕ → RowAnswer
-rowAnswer table texts lengths room =
+rowAnswer table texts lengths capacity =
     pick (leb table lastTable)
     (pick (eqb (length lengths) (columnCount table))
-    (pick (leb (length (rowOf (passedValues texts lengths))) maxRow) (within room (rowOf (passedValues texts lengths))) (Refused Row))
+    (pick (leb (length (rowOf (passedValues texts lengths))) maxRow) (within capacity (rowOf (passedValues texts lengths))) (Refused Row))
     (Refused Row))
     (Refused Argument)

@@ -180,7 +180,7 @@ pub record Left (t out₀ ends₀ : List ℕ) (width : ℕ) (out ends : List ℕ
   pub many : k + length values ≡ width
   pub same : length out ≡ length out₀
   pub alike : length ends ≡ length ends₀
-  pub room : to + length (joined values) ≤ length out
+  pub fits : to + length (joined values) ≤ length out
   pub bytes : sets out₀ 0 (joined (valuesOf (Rattle.csv.specs.Read.values width t))) ≡ sets out to (joined values)
   pub marks : sets ends₀ 0 (endsOf 0 (valuesOf (Rattle.csv.specs.Read.values width t))) ≡ sets ends k (endsOf to values)
 
@@ -191,7 +191,7 @@ left-all t out ends width h n = go (values width t) refl h n
     go malformed q i m = absurd i
     go (row vs r) q i m =
         let s = sound width t vs r q in
-        record { values = vs; fields = fields-of t (s .0) 0 refl (omega arith); many = omega (arith, s .1); same = refl; alike = refl; room = omega arith; bytes = rw q; marks = rw q }
+        record { values = vs; fields = fields-of t (s .0) 0 refl (omega arith); many = omega (arith, s .1); same = refl; alike = refl; fits = omega arith; bytes = rw q; marks = rw q }
 
 joined-split : (ws : List (List ℕ)) (v : List ℕ) (vs : List (List ℕ)) → ws ≡ v ∷ vs → length (joined ws) ≡ length v + length (joined vs)
 unfolding joined
@@ -216,8 +216,8 @@ module _ {t out₀ ends₀ : List ℕ} {width : ℕ} {out ends : List ℕ} {from
     pub here-got : fieldAt (drop from t) ≡ got (valueOf (fieldAt (drop from t))) (restOf (fieldAt (drop from t)))
     here-got = is-got (fieldAt (drop from t)) (here .value) (drop (here .place) t) (here .read)
 
-    pub here-room : to + length (valueOf (fieldAt (drop from t))) ≤ length out
-    here-room = omega (arith, ap length read-value, l .room, joined-split (l .values) (here .value) (here .others) (here .split))
+    pub here-fits : to + length (valueOf (fieldAt (drop from t))) ≤ length out
+    here-fits = omega (arith, ap length read-value, l .fits, joined-split (l .values) (here .value) (here .others) (here .split))
 
     pub here-place : length t - length (restOf (fieldAt (drop from t))) ≡ here .place
     here-place = place-of t (fieldAt (drop from t)) (here .value) (here .place) (here .inside) (here .read)
@@ -236,7 +236,7 @@ module _ {t out₀ ends₀ : List ℕ} {width : ℕ} {out ends : List ℕ} {from
           many = omega (arith, l .many, ap length (f .split));
           same = m ∙ l .same;
           alike = n ∙ l .alike;
-          room = omega (arith, y, w, l .room, m);
+          fits = omega (arith, y, w, l .fits, m);
           bytes = l .bytes ∙ rw (x, y) (sets-split out to (l .values) (f .value) (f .others) (f .split));
           marks = l .marks ∙ rw y (ends-split ends k to (l .values) (f .value) (f .others) (f .split));
         }

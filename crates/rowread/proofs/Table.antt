@@ -33,8 +33,8 @@ front-part p r h =
     let e : length p + (maxRow - length p) ≡ maxRow = omega arith in
     ap (λ (n : ℕ). take n (p ++ r)) (sym e) ∙ take-append-add p r (maxRow - length p)
 
-module _ (front back : Text) (v : Text) (vs : List Text) (room slots : ℕ)
-    (short : length (rowOf (v ∷ vs)) ≤ maxRow) (bytes : length (joined (v ∷ vs)) ≤ room) (ends : length (v ∷ vs) ≤ slots) where
+module _ (front back : Text) (v : Text) (vs : List Text) (capacity slots : ℕ)
+    (short : length (rowOf (v ∷ vs)) ≤ maxRow) (bytes : length (joined (v ∷ vs)) ≤ capacity) (ends : length (v ∷ vs) ≤ slots) where
   abbrev table : Text
   table = front ++ (rowOf (v ∷ vs) ++ back)
 
@@ -50,43 +50,43 @@ module _ (front back : Text) (v : Text) (vs : List Text) (room slots : ℕ)
   whole : length table ≡ length front + (length (rowOf (v ∷ vs)) + length back)
   whole = length-append front (rowOf (v ∷ vs) ++ back) ∙ rw (length-append (rowOf (v ∷ vs)) back)
 
-  the-answer : readAnswer table (length (v ∷ vs)) (length front) room slots ≡ Stored (length front + length (rowOf (v ∷ vs))) (length (joined (v ∷ vs)))
+  the-answer : readAnswer table (length (v ∷ vs)) (length front) capacity slots ≡ Stored (length front + length (rowOf (v ∷ vs))) (length (joined (v ∷ vs)))
   unfolding readAnswer
   the-answer =
       let some = row-some v vs in
       let a : length front ≤ length table = omega (arith, whole) in
       let b : length front ≡ length table → ⊥ = λ e. omega (arith, whole) in
       let n : length (partAt table (length front)) - length rest ≡ length (rowOf (v ∷ vs)) = omega (arith, ap length part, length-append (rowOf (v ∷ vs)) rest) in
-      rw (le-leb (length front) (length table) a, ne-eqb (length front) (length table) b, the-row, le-leb (length (joined (v ∷ vs))) room bytes, le-leb (length (v ∷ vs)) slots ends, n)
+      rw (le-leb (length front) (length table) a, ne-eqb (length front) (length table) b, the-row, le-leb (length (joined (v ∷ vs))) capacity bytes, le-leb (length (v ∷ vs)) slots ends, n)
 
 pub reads-written : ReadsWritten
-reads-written front back [] width room slots f = absurd (omega (arith, f .some, f .wide))
-reads-written front back (v ∷ vs) width room slots f =
+reads-written front back [] width capacity slots f = absurd (omega (arith, f .some, f .wide))
+reads-written front back (v ∷ vs) width capacity slots f =
     let e : length (v ∷ vs) ≡ width = f .wide in
     let s : length (v ∷ vs) ≤ slots = omega (arith, f .ends) in
-    rw (← e) (the-answer front back v vs room slots (f .short) (f .bytes) s, ap valuesOf (the-row front back v vs room slots (f .short) (f .bytes) s))
+    rw (← e) (the-answer front back v vs capacity slots (f .short) (f .bytes) s, ap valuesOf (the-row front back v vs capacity slots (f .short) (f .bytes) s))
 
-at-the-end : (front : Text) (width room slots : ℕ) → readAnswer (front ++ []) width (length front) room slots ≡ End
+at-the-end : (front : Text) (width capacity slots : ℕ) → readAnswer (front ++ []) width (length front) capacity slots ≡ End
 unfolding readAnswer
-at-the-end front width room slots =
+at-the-end front width capacity slots =
     let e : length (front ++ []) ≡ length front = ap length (append-nil front) in
     rw (le-leb (length front) (length (front ++ [])) (omega arith), eq-eqb (length front) (length (front ++ [])) (sym e))
 
-moved : (t u : Text) (width room slots place next : ℕ) (rows : List (List Text)) → t ≡ u → place ≡ next → Reads t width room slots place rows → Reads u width room slots next rows
-moved t u width room slots place next rows e p r = rw (← e, ← p) r
+moved : (t u : Text) (width capacity slots place next : ℕ) (rows : List (List Text)) → t ≡ u → place ≡ next → Reads t width capacity slots place rows → Reads u width capacity slots next rows
+moved t u width capacity slots place next rows e p r = rw (← e, ← p) r
 
-reads-from : (width room slots : ℕ) (front : Text) (rows : List (List Text)) → AllFit width room slots rows → Reads (front ++ tableOf rows) width room slots (length front) rows
+reads-from : (width capacity slots : ℕ) (front : Text) (rows : List (List Text)) → AllFit width capacity slots rows → Reads (front ++ tableOf rows) width capacity slots (length front) rows
 unfolding tableOf
-reads-from width room slots front [] f = atEnd (at-the-end front width room slots)
-reads-from width room slots front (vs ∷ rows) f =
-    let r = reads-written front (tableOf rows) vs width room slots (f .0) in
+reads-from width capacity slots front [] f = atEnd (at-the-end front width capacity slots)
+reads-from width capacity slots front (vs ∷ rows) f =
+    let r = reads-written front (tableOf rows) vs width capacity slots (f .0) in
     onward (r .0) (r .1)
-    (moved ((front ++ rowOf vs) ++ tableOf rows) (front ++ (rowOf vs ++ tableOf rows)) width room slots (length (front ++ rowOf vs)) (length front + length (rowOf vs)) rows
+    (moved ((front ++ rowOf vs) ++ tableOf rows) (front ++ (rowOf vs ++ tableOf rows)) width capacity slots (length (front ++ rowOf vs)) (length front + length (rowOf vs)) rows
     (append-assoc front (rowOf vs) (tableOf rows)) (length-append front (rowOf vs))
-    (reads-from width room slots (front ++ rowOf vs) rows (f .1)))
+    (reads-from width capacity slots (front ++ rowOf vs) rows (f .1)))
 
 pub reads-table : ReadsTable
-reads-table width room slots rows f = reads-from width room slots [] rows f
+reads-table width capacity slots rows f = reads-from width capacity slots [] rows f
 
 -- ---- what is read is a row
 
@@ -96,7 +96,7 @@ refused-not r next size e = absurd (let z : _≡_ {A = ℕ} 0 1 = cc in omega ar
 end-not : {A : Type 0} (next size : ℕ) → End ≡ Stored next size → A
 end-not next size e = absurd (let z : _≡_ {A = ℕ} 0 1 = cc in omega arith)
 
-module _ (table : Text) (width place room slots next size : ℕ) where
+module _ (table : Text) (width place capacity slots next size : ℕ) where
   at-place : (vs : List Text) (r : Text) → rowAt table width place ≡ Csv.row vs r → next ≡ place + (length (partAt table place) - length r) → Record (drop place table) vs (drop next table)
   at-place vs r e n =
       let q : Record (partAt table place) vs r = sound width (partAt table place) vs r e .0 in
@@ -107,20 +107,20 @@ module _ (table : Text) (width place room slots next size : ℕ) where
       let b : drop next table ≡ r ++ d = rw m (sym (drop-drop (length (f .0)) place table) ∙ ap (drop (length (f .0))) a ∙ drop-append-seam (f .0) (r ++ d)) in
       rw (a, b) (f .2 (r ++ d))
 
-  in-found : (g : Csv.Row) → rowAt table width place ≡ g → found place (length (partAt table place)) room slots g ≡ Stored next size → Record (drop place table) (valuesOf g) (drop next table)
+  in-found : (g : Csv.Row) → rowAt table width place ≡ g → found place (length (partAt table place)) capacity slots g ≡ Stored next size → Record (drop place table) (valuesOf g) (drop next table)
   in-found Csv.malformed e q = refused-not Row next size q
-  in-found (Csv.row vs r) e q = go (leb (length (joined vs)) room) (leb (length vs) slots) q
+  in-found (Csv.row vs r) e q = go (leb (length (joined vs)) capacity) (leb (length vs) slots) q
     where
       go : (s t : Bool) → pick s (pick t (Stored (place + (length (partAt table place) - length r)) (length (joined vs))) (Refused Small)) (Refused Small) ≡ Stored next size → Record (drop place table) vs (drop next table)
       go true true i = let n : next ≡ place + (length (partAt table place) - length r) = cc in at-place vs r e n
       go true false i = refused-not Small next size i
       go false t i = refused-not Small next size i
 
-  in-answer : (s t : Bool) → pick s (pick t End (found place (length (partAt table place)) room slots (rowAt table width place))) (Refused Row) ≡ Stored next size → Record (drop place table) (valuesAt table width place) (drop next table)
+  in-answer : (s t : Bool) → pick s (pick t End (found place (length (partAt table place)) capacity slots (rowAt table width place))) (Refused Row) ≡ Stored next size → Record (drop place table) (valuesAt table width place) (drop next table)
   in-answer true true q = end-not next size q
   in-answer true false q = in-found (rowAt table width place) refl q
   in-answer false t q = refused-not Row next size q
 
 pub stored-is-a-row : StoredIsARow
 unfolding readAnswer
-stored-is-a-row table width place room slots next size e = in-answer table width place room slots next size (leb place (length table)) (eqb place (length table)) e
+stored-is-a-row table width place capacity slots next size e = in-answer table width place capacity slots next size (leb place (length table)) (eqb place (length table)) e

@@ -86,8 +86,8 @@ module _ {t : List ℕ} {from : ℕ} {out : List ℕ} {to : ℕ} {o : List ℕ} 
       rw (x .0, x .1, run-part t p e h, ← k) (gone-more (lineOf (drop p t)) e i (omega (arith, h)) (stop-inside t p e (g .inside) h .1))
 
   -- there is space for one byte more
-  pub gone-room : to + (length t - from) ≤ length out → p < length t → n < length o
-  gone-room h l = omega (arith, gone-same, g .upto, g .grows)
+  pub gone-fits : to + (length t - from) ≤ length out → p < length t → n < length o
+  gone-fits h l = omega (arith, gone-same, g .upto, g .grows)
 
   pub gone-close : (size : ℕ) → n ≡ to + size → getD t p 0 ≡ quote → Into Inner t from out to o (p + 1) size
   gone-close size m e =
@@ -221,10 +221,10 @@ module _ (t : List ℕ) (e n : ℕ) (h : Opens t e n) (out ends o s : List ℕ) 
 take-sets : (l v : List ℕ) (n : ℕ) → n ≡ length v → n ≤ length l → take n (sets l 0 v) ≡ v
 take-sets l v n e h = rw (sets-eq v l 0 (omega arith)) (take-at v (drop (0 + length v) l) n (sym e))
 
-pub handed : (t : List ℕ) (width : ℕ) (room marks r m out ends o s : List ℕ) (scan : Scan) (q : Fast) → TookRow t 0 0 0 width room marks r m scan → Handed scan width r m out ends o s q → Quickly t width out ends o s q
-handed t width room marks r m out ends o s scan Not x h = h
-handed t width room marks r m out ends o s scan (Read next size) x h =
-    let y : Holds t 0 0 0 width room marks r m next size = rw (h .0) at x in
+pub handed : (t : List ℕ) (width : ℕ) (buffer marks r m out ends o s : List ℕ) (scan : Scan) (q : Fast) → TookRow t 0 0 0 width buffer marks r m scan → Handed scan width r m out ends o s q → Quickly t width out ends o s q
+handed t width buffer marks r m out ends o s scan Not x h = h
+handed t width buffer marks r m out ends o s scan (Read next size) x h =
+    let y : Holds t 0 0 0 width buffer marks r m next size = rw (h .0) at x in
     record {
       values = y .values;
       read = y .read;
@@ -233,14 +233,14 @@ handed t width room marks r m out ends o s scan (Read next size) x h =
       inside = y .inside;
       fits = h .1;
       slots = h .2;
-      bytes = h .3 ∙ ap (sets out 0) (ap (take size) (y .bytes) ∙ take-sets room (joined (y .values)) size (omega (arith, y .sized)) (y .fits));
+      bytes = h .3 ∙ ap (sets out 0) (ap (take size) (y .bytes) ∙ take-sets buffer (joined (y .values)) size (omega (arith, y .sized)) (y .fits));
       marks = h .4 ∙ ap (sets ends 0) (ap (take width) (y .marks) ∙ take-sets marks (endsOf 0 (y .values)) width (omega (arith, length-ends 0 (y .values), y .many)) (y .slots));
     }
 
 -- what was scanned is in the buffer
-pub took-within : (t : List ℕ) (width : ℕ) (room marks r m : List ℕ) (scan : Scan) → TookRow t 0 0 0 width room marks r m scan → length r ≡ length room → Within (length r) scan
-took-within t width room marks r m Broken x e = tt
-took-within t width room marks r m (Whole next size) x e = omega (arith, x .fits, e)
+pub took-within : (t : List ℕ) (width : ℕ) (buffer marks r m : List ℕ) (scan : Scan) → TookRow t 0 0 0 width buffer marks r m scan → length r ≡ length buffer → Within (length r) scan
+took-within t width buffer marks r m Broken x e = tt
+took-within t width buffer marks r m (Whole next size) x e = omega (arith, x .fits, e)
 
 -- a row of the first bytes is a row of all of them
 pub longer : (n : ℕ) (t : List ℕ) (width : ℕ) (out ends o s : List ℕ) (q : Fast) → Quickly (take n t) width out ends o s q → Quickly t width out ends o s q

@@ -12,17 +12,17 @@ abbrev Text : Type 0
 Text = List ℕ
 
 -- values that the writer writes as a row, and that fit in the outputs
-pub record Fits (width room slots : ℕ) (vs : List Text) : Type 0 where
+pub record Fits (width capacity slots : ℕ) (vs : List Text) : Type 0 where
   pub some : 1 ≤ width
   pub wide : length vs ≡ width
   pub short : length (rowOf vs) ≤ maxRow
-  pub bytes : length (joined vs) ≤ room
+  pub bytes : length (joined vs) ≤ capacity
   pub ends : width ≤ slots
 
 -- a written row is read back, whatever bytes are before and after it: its values, and the place after it (reads-written)
 abbrev pub ReadsWritten : Type 0
-ReadsWritten = (before behind : Text) (vs : List Text) (width room slots : ℕ) → Fits width room slots vs
-    → (readAnswer (before ++ (rowOf vs ++ behind)) width (length before) room slots ≡ Stored (length before + length (rowOf vs)) (length (joined vs)))
+ReadsWritten = (before behind : Text) (vs : List Text) (width capacity slots : ℕ) → Fits width capacity slots vs
+    → (readAnswer (before ++ (rowOf vs ++ behind)) width (length before) capacity slots ≡ Stored (length before + length (rowOf vs)) (length (joined vs)))
     × (valuesAt (before ++ (rowOf vs ++ behind)) width (length before) ≡ vs)
 
 -- the rows of a table, joined
@@ -31,20 +31,20 @@ tableOf [] = []
 tableOf (vs ∷ rows) = rowOf vs ++ tableOf rows
 
 -- from a place on, rows are read one by one, each at the place that the read before it gave, up to the table's end
-pub data Reads (table : Text) (width room slots : ℕ) : ℕ → List (List Text) → Type 0 where
-  atEnd : {place : ℕ} → readAnswer table width place room slots ≡ End → Reads table width room slots place []
-  onward : {place next size : ℕ} {vs : List Text} {rows : List (List Text)} → readAnswer table width place room slots ≡ Stored next size
-      → valuesAt table width place ≡ vs → Reads table width room slots next rows → Reads table width room slots place (vs ∷ rows)
+pub data Reads (table : Text) (width capacity slots : ℕ) : ℕ → List (List Text) → Type 0 where
+  atEnd : {place : ℕ} → readAnswer table width place capacity slots ≡ End → Reads table width capacity slots place []
+  onward : {place next size : ℕ} {vs : List Text} {rows : List (List Text)} → readAnswer table width place capacity slots ≡ Stored next size
+      → valuesAt table width place ≡ vs → Reads table width capacity slots next rows → Reads table width capacity slots place (vs ∷ rows)
 
 abbrev pub AllFit : ℕ → ℕ → ℕ → List (List Text) → Type 0
-AllFit width room slots [] = Unit {0}
-AllFit width room slots (vs ∷ rows) = Fits width room slots vs × AllFit width room slots rows
+AllFit width capacity slots [] = Unit {0}
+AllFit width capacity slots (vs ∷ rows) = Fits width capacity slots vs × AllFit width capacity slots rows
 
 -- a table of rows reads row by row to its end (reads-table)
 abbrev pub ReadsTable : Type 0
-ReadsTable = (width room slots : ℕ) (rows : List (List Text)) → AllFit width room slots rows → Reads (tableOf rows) width room slots 0 rows
+ReadsTable = (width capacity slots : ℕ) (rows : List (List Text)) → AllFit width capacity slots rows → Reads (tableOf rows) width capacity slots 0 rows
 
 -- what is read as a row is one by the grammar, which has one reading (stored-is-a-row; specs/Claims.antt of csv: oneReading)
 abbrev pub StoredIsARow : Type 0
-StoredIsARow = (table : Text) (width place room slots next size : ℕ) → readAnswer table width place room slots ≡ Stored next size
+StoredIsARow = (table : Text) (width place capacity slots next size : ℕ) → readAnswer table width place capacity slots ≡ Stored next size
     → Record (drop place table) (valuesAt table width place) (drop next table)

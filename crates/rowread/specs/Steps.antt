@@ -142,13 +142,13 @@ abbrev pub Quickly : List ℕ → ℕ → List ℕ → List ℕ → List ℕ →
 Quickly t width out ends o s (Read next size) = Holds t 0 0 0 width out ends o s next size
 Quickly t width out ends o s Not = (o ≡ out) × (s ≡ ends)
 
--- a row that was scanned is copied from the buffers `room` and `marks`, or nothing is written
+-- a row that was scanned is copied from the buffers `buffer` and `marks`, or nothing is written
 abbrev pub Handed : Scan → ℕ → List ℕ → List ℕ → List ℕ → List ℕ → List ℕ → List ℕ → Fast → Type 0
-Handed scan width room marks out ends o s (Read next size) =
-    (scan ≡ Whole next size) × (size ≤ length out) × (width ≤ length ends) × (o ≡ sets out 0 (take size room)) × (s ≡ sets ends 0 (take width marks))
-Handed scan width room marks out ends o s Not = (o ≡ out) × (s ≡ ends)
+Handed scan width buffer marks out ends o s (Read next size) =
+    (scan ≡ Whole next size) × (size ≤ length out) × (width ≤ length ends) × (o ≡ sets out 0 (take size buffer)) × (s ≡ sets ends 0 (take width marks))
+Handed scan width buffer marks out ends o s Not = (o ≡ out) × (s ≡ ends)
 
 -- the scanned values have at most as many bytes as the buffer
 abbrev pub Within : ℕ → Scan → Type 0
-Within room (Whole next size) = size ≤ room
-Within room Broken = Unit {0}
+Within capacity (Whole next size) = size ≤ capacity
+Within capacity Broken = Unit {0}

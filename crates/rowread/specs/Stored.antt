@@ -44,17 +44,17 @@ endsOf from (v ∷ vs) = (from + length v) ∷ endsOf (from + length v) vs
 -- a row read within n bytes from a place on: 14 if it is malformed; then 9 if the values joined, or their ends, don't fit; else
 -- the place after the row, and how many bytes the values have
 abbrev pub found : ℕ → ℕ → ℕ → ℕ → Csv.Row → ReadAnswer
-found place n room slots Csv.malformed = Refused Row
-found place n room slots (Csv.row vs rest) =
-    pick (leb (length (joined vs)) room)
+found place n capacity slots Csv.malformed = Refused Row
+found place n capacity slots (Csv.row vs rest) =
+    pick (leb (length (joined vs)) capacity)
     (pick (leb (length vs) slots) (Stored (place + (n - length rest)) (length (joined vs))) (Refused Small))
     (Refused Small)
 
 -- the answer: 14 past the table's end; no row at its end; else what is found
 unfoldable pub readAnswer : List ℕ → ℕ → ℕ → ℕ → ℕ → ReadAnswer
-readAnswer table width place room slots =
+readAnswer table width place capacity slots =
     pick (leb place (length table))
-    (pick (eqb place (length table)) End (found place (length (partAt table place)) room slots (rowAt table width place)))
+    (pick (eqb place (length table)) End (found place (length (partAt table place)) capacity slots (rowAt table width place)))
     (Refused Row)
 
 -- a lent output after the call: if a row was read, `new` at its start and the rest unchanged; else all unchanged

@@ -25,10 +25,10 @@ use csv::LF;
 use csv::MAX_COLUMNS;
 use csv::QUOTE;
 
-// Unquotes the value after an opening quote into the buffer `room`, byte by byte.
-fn buffer_bytes(t: &[u8], from: usize, room: &mut [u8], to: usize) -> Piece
-    requires { ⌜ (from ≤ length (now t)) × (to + (length (now t) - from) ≤ length (now room)) ⌝ }
-    ensures { λ r. ⌜ Took Inner (now (t .entry)) from (now (room .entry)) to (now (room .exit)) r ⌝ }
+// Unquotes the value after an opening quote into the buffer `buffer`, byte by byte.
+fn buffer_bytes(t: &[u8], from: usize, buffer: &mut [u8], to: usize) -> Piece
+    requires { ⌜ (from ≤ length (now t)) × (to + (length (now t) - from) ≤ length (now buffer)) ⌝ }
+    ensures { λ r. ⌜ Took Inner (now (t .entry)) from (now (buffer .entry)) to (now (buffer .exit)) r ⌝ }
 {
     let mut p = from;
     let mut n = to;
@@ -44,22 +44,22 @@ fn buffer_bytes(t: &[u8], from: usize, room: &mut [u8], to: usize) -> Piece
             }
             p += 1;
         }
-        room[n] = byte;
+        buffer[n] = byte;
         n += 1;
     }
     Piece::Bad
 }
 
 // The same, from delimiter to delimiter.
-fn buffer_runs(t: &[u8], from: usize, room: &mut [u8], to: usize) -> Piece
-    requires { ⌜ (from ≤ length (now t)) × (to + (length (now t) - from) ≤ length (now room)) ⌝ }
-    ensures { λ r. ⌜ Took Inner (now (t .entry)) from (now (room .entry)) to (now (room .exit)) r ⌝ }
+fn buffer_runs(t: &[u8], from: usize, buffer: &mut [u8], to: usize) -> Piece
+    requires { ⌜ (from ≤ length (now t)) × (to + (length (now t) - from) ≤ length (now buffer)) ⌝ }
+    ensures { λ r. ⌜ Took Inner (now (t .entry)) from (now (buffer .entry)) to (now (buffer .exit)) r ⌝ }
 {
     let mut p = from;
     let mut n = to;
     while p < t.len() {
         let e = delimiter_from(t, p);
-        n = copy_part(t, p, e, room, n);
+        n = copy_part(t, p, e, buffer, n);
         if e == t.len() {
             return Piece::Bad;
         }
@@ -74,56 +74,56 @@ fn buffer_runs(t: &[u8], from: usize, room: &mut [u8], to: usize) -> Piece
             }
             p += 1;
         }
-        room[n] = last;
+        buffer[n] = last;
         n += 1;
     }
     Piece::Bad
 }
 
-// Unquotes the value after an opening quote into `room`.
-fn buffer_inner(t: &[u8], from: usize, room: &mut [u8], to: usize) -> Piece
-    requires { ⌜ (from ≤ length (now t)) × (to + (length (now t) - from) ≤ length (now room)) ⌝ }
-    ensures { λ r. ⌜ Took Inner (now (t .entry)) from (now (room .entry)) to (now (room .exit)) r ⌝ }
+// Unquotes the value after an opening quote into `buffer`.
+fn buffer_inner(t: &[u8], from: usize, buffer: &mut [u8], to: usize) -> Piece
+    requires { ⌜ (from ≤ length (now t)) × (to + (length (now t) - from) ≤ length (now buffer)) ⌝ }
+    ensures { λ r. ⌜ Took Inner (now (t .entry)) from (now (buffer .entry)) to (now (buffer .exit)) r ⌝ }
 {
     if has_few_quotes(t, from) {
-        return buffer_runs(t, from, room, to);
+        return buffer_runs(t, from, buffer, to);
     }
-    buffer_bytes(t, from, room, to)
+    buffer_bytes(t, from, buffer, to)
 }
 
-// Copies the value at an offset into `room`, unquoted.
-fn buffer_field(t: &[u8], from: usize, room: &mut [u8], to: usize) -> Piece
-    requires { ⌜ (from ≤ length (now t)) × (to + (length (now t) - from) ≤ length (now room)) ⌝ }
-    ensures { λ r. ⌜ Took Field (now (t .entry)) from (now (room .entry)) to (now (room .exit)) r ⌝ }
+// Copies the value at an offset into `buffer`, unquoted.
+fn buffer_field(t: &[u8], from: usize, buffer: &mut [u8], to: usize) -> Piece
+    requires { ⌜ (from ≤ length (now t)) × (to + (length (now t) - from) ≤ length (now buffer)) ⌝ }
+    ensures { λ r. ⌜ Took Field (now (t .entry)) from (now (buffer .entry)) to (now (buffer .exit)) r ⌝ }
 {
     if byte_at(t, from) == QUOTE {
-        return buffer_inner(t, from + 1, room, to);
+        return buffer_inner(t, from + 1, buffer, to);
     }
-    let c = copy_plain(t, from, room, to);
+    let c = copy_plain(t, from, buffer, to);
     Piece::Value {
         next: c.next,
         size: c.to - to,
     }
 }
 
-// Copies the values of a row from an offset on into `room` after `size` bytes, and their ends into `marks` after `count` ends.
+// Copies the values of a row from an offset on into `buffer` after `size` bytes, and their ends into `marks` after `count` ends.
 fn buffer_rest(
     t: &[u8],
     width: usize,
     start: usize,
     size: usize,
     count: usize,
-    room: &mut [u8],
+    buffer: &mut [u8],
     marks: &mut [usize],
 ) -> Scan
-    requires { ⌜ (size ≤ start) × (start ≤ length (now t)) × (length (now t) ≤ length (now room)) × (width ≤ length (now marks)) ⌝ }
-    ensures { λ r. ⌜ TookRow (now (t .entry)) start size count width (now (room .entry)) (now (marks .entry)) (now (room .exit)) (now (marks .exit)) r ⌝ }
+    requires { ⌜ (size ≤ start) × (start ≤ length (now t)) × (length (now t) ≤ length (now buffer)) × (width ≤ length (now marks)) ⌝ }
+    ensures { λ r. ⌜ TookRow (now (t .entry)) start size count width (now (buffer .entry)) (now (marks .entry)) (now (buffer .exit)) (now (marks .exit)) r ⌝ }
 {
     let mut from = start;
     let mut to = size;
     let mut k = count;
     while k < width {
-        let Piece::Value { next, size: n } = buffer_field(t, from, room, to) else {
+        let Piece::Value { next, size: n } = buffer_field(t, from, buffer, to) else {
             return Scan::Broken;
         };
         to += n;
@@ -147,20 +147,20 @@ fn buffer_rest(
     Scan::Broken
 }
 
-// Copies a row of `width` values into `room` and `marks`; n values without quotes are before e.
+// Copies a row of `width` values into `buffer` and `marks`; n values without quotes are before e.
 fn buffer_row(
     t: &[u8],
     width: usize,
     e: usize,
     n: usize,
-    room: &mut [u8],
+    buffer: &mut [u8],
     marks: &mut [usize],
 ) -> Scan
-    requires { ⌜ Opens (now t) e n × (n < width) × (length (now t) ≤ length (now room)) × (width ≤ length (now marks)) ⌝ }
-    ensures { λ r. ⌜ TookRow (now (t .entry)) 0 0 0 width (now (room .entry)) (now (marks .entry)) (now (room .exit)) (now (marks .exit)) r ⌝ }
+    requires { ⌜ Opens (now t) e n × (n < width) × (length (now t) ≤ length (now buffer)) × (width ≤ length (now marks)) ⌝ }
+    ensures { λ r. ⌜ TookRow (now (t .entry)) 0 0 0 width (now (buffer .entry)) (now (marks .entry)) (now (buffer .exit)) (now (marks .exit)) r ⌝ }
 {
-    let to = copy_before(&t[0..e], room, marks);
-    buffer_rest(t, width, e, to, n, room, marks)
+    let to = copy_before(&t[0..e], buffer, marks);
+    buffer_rest(t, width, e, to, n, buffer, marks)
 }
 
 // Copies the first n ends.
@@ -175,17 +175,17 @@ fn copy_ends(marks: &[usize], n: usize, ends: &mut [usize])
     }
 }
 
-// Copies a row from `room` and `marks` to the outputs, if it fits.
+// Copies a row from `buffer` and `marks` to the outputs, if it fits.
 fn copy_out(
     found: Scan,
     width: usize,
-    room: &[u8],
+    buffer: &[u8],
     marks: &[usize],
     out: &mut [u8],
     ends: &mut [usize],
 ) -> Fast
-    requires { ⌜ Within (length (now room)) found × (width ≤ length (now marks)) ⌝ }
-    ensures { λ r. ⌜ Handed found width (now (room .entry)) (now (marks .entry)) (now (out .entry)) (now (ends .entry)) (now (out .exit)) (now (ends .exit)) r ⌝ }
+    requires { ⌜ Within (length (now buffer)) found × (width ≤ length (now marks)) ⌝ }
+    ensures { λ r. ⌜ Handed found width (now (buffer .entry)) (now (marks .entry)) (now (out .entry)) (now (ends .entry)) (now (out .exit)) (now (ends .exit)) r ⌝ }
 {
     let Scan::Whole { next, size } = found else {
         return Fast::Not;
@@ -196,27 +196,27 @@ fn copy_out(
     if ends.len() < width {
         return Fast::Not;
     }
-    copy_part(room, 0, size, out, 0);
+    copy_part(buffer, 0, size, out, 0);
     copy_ends(marks, width, ends);
     Fast::Read { next, size }
 }
 
-// Reads a row of `width` values with the buffers `room` and `marks`; n values without quotes are before e.
+// Reads a row of `width` values with the buffers `buffer` and `marks`; n values without quotes are before e.
 fn row_through(
     t: &[u8],
     width: usize,
     e: usize,
     n: usize,
-    room: &mut [u8],
+    buffer: &mut [u8],
     marks: &mut [usize],
     out: &mut [u8],
     ends: &mut [usize],
 ) -> Fast
-    requires { ⌜ Opens (now t) e n × (n < width) × (length (now t) ≤ length (now room)) × (width ≤ length (now marks)) ⌝ }
+    requires { ⌜ Opens (now t) e n × (n < width) × (length (now t) ≤ length (now buffer)) × (width ≤ length (now marks)) ⌝ }
     ensures { λ r. ⌜ Quickly (now (t .entry)) width (now (out .entry)) (now (ends .entry)) (now (out .exit)) (now (ends .exit)) r ⌝ }
 {
-    let found = buffer_row(t, width, e, n, room, marks);
-    copy_out(found, width, room, marks, out, ends)
+    let found = buffer_row(t, width, e, n, buffer, marks);
+    copy_out(found, width, buffer, marks, out, ends)
 }
 
 // The same with the small buffer.
@@ -231,9 +231,9 @@ fn with_small_buffer(
     requires { ⌜ Opens (now t) e n × (n < width) × (width ≤ maxColumns) × (length (now t) ≤ smallBuffer) ⌝ }
     ensures { λ r. ⌜ Quickly (now (t .entry)) width (now (out .entry)) (now (ends .entry)) (now (out .exit)) (now (ends .exit)) r ⌝ }
 {
-    let mut room = [0u8; SMALL_BUFFER];
+    let mut buffer = [0u8; SMALL_BUFFER];
     let mut marks = [0usize; MAX_COLUMNS];
-    row_through(t, width, e, n, &mut room, &mut marks, out, ends)
+    row_through(t, width, e, n, &mut buffer, &mut marks, out, ends)
 }
 
 // The same with a buffer of 1,024 bytes.
@@ -248,9 +248,9 @@ fn with_large_buffer(
     requires { ⌜ Opens (now t) e n × (n < width) × (width ≤ maxColumns) × (length (now t) ≤ largeBuffer) ⌝ }
     ensures { λ r. ⌜ Quickly (now (t .entry)) width (now (out .entry)) (now (ends .entry)) (now (out .exit)) (now (ends .exit)) r ⌝ }
 {
-    let mut room = [0u8; LARGE_BUFFER];
+    let mut buffer = [0u8; LARGE_BUFFER];
     let mut marks = [0usize; MAX_COLUMNS];
-    row_through(t, width, e, n, &mut room, &mut marks, out, ends)
+    row_through(t, width, e, n, &mut buffer, &mut marks, out, ends)
 }
 
 // Whether to use the small buffer: an LF or the end is within 64 bytes. Both give the same row.

@@ -20,12 +20,12 @@ use Rattle.base.specs.Table.{lastTable}
 abbrev Text : Type 0
 Text = List ℕ
 
-module _ (region : Text) (n i t room slots : ℕ) (b : Bank) (e : named region n ≡ Good b) (l : ltb i (b .count) ≡ true) (h : leb t lastTable ≡ true) where
+module _ (region : Text) (n i t capacity slots : ℕ) (b : Bank) (e : named region n ≡ Good b) (l : ltb i (b .count) ≡ true) (h : leb t lastTable ≡ true) where
   -- what is read of the table's bytes is read of the bank
-  from-table : (place : ℕ) (rows : List (List Text)) → Reads (tableIn region b i t) (columnCount t) room slots place rows → BankReads region n i t room slots place rows
-  from-table place [] (endOfTable q) = atEnd (sym (is-answer region n i t place room slots b h e l) ∙ q)
+  from-table : (place : ℕ) (rows : List (List Text)) → Reads (tableIn region b i t) (columnCount t) capacity slots place rows → BankReads region n i t capacity slots place rows
+  from-table place [] (endOfTable q) = atEnd (sym (is-answer region n i t place capacity slots b h e l) ∙ q)
   from-table place (vs ∷ rows) (further {next = next} q v r) =
-      onward (sym (is-answer region n i t place room slots b h e l) ∙ q) (sym (is-values region n i t place room slots b h e) ∙ v) (from-table next rows r)
+      onward (sym (is-answer region n i t place capacity slots b h e l) ∙ q) (sym (is-values region n i t place capacity slots b h e) ∙ v) (from-table next rows r)
 
 -- a names line and rows are the table of these rows
 is-table : (t : ℕ) (rows : List (List Text)) → namesLine t ++ tableOf rows ≡ tableOf (columnsOf t ∷ rows)
@@ -33,7 +33,7 @@ unfolding tableOf
 is-table t rows = ap (λ (l : Text). l ++ tableOf rows) (names-are-a-row t)
 
 pub reads-bank : ReadsBank
-reads-bank region n i t room slots b rows e l h k f =
-    from-table region n i t room slots b e (lt-ltb i (b .count) l) (le-leb t lastTable h) 0 (columnsOf t ∷ rows)
+reads-bank region n i t capacity slots b rows e l h k f =
+    from-table region n i t capacity slots b e (lt-ltb i (b .count) l) (le-leb t lastTable h) 0 (columnsOf t ∷ rows)
     (let q : tableIn region b i t ≡ tableOf (columnsOf t ∷ rows) = k ∙ is-table t rows in
-    rw q (reads-table (columnCount t) room slots (columnsOf t ∷ rows) f))
+    rw q (reads-table (columnCount t) capacity slots (columnsOf t ∷ rows) f))

@@ -29,13 +29,13 @@ tableIn region b i t = bytesOf region (b .number) (getD (sourceIn region b i .ta
 
 -- 6 for a source at or past the count; then the answer of the reader: 14, 9, no row at the table's end, or the row
 abbrev pub thenRow : List ℕ → ℕ → ℕ → ℕ → ℕ → ℕ → Validated → ReadAnswer
-thenRow region i t place room slots (Good b) =
-    pick (ltb i (b .count)) (readAnswer (tableIn region b i t) (columnCount t) place room slots) (Refused NoSuchSource)
-thenRow region i t place room slots (Bad r) = Refused r
+thenRow region i t place capacity slots (Good b) =
+    pick (ltb i (b .count)) (readAnswer (tableIn region b i t) (columnCount t) place capacity slots) (Refused NoSuchSource)
+thenRow region i t place capacity slots (Bad r) = Refused r
 
 -- 1, 2 (bank and table), 3 to 6, 6 at or past the count, 14, 9
 unfoldable pub bankRowAnswer : List ℕ → ℕ → ℕ → ℕ → ℕ → ℕ → ℕ → ReadAnswer
-bankRowAnswer region n i t place room slots = thenRow region i t place room slots (namedIf (leb t lastTable) region n)
+bankRowAnswer region n i t place capacity slots = thenRow region i t place capacity slots (namedIf (leb t lastTable) region n)
 
 -- the values of the row at a place; the outputs get them only if the answer is `Stored`
 abbrev pub thenValues : List ℕ → ℕ → ℕ → ℕ → Validated → List (List ℕ)

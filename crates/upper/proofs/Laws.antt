@@ -174,19 +174,19 @@ names-fit (suc (suc (suc (suc (suc (suc (suc zero))))))) h = omega arith
 names-fit (suc (suc (suc (suc (suc (suc (suc (suc n)))))))) h = absurd (omega arith)
 
 module _ (t : ℕ) (out o : List ℕ) (a : RowAnswer) (h : t ≤ lastTable) (l : length out ≡ namesSize) (e : a ≡ namesAnswer t (length out)) (k : o ≡ after a (namesLine t) out) where
-  names-room : length (namesLine t) ≤ length out
-  names-room = omega (arith, names-fit t h)
+  names-inside : length (namesLine t) ≤ length out
+  names-inside = omega (arith, names-fit t h)
 
   names-answer : a ≡ Written (length (namesLine t))
   unfolding namesAnswer within
-  names-answer = e ∙ rw (le-leb t 7 h, le-leb (length (namesLine t)) (length out) names-room)
+  names-answer = e ∙ rw (le-leb t 7 h, le-leb (length (namesLine t)) (length out) names-inside)
 
   pub names-there : (n : ℕ) → a ≡ Written n → (n ≤ namesSize) × (n ≡ length (namesLine t)) × (take n o ≡ namesLine t)
   names-there n x =
       let m : n ≡ length (namesLine t) = cc names-answer in (
         omega (arith, names-fit t h),
         m,
-        (λ i. take (m i) ((k ∙ ap (λ (b : RowAnswer). after b (namesLine t) out) names-answer) i)) ∙ start-is (namesLine t) out names-room,
+        (λ i. take (m i) ((k ∙ ap (λ (b : RowAnswer). after b (namesLine t) out) names-answer) i)) ∙ start-is (namesLine t) out names-inside,
       )
 
   pub names-never : (x : Refusal) → a ≡ RowRefused x → ⊥
@@ -292,8 +292,8 @@ module _ (b l out o : List ℕ) (a : KeyAnswer) (h : length out ≡ maxBody) (e 
     key-out : o ≡ written out 0 (keyOf [] (Picks.passedPicks b l))
     key-out = k ∙ ap (λ (x : KeyAnswer). keyAfter x (keyOf [] (Picks.passedPicks b l)) out) f
 
-    pub key-room : n ≤ length o
-    key-room = omega (arith, key-both .1, body-short b l key-fit, ap length key-out, length-written out 0 (keyOf [] (Picks.passedPicks b l)))
+    pub key-inside : n ≤ length o
+    key-inside = omega (arith, key-both .1, body-short b l key-fit, ap length key-out, length-written out 0 (keyOf [] (Picks.passedPicks b l)))
 
     pub key-there : (id : List ℕ) → prefix id ++ take n o ≡ keyBytes id b l
     unfolding keyOf prefix

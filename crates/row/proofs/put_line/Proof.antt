@@ -1,12 +1,12 @@
 -- The slice between two offsets of the constant is the table's names line (`stands`). An output that is too small is refused and unchanged
--- (`no-room`), else the line is copied (`put-there`).
+-- (`too-small`), else the line is copied (`put-there`).
 use mathlib.Core.Path.{_≡_, ap, _∙_}
 use Prim.Native.Nat.{_+_, _-_}
 use native.Mathlib.Omega.{arith}
 use lib.ListN.{length, take, drop, getD}
 use Rattle.row.specs.Columns.{namesLine}
 use Rattle.row.proofs.Names.{starts, stands}
-use Rattle.row.proofs.Calls.{no-room, put-there}
+use Rattle.row.proofs.Calls.{too-small, put-there}
 use borrow.Author.Needs.{needs}
 use Rattle.row.proofs.put_line.Statement.{statement}
 use Rattle.row.proofs.put_line.Tie as tie
@@ -53,7 +53,7 @@ returns c =
     let p = c .before .before .before .before .pre in
     let s = stands (a .table) (p .1) in
     let e : take (getD starts (a .table + 1) 0 - getD starts (a .table) 0) (drop (getD starts (a .table) 0) (a .all .now)) ≡ namesLine (a .table) = rw (p .0) (s .is) in
-    no-room (namesLine (a .table)) (a .out .now) (omega (arith, ap length e, c .if1 .taken))
+    too-small (namesLine (a .table)) (a .out .now) (omega (arith, ap length e, c .if1 .taken))
 
 copy-requires : tie.Need-copy-requires
 copy-requires c κs = search needs

@@ -1,9 +1,9 @@
--- One case for each guard (`row-past`, `row-count`, `row-long`, `row-room`), and `row-fits` if all pass. `row_size` gives at most 8,193, so
+-- One case for each guard (`row-past`, `row-count`, `row-long`, `row-small`), and `row-fits` if all pass. `row_size` gives at most 8,193, so
 -- the comparison with 8,192 is exact.
 use mathlib.Core.Path.{sym, _∙_}
 use native.Mathlib.Omega.{arith}
 use Rattle.row.proofs.Names.{count-most}
-use Rattle.row.proofs.Calls.{row-past, row-count, row-long, row-room, row-fits}
+use Rattle.row.proofs.Calls.{row-past, row-count, row-long, row-small, row-fits}
 use borrow.Author.Needs.{needs}
 use Rattle.row.proofs.row.Statement.{statement}
 use Rattle.row.proofs.row.Tie as tie
@@ -38,7 +38,7 @@ returns-3 c =
 returns-4 : tie.Need-returns-4
 returns-4 c =
     let a = c .before .before .before .before .before .before .before .before .before .before .before .args in
-    row-room (a .table) (a .texts .now) (a .lengths .now) (a .out .now) (c .before .before .before .before .before .before .before .if1 .left) (c .before .before .before .before .before .if2 .left ∙ c .before .before .before .before .before .before .column-count .ensures) (c .before .before .before .row-size .result) (c .before .before .before .row-size .ensures .0) (c .before .if3 .left) (c .if4 .taken)
+    row-small (a .table) (a .texts .now) (a .lengths .now) (a .out .now) (c .before .before .before .before .before .before .before .if1 .left) (c .before .before .before .before .before .if2 .left ∙ c .before .before .before .before .before .before .column-count .ensures) (c .before .before .before .row-size .result) (c .before .before .before .row-size .ensures .0) (c .before .if3 .left) (c .if4 .taken)
 
 slice-aggregate-put-row : tie.Need-slice-aggregate-put-row
 slice-aggregate-put-row c = search needs

@@ -10,7 +10,7 @@ use Rattle.key.specs.Picks.{pickOf}
 use Rattle.key.specs.Steps.{between}
 use Rattle.key.specs.Layout.{joined, field}
 use Rattle.key.proofs.Taken.{five}
-use Rattle.key.proofs.Put.{put-none, joined-none, joined-all, step-length, step-room, step-put}
+use Rattle.key.proofs.Put.{put-none, joined-none, joined-all, step-length, step-fits, step-put}
 use Rattle.key.proofs.write.put_pick.Statement.{statement}
 use Rattle.key.proofs.write.put_pick.Tie as tie
 
@@ -22,14 +22,14 @@ abbrev μ-loop : tie.MeasureT-loop
 μ-loop out₀ at texts starts i to₀ f₀ out to f = 5 - f
 
 -- the bytes so far and this text's are among those of the pick
-room : (c : tie.After-field Inv-loop μ-loop)
+enough : (c : tie.After-field Inv-loop μ-loop)
     → c .before .before .loop .to + 1 + length (c .field .result .now) ≤ length (c .before .before .loop .out)
-room c =
+enough c =
     let a = c .before .before .before .before .before .before .args in
     let p = pickOf (between (a .texts .now) (a .starts .now)) (a .i) in
     let l = c .before .before .loop in
     let w = five (between (a .texts .now) (a .starts .now)) (a .i) in
-    omega (arith, step-room field [] p (l .f) (omega arith) (c .field .result .now) (c .field .ensures))
+    omega (arith, step-fits field [] p (l .f) (omega arith) (c .field .result .now) (c .field .ensures))
 
 loop-holds : tie.Need-loop-holds Inv-loop μ-loop
 loop-holds c =
@@ -41,13 +41,13 @@ field-requires : tie.Need-field-requires Inv-loop μ-loop
 field-requires c κs = (c .before .before .before .before .before .pre .0, omega arith, omega arith)
 
 put-field-requires : tie.Need-put-field-requires Inv-loop μ-loop
-put-field-requires c κs = omega (arith, room (c .before))
+put-field-requires c κs = omega (arith, enough (c .before))
 
 add-to : tie.Need-add-to Inv-loop μ-loop
-add-to c = omega (arith, room (c .before .before .before .before))
+add-to c = omega (arith, enough (c .before .before .before .before))
 
 add-to-2 : tie.Need-add-to-2 Inv-loop μ-loop
-add-to-2 c = omega (arith, room (c .before .before .before .before))
+add-to-2 c = omega (arith, enough (c .before .before .before .before))
 
 add-f : tie.Need-add-f Inv-loop μ-loop
 add-f c = omega arith

@@ -9,7 +9,7 @@ use Rattle.key.specs.Layout.{joined, entry}
 use Rattle.key.specs.Steps.{between}
 use Rattle.key.proofs.Insert.{below-at, map-at}
 use Rattle.leaf.specs.Bytes.{written}
-use Rattle.key.proofs.Put.{put-none, joined-none, joined-all, step-length, step-room, step-put}
+use Rattle.key.proofs.Put.{put-none, joined-none, joined-all, step-length, step-fits, step-put}
 use Rattle.key.proofs.write.put_picks.Statement.{statement}
 use Rattle.key.proofs.write.put_picks.Tie as tie
 
@@ -42,7 +42,7 @@ put-pick-requires c κs =
     let w = length-map (a .sorted .now) f in
     let h : l .k < length (a .sorted .now) = omega arith in
     let b = below-at (a .n) (a .sorted .now) (l .k) (s .pre .2) h in
-    let r = step-room entry [] (map f (a .sorted .now)) (l .k) (omega arith) (f (getD (a .sorted .now) (l .k) 0)) (map-at f (a .sorted .now) (l .k) h) in
+    let r = step-fits entry [] (map f (a .sorted .now)) (l .k) (omega arith) (f (getD (a .sorted .now) (l .k) 0)) (map-at f (a .sorted .now) (l .k) h) in
     (s .pre .0, omega (arith, s .pre .1, b), omega (arith, r, s .pre .3, l .inv .1, l .inv .2))
 
 add-k : tie.Need-add-k Inv-loop μ-loop

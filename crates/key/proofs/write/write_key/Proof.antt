@@ -6,7 +6,7 @@ use lib.ListN.{length, length-set}
 use Rattle.key.specs.Picks.{pickOf, firsts}
 use Rattle.key.specs.Layout.{keyOf}
 use Rattle.key.specs.Steps.{between}
-use Rattle.key.proofs.Answers.{no-room, in-room, whole, part-is, part-below, part-length, part-count, total-is}
+use Rattle.key.proofs.Answers.{too-small, fits-in, whole, part-is, part-below, part-length, part-count, total-is}
 use borrow.Author.Needs.{needs}
 use Rattle.key.proofs.write.write_key.Statement.{statement}
 use Rattle.key.proofs.write.write_key.Tie as tie
@@ -48,7 +48,7 @@ returns c =
     let o = q .ensures .1 in
     let k = c .before .key-length in
     let e = total-is f (a .n) order m o (a .identity .now) (k .result) (k .ensures) in
-    (no-room (length (a .out .now)) (keyOf (a .identity .now) (firsts (a .n) f)) (omega (arith, e, c .if1 .taken)), refl)
+    (too-small (length (a .out .now)) (keyOf (a .identity .now) (firsts (a .n) f)) (omega (arith, e, c .if1 .taken)), refl)
 
 put-prefix-requires : tie.Need-put-prefix-requires
 put-prefix-requires c κs = search needs
@@ -95,7 +95,7 @@ returns-2 c =
     let w = c .before .before .put-picks in
     let left = c .before .before .before .before .before .before .before .before .if1 .left in
     let e = total-is f (a .n) order m o (a .identity .now) (k .result) (k .ensures) in (
-      in-room (length (a .out .now)) (keyOf (a .identity .now) (firsts (a .n) f)) (k .result) e left,
+      fits-in (length (a .out .now)) (keyOf (a .identity .now) (firsts (a .n) f)) (k .result) e left,
       whole (a .out .now) (p .last .0) (w .last .0) (a .identity .now) (firsts (a .n) f) (p .result) m (omega (arith, e, left)) (p .ensures .0)
           (part-count f (a .n) order m o) (p .ensures .1) (rw (part-is f (a .n) order m o) at (w .ensures)),
     )

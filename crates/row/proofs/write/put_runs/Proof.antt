@@ -72,7 +72,7 @@ slice-write-out c =
     let e = c .before .before .before .put-run .ensures in
     let x = ran v (l .out) _ (l .i) (l .n) _ (l .inv .0) (e .0) (e .1) in
     let q = run-quote v (l .out) _ (l .i) (l .n) _ x (c .if1 .taken) (λ y. c .before .before .before .before .before .before .loop-test .taken (omega (arith, s .pre .0, l .inv .2, y))) in
-    omega (arith, s .pre .0, s .pre .1, l .inv .1, l .inv .2, x .size, x .room, ap length (q .1))
+    omega (arith, s .pre .0, s .pre .1, l .inv .1, l .inv .2, x .size, x .lengthKept, ap length (q .1))
 
 add-out : tie.Need-add-out Inv-loop μ-loop
 add-out c =
@@ -82,7 +82,7 @@ add-out c =
     let e = c .before .before .before .put-run .ensures in
     let x = ran v (l .out) _ (l .i) (l .n) _ (l .inv .0) (e .0) (e .1) in
     let q = run-quote v (l .out) _ (l .i) (l .n) _ x (c .if1 .taken) (λ y. c .before .before .before .before .before .before .loop-test .taken (omega (arith, s .pre .0, l .inv .2, y))) in
-    omega (arith, s .pre .0, s .pre .1, l .inv .1, l .inv .2, x .size, x .room, ap length (q .1))
+    omega (arith, s .pre .0, s .pre .1, l .inv .1, l .inv .2, x .size, x .lengthKept, ap length (q .1))
 
 slice-write-out-2 : tie.Need-slice-write-out-2 Inv-loop μ-loop
 slice-write-out-2 c =
@@ -94,7 +94,7 @@ slice-write-out-2 c =
     let q = run-quote v (l .out) _ (l .i) (l .n) _ x (c .if1 .taken) (λ y. c .before .before .before .before .before .before .loop-test .taken (omega (arith, s .pre .0, l .inv .2, y))) in
     let o = c .before .before .before .put-run .last .1 .0 in
     let m = l .n + c .before .before .before .put-run .result in
-    omega (arith, s .pre .0, s .pre .1, l .inv .1, l .inv .2, x .size, x .room, ap length (q .1), length-set o m quote)
+    omega (arith, s .pre .0, s .pre .1, l .inv .1, l .inv .2, x .size, x .lengthKept, ap length (q .1), length-set o m quote)
 
 add-n-2 : tie.Need-add-n-2 Inv-loop μ-loop
 add-n-2 c =
@@ -104,7 +104,7 @@ add-n-2 c =
     let e = c .before .before .before .put-run .ensures in
     let x = ran v (l .out) _ (l .i) (l .n) _ (l .inv .0) (e .0) (e .1) in
     let q = run-quote v (l .out) _ (l .i) (l .n) _ x (c .if1 .taken) (λ y. c .before .before .before .before .before .before .loop-test .taken (omega (arith, s .pre .0, l .inv .2, y))) in
-    omega (arith, s .pre .0, s .pre .1, l .inv .1, l .inv .2, x .size, x .room, ap length (q .1))
+    omega (arith, s .pre .0, s .pre .1, l .inv .1, l .inv .2, x .size, x .lengthKept, ap length (q .1))
 
 add-i-2 : tie.Need-add-i-2 Inv-loop μ-loop
 add-i-2 c =
@@ -136,7 +136,7 @@ loop-again c =
     let q = run-quote v (l .out) _ (l .i) (l .n) _ x (c .if1 .taken) (λ y. c .before .before .before .before .before .before .loop-test .taken (omega (arith, s .pre .0, l .inv .2, y))) in
     let o = c .before .before .before .put-run .last .1 .0 in
     let r = c .before .before .before .put-run .result in
-    (omega (arith, q .0), twice-set o (l .n + r) quote (l .n + r + 1) quote _ (x .room ∙ l .inv .1), omega (arith, l .inv .2, x .size, ap length (q .1)), l .inv .3 ∙ x .is ∙ sets-pair o (l .n + r) quote quote (doubled (drop (l .i + r) v)) _ (q .1))
+    (omega (arith, q .0), twice-set o (l .n + r) quote (l .n + r + 1) quote _ (x .lengthKept ∙ l .inv .1), omega (arith, l .inv .2, x .size, ap length (q .1)), l .inv .3 ∙ x .is ∙ sets-pair o (l .n + r) quote quote (doubled (drop (l .i + r) v)) _ (q .1))
 
 loop-less-2 : tie.Need-loop-less-2 Inv-loop μ-loop
 loop-less-2 c =
@@ -154,7 +154,7 @@ loop-again-2 c =
     let v = s .args .v .now in
     let e = c .before .before .before .put-run .ensures in
     let x = ran v (l .out) _ (l .i) (l .n) _ (l .inv .0) (e .0) (e .1) in
-    (x .inside, x .room ∙ l .inv .1, omega (arith, l .inv .2, x .size), l .inv .3 ∙ x .is)
+    (x .inside, x .lengthKept ∙ l .inv .1, omega (arith, l .inv .2, x .size), l .inv .3 ∙ x .is)
 
 sub-copy : tie.Need-sub-copy Inv-loop μ-loop
 sub-copy c = search needs

@@ -6,22 +6,22 @@ use Prim.Native.Nat.{_-_, _+_}
 use native.Mathlib.Omega.{arith}
 use lib.ListN.{length}
 use Rattle.rowread.proofs.Laws.{past}
-use Rattle.rowread.proofs.Takes.{Gone, gone-start, gone-same, gone-room, gone-byte, gone-twice, gone-close}
+use Rattle.rowread.proofs.Takes.{Gone, gone-start, gone-same, gone-fits, gone-byte, gone-twice, gone-close}
 use borrow.Author.Needs.{needs}
 use Rattle.rowread.proofs.buffered.buffer_bytes.Statement.{statement}
 use Rattle.rowread.proofs.buffered.buffer_bytes.Tie as tie
 
 abbrev Inv-loop : tie.InvT-loop
-Inv-loop t from room₀ to p₀ n₀ room p n = Gone t from room₀ to room p n
+Inv-loop t from buffer₀ to p₀ n₀ buffer p n = Gone t from buffer₀ to buffer p n
 
 abbrev μ-loop : tie.MeasureT-loop
-μ-loop t from room₀ to p₀ n₀ room p n = length t - p
+μ-loop t from buffer₀ to p₀ n₀ buffer p n = length t - p
 
 loop-holds : tie.Need-loop-holds Inv-loop μ-loop
 loop-holds c =
     let s = c .before .before in
     let a = s .args in
-    gone-start (a .t .now) (a .from) (a .room .now) (a .to) (s .pre .0)
+    gone-start (a .t .now) (a .from) (a .buffer .now) (a .to) (s .pre .0)
 
 shared-slice-read-byte : tie.Need-shared-slice-read-byte Inv-loop μ-loop
 shared-slice-read-byte c = search needs
@@ -53,17 +53,17 @@ add-p-2 c =
     let l = c .before .before .before .before .before .loop in
     omega (arith, past (s .args .t .now) (l .p + 1) 33 (sym (c .before .byte-at .ensures) ∙ c .if2 .left))
 
-slice-write-room : tie.Need-slice-write-room Inv-loop μ-loop
-slice-write-room c =
+slice-write-buffer : tie.Need-slice-write-buffer Inv-loop μ-loop
+slice-write-buffer c =
     let s = c .before .before .before .before .before .before in
     let l = c .before .before .before .loop in
-    gone-room (l .inv) (s .pre .1) (c .before .before .loop-test .taken)
+    gone-fits (l .inv) (s .pre .1) (c .before .before .loop-test .taken)
 
 add-n : tie.Need-add-n Inv-loop μ-loop
 add-n c =
     let s = c .before .before .before .before .before .before in
     let l = c .before .before .before .loop in
-    omega (arith, gone-room (l .inv) (s .pre .1) (c .before .before .loop-test .taken))
+    omega (arith, gone-fits (l .inv) (s .pre .1) (c .before .before .loop-test .taken))
 
 loop-less : tie.Need-loop-less Inv-loop μ-loop
 loop-less c = ⊎-elim (λ w. omega arith) (λ w. omega arith) (c .if1 .came)
@@ -97,7 +97,7 @@ buffer-bytes-spec =
     same-length
     returns
     add-p-2
-    slice-write-room
+    slice-write-buffer
     add-n
     loop-less
     loop-again

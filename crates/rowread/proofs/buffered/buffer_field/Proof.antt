@@ -29,7 +29,7 @@ returns c =
     let s = c .before .before .before .before .before .before .before .before in
     let a = s .args in
     let t = a .t .now in
-    quoted-took t (a .from) (a .room .now) (a .to) _ (c .before .before .buffer-inner .result) (sym (c .before .before .before .before .before .byte-at .ensures) ∙ c .before .before .before .before .if1 .taken) (c .before .before .buffer-inner .ensures)
+    quoted-took t (a .from) (a .buffer .now) (a .to) _ (c .before .before .buffer-inner .result) (sym (c .before .before .before .before .before .byte-at .ensures) ∙ c .before .before .before .before .if1 .taken) (c .before .before .buffer-inner .ensures)
 
 copy-plain-requires : tie.Need-copy-plain-requires
 copy-plain-requires c κs =
@@ -50,7 +50,7 @@ returns-2 c =
     let a = s .args in
     let t = a .t .now in
     let r = c .before .before .before .copy-plain in
-    plain-into t (a .from) (a .room .now) (a .to) _ (r .result .next) (r .result .to - a .to) (s .pre .0) (λ q. c .before .before .before .before .before .if1 .left (c .before .before .before .before .before .before .byte-at .ensures ∙ q)) (r .ensures .0) (r .ensures .1) (omega (arith, r .ensures .2))
+    plain-into t (a .from) (a .buffer .now) (a .to) _ (r .result .next) (r .result .to - a .to) (s .pre .0) (λ q. c .before .before .before .before .before .if1 .left (c .before .before .before .before .before .before .byte-at .ensures ∙ q)) (r .ensures .0) (r .ensures .1) (omega (arith, r .ensures .2))
 
 pub buffer-field-spec : {M : Type 1} → statement M
 buffer-field-spec =

@@ -13,10 +13,10 @@ use Rattle.rowread.proofs.buffered.buffer_rest.Statement.{statement}
 use Rattle.rowread.proofs.buffered.buffer_rest.Tie as tie
 
 abbrev Inv-loop : tie.InvT-loop
-Inv-loop t width start size count room₀ marks₀ from₀ to₀ k₀ room marks from to k = (to ≤ from) × (from ≤ length t) × (length room ≡ length room₀) × (length marks ≡ length marks₀) × ((o s : List ℕ) (next all : ℕ) → Holds t from to k width room marks o s next all → Holds t start size count width room₀ marks₀ o s next all)
+Inv-loop t width start size count buffer₀ marks₀ from₀ to₀ k₀ buffer marks from to k = (to ≤ from) × (from ≤ length t) × (length buffer ≡ length buffer₀) × (length marks ≡ length marks₀) × ((o s : List ℕ) (next all : ℕ) → Holds t from to k width buffer marks o s next all → Holds t start size count width buffer₀ marks₀ o s next all)
 
 abbrev μ-loop : tie.MeasureT-loop
-μ-loop t width start size count room₀ marks₀ from₀ to₀ k₀ room marks from to k = width - k
+μ-loop t width start size count buffer₀ marks₀ from₀ to₀ k₀ buffer marks from to k = width - k
 
 loop-holds : tie.Need-loop-holds Inv-loop μ-loop
 loop-holds c =

@@ -39,7 +39,7 @@ returns c =
     let a = s .args in
     let r = c .before .before .before .before .before .before .before .before .before .before .before .copy-before in
     let w = c .before .before .before .before .buffer-rest in
-    took-before (a .t .now) (a .e) (a .n) (s .pre .0) (a .room .now) (a .marks .now) _ _ (r .result) (r .ensures .0) (r .ensures .1) (r .ensures .2) (a .width) _ _ (w .result) (w .ensures)
+    took-before (a .t .now) (a .e) (a .n) (s .pre .0) (a .buffer .now) (a .marks .now) _ _ (r .result) (r .ensures .0) (r .ensures .1) (r .ensures .2) (a .width) _ _ (w .result) (w .ensures)
 
 pub buffer-row-spec : {M : Type 1} → statement M
 buffer-row-spec =

@@ -6,22 +6,22 @@ use native.Mathlib.Omega.{arith}
 use lib.ListN.{length}
 use Rattle.rowread.proofs.Laws.{past}
 use Rattle.rowread.proofs.Lines.{stop-inside}
-use Rattle.rowread.proofs.Takes.{Gone, gone-start, gone-same, gone-room, gone-byte, gone-twice, gone-run, gone-close}
+use Rattle.rowread.proofs.Takes.{Gone, gone-start, gone-same, gone-fits, gone-byte, gone-twice, gone-run, gone-close}
 use borrow.Author.Needs.{needs}
 use Rattle.rowread.proofs.buffered.buffer_runs.Statement.{statement}
 use Rattle.rowread.proofs.buffered.buffer_runs.Tie as tie
 
 abbrev Inv-loop : tie.InvT-loop
-Inv-loop t from room₀ to p₀ n₀ room p n = Gone t from room₀ to room p n
+Inv-loop t from buffer₀ to p₀ n₀ buffer p n = Gone t from buffer₀ to buffer p n
 
 abbrev μ-loop : tie.MeasureT-loop
-μ-loop t from room₀ to p₀ n₀ room p n = length t - p
+μ-loop t from buffer₀ to p₀ n₀ buffer p n = length t - p
 
 loop-holds : tie.Need-loop-holds Inv-loop μ-loop
 loop-holds c =
     let s = c .before .before in
     let a = s .args in
-    gone-start (a .t .now) (a .from) (a .room .now) (a .to) (s .pre .0)
+    gone-start (a .t .now) (a .from) (a .buffer .now) (a .to) (s .pre .0)
 
 delimiter-from-requires : tie.Need-delimiter-from-requires Inv-loop μ-loop
 delimiter-from-requires c κs = c .before .loop .inv .inside
@@ -85,19 +85,19 @@ returns-2 c =
 add-p-2 : tie.Need-add-p-2 Inv-loop μ-loop
 add-p-2 c = omega (arith, past (c .before .before .before .before .before .before .before .before .before .before .before .before .before .before .args .t .now) (c .before .before .before .before .before .before .before .before .before .delimiter-from .result + 1) 33 (sym (c .before .byte-at .ensures) ∙ c .if3 .left))
 
-slice-write-room : tie.Need-slice-write-room Inv-loop μ-loop
-slice-write-room c =
+slice-write-buffer : tie.Need-slice-write-buffer Inv-loop μ-loop
+slice-write-buffer c =
     let l = c .before .before .before .before .before .before .before .before .before .loop in
     let r = c .before .before .before .before .before .before .before .delimiter-from in
     let g = gone-run (l .inv) (r .result) _ _ (r .ensures) (c .before .before .before .before .before .copy-part .ensures) in
-    gone-room g (c .before .before .before .before .before .before .before .before .before .before .before .before .pre .1) (omega (arith, g .inside, c .before .before .if1 .left))
+    gone-fits g (c .before .before .before .before .before .before .before .before .before .before .before .before .pre .1) (omega (arith, g .inside, c .before .before .if1 .left))
 
 add-n : tie.Need-add-n Inv-loop μ-loop
 add-n c =
     let l = c .before .before .before .before .before .before .before .before .before .loop in
     let r = c .before .before .before .before .before .before .before .delimiter-from in
     let g = gone-run (l .inv) (r .result) _ _ (r .ensures) (c .before .before .before .before .before .copy-part .ensures) in
-    omega (arith, gone-room g (c .before .before .before .before .before .before .before .before .before .before .before .before .pre .1) (omega (arith, g .inside, c .before .before .if1 .left)))
+    omega (arith, gone-fits g (c .before .before .before .before .before .before .before .before .before .before .before .before .pre .1) (omega (arith, g .inside, c .before .before .if1 .left)))
 
 loop-less : tie.Need-loop-less Inv-loop μ-loop
 loop-less c =
@@ -140,7 +140,7 @@ buffer-runs-spec =
     same-length-2
     returns-2
     add-p-2
-    slice-write-room
+    slice-write-buffer
     add-n
     loop-less
     loop-again

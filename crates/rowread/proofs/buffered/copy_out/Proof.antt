@@ -39,7 +39,7 @@ returns-4 : tie.Need-returns-4
 returns-4 c =
     let a = c .before .before .before .before .before .before .before .before .before .before .before .before .before .before .before .before .before .args in
     let g = c .before .before .before .before .before .before .before .before .before .before .before .found .given in
-    (g .1, c .before .before .before .before .before .before .before .before .before .if1 .left, c .before .before .before .before .before .before .before .before .if2 .left, c .before .before .before .before .before .before .copy-part .ensures .1 ∙ rw (front-part (a .room .now) (g .0 .1 .0)), c .before .before .copy-ends .ensures)
+    (g .1, c .before .before .before .before .before .before .before .before .before .if1 .left, c .before .before .before .before .before .before .before .before .if2 .left, c .before .before .before .before .before .before .copy-part .ensures .1 ∙ rw (front-part (a .buffer .now) (g .0 .1 .0)), c .before .before .copy-ends .ensures)
 
 pub copy-out-spec : {M : Type 1} → statement M
 copy-out-spec =

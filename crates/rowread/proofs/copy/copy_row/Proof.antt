@@ -7,7 +7,7 @@ use lib.ListN.{length, drop, length-set}
 use lib.Seq.{length-sets}
 use Rattle.csv.specs.Read.{fieldAt}
 use Rattle.rowread.specs.Steps.{valueOf}
-use Rattle.rowread.proofs.Copies.{Left, left-all, left-next, left-none, here, here-got, here-room, here-place}
+use Rattle.rowread.proofs.Copies.{Left, left-all, left-next, left-none, here, here-got, here-fits, here-place}
 use Rattle.rowread.proofs.copy.copy_row.Statement.{statement}
 use Rattle.rowread.proofs.copy.copy_row.Tie as tie
 
@@ -28,7 +28,7 @@ copy-field-requires c κs =
     let a = c .before .before .before .before .before .before .args in
     let l = c .before .before .loop in
     let h : l .k < a .width = c .before .loop-test .taken in
-    (here (l .inv .1) h .start, here-got (l .inv .1) h, here-room (l .inv .1) h)
+    (here (l .inv .1) h .start, here-got (l .inv .1) h, here-fits (l .inv .1) h)
 
 add-from : tie.Need-add-from Inv-loop μ-loop
 add-from c =

@@ -12,7 +12,7 @@ use Rattle.writer.specs.declared.Answer.the-variants.{Refused}
 use Rattle.lower.specs.Lower.{started, begun}
 use Rattle.run.specs.Run.{ranWriter, ranRegion}
 use Rattle.run.specs.Appends.{appends}
-use Rattle.upper.proofs.Laws.{key-not, key-fit, key-room, key-there, begin-argument, begin-identity, begin-done}
+use Rattle.upper.proofs.Laws.{key-not, key-fit, key-inside, key-there, begin-argument, begin-identity, begin-done}
 use borrow.Author.Needs.{needs}
 use Rattle.upper.proofs.begin.begin_in.Statement.{statement}
 use Rattle.upper.proofs.begin.begin_in.Tie as tie
@@ -75,7 +75,7 @@ run-begin-requires c κs =
     let s = r .before .before .before .before .before .before .before in
     let y = s .args in
     let n = c .before .before .before .before .before .before .a .given in
-    key-room (y .texts .now) (y .lengths .now) (replicate 2257 0) (r .key .last .1 .1 .1 .0) (r .key .result) (length-replicate {A = ℕ} 2257 0) (r .key .ensures .0) (r .key .ensures .1) (n .0 .0) (n .1)
+    key-inside (y .texts .now) (y .lengths .now) (replicate 2257 0) (r .key .last .1 .1 .1 .0) (r .key .result) (length-replicate {A = ℕ} 2257 0) (r .key .ensures .0) (r .key .ensures .1) (n .0 .0) (n .1)
 
 did-requires : tie.Need-did-requires
 did-requires c κs = search needs

@@ -4,9 +4,9 @@ use Prim.Native.Nat.{_+_}
 use native.Mathlib.Omega.{arith}
 use lib.Dec.{leb}
 use borrow.Author.Tests.{lt-leb, leb-true}
-use Rattle.leaf.proofs.Steps.{room-by}
-use Rattle.leaf.proofs.bytes.room.Statement.{statement}
-use Rattle.leaf.proofs.bytes.room.Tie as tie
+use Rattle.leaf.proofs.Steps.{fits-at-by}
+use Rattle.leaf.proofs.bytes.fits_at.Statement.{statement}
+use Rattle.leaf.proofs.bytes.fits_at.Tie as tie
 
 returns : tie.Need-returns
 returns c =
@@ -17,8 +17,8 @@ returns c =
 returns-2 : tie.Need-returns-2
 returns-2 c =
     let a = c .before .args in
-    let e = room-by (a .i) (a .n) (a .len) (c .if1 .left) (leb (a .i + a .n) (a .len)) refl in
+    let e = fits-at-by (a .i) (a .n) (a .len) (c .if1 .left) (leb (a .i + a .n) (a .len)) refl in
     (e, λ t. leb-true (a .i + a .n) (a .len) (sym e ∙ t))
 
-pub room-spec : {M : Type 1} → statement M
-room-spec = tie.close (tie.spec returns returns-2)
+pub fits-at-spec : {M : Type 1} → statement M
+fits-at-spec = tie.close (tie.spec returns returns-2)
