@@ -26,10 +26,10 @@ take-min n l = go (decLt n (length l))
     go (yes h) = let e : min n (length l) ≡ n = omega arith in rw e
     go (no h) = take-all (min n (length l)) l (omega arith) ∙ sym (take-all n l (omega arith))
 
-pub part-is : (table : List ℕ) (place end : ℕ) → place ≤ length table → end ≡ place + min maxRow (length table - place) → take (end - place) (drop place table) ≡ partAt table place
-part-is table place end h e =
-    let n : end - place ≡ min maxRow (length (drop place table)) = omega (arith, length-drop place table) in
-    rw n (take-min maxRow (drop place table))
+pub part-is : (table : List ℕ) (offset end : ℕ) → offset ≤ length table → end ≡ offset + min maxRow (length table - offset) → take (end - offset) (drop offset table) ≡ partAt table offset
+part-is table offset end h e =
+    let n : end - offset ≡ min maxRow (length (drop offset table)) = omega (arith, length-drop offset table) in
+    rw n (take-min maxRow (drop offset table))
 
 pub length-ends : (from : ℕ) (vs : List (List ℕ)) → length (endsOf from vs) ≡ length vs
 unfolding endsOf
@@ -45,67 +45,67 @@ scan-inside width t next size q = go (Csv.values width t) q
     go (Csv.row vs r) i = let a : next ≡ length t - length r = cc in omega arith
 
 -- what the call promises: the answer, and both outputs
-pub record Answers (table : List ℕ) (width place : ℕ) (out ends : List ℕ) (r : ReadAnswer) (o e : List ℕ) : Type 0 where
-  pub is : r ≡ readAnswer table width place (length out) (length ends)
-  pub bytes : o ≡ after r (joined (valuesAt table width place)) out
-  pub marks : e ≡ after r (endsOf 0 (valuesAt table width place)) ends
+pub record Answers (table : List ℕ) (width offset : ℕ) (out ends : List ℕ) (r : ReadAnswer) (o e : List ℕ) : Type 0 where
+  pub is : r ≡ readAnswer table width offset (length out) (length ends)
+  pub bytes : o ≡ after r (joined (valuesAt table width offset)) out
+  pub marks : e ≡ after r (endsOf 0 (valuesAt table width offset)) ends
 
 -- outputs that nothing was written to yet
-pub since : {table : List ℕ} {width place : ℕ} {out ends o s p q : List ℕ} {r : ReadAnswer} → o ≡ out → s ≡ ends → Answers table width place o s r p q → Answers table width place out ends r p q
+pub since : {table : List ℕ} {width offset : ℕ} {out ends o s p q : List ℕ} {r : ReadAnswer} → o ≡ out → s ≡ ends → Answers table width offset o s r p q → Answers table width offset out ends r p q
 since e f a = rw (e, f) at a
 
-module _ (table : List ℕ) (width place : ℕ) (out ends : List ℕ) where
-  pub read-past : length table < place → Answers table width place out ends (Refused Row) out ends
+module _ (table : List ℕ) (width offset : ℕ) (out ends : List ℕ) where
+  pub read-past : length table < offset → Answers table width offset out ends (Refused Row) out ends
   unfolding readAnswer
-  read-past h = record { is = rw (lt-leb place (length table) h); bytes = refl; marks = refl }
+  read-past h = record { is = rw (lt-leb offset (length table) h); bytes = refl; marks = refl }
 
-  pub read-end : place ≤ length table → place ≡ length table → Answers table width place out ends End out ends
+  pub read-end : offset ≤ length table → offset ≡ length table → Answers table width offset out ends End out ends
   unfolding readAnswer
-  read-end h e = record { is = rw (le-leb place (length table) h, eq-eqb place (length table) e); bytes = refl; marks = refl }
+  read-end h e = record { is = rw (le-leb offset (length table) h, eq-eqb offset (length table) e); bytes = refl; marks = refl }
 
-  module _ (h : place ≤ length table) (e : place ≡ length table → ⊥) where
-    inside : readAnswer table width place (length out) (length ends) ≡ found place (length (partAt table place)) (length out) (length ends) (rowAt table width place)
+  module _ (h : offset ≤ length table) (e : offset ≡ length table → ⊥) where
+    inside : readAnswer table width offset (length out) (length ends) ≡ found offset (length (partAt table offset)) (length out) (length ends) (rowAt table width offset)
     unfolding readAnswer
-    inside = rw (le-leb place (length table) h, ne-eqb place (length table) e)
+    inside = rw (le-leb offset (length table) h, ne-eqb offset (length table) e)
 
-    pub read-broken : Broken ≡ scanOf width (partAt table place) → Answers table width place out ends (Refused Row) out ends
+    pub read-broken : Broken ≡ scanOf width (partAt table offset) → Answers table width offset out ends (Refused Row) out ends
     unfolding scanOf
-    read-broken q = record { is = go (rowAt table width place) q ∙ sym inside; bytes = refl; marks = refl }
+    read-broken q = record { is = go (rowAt table width offset) q ∙ sym inside; bytes = refl; marks = refl }
       where
-        go : (g : Csv.Row) → Broken ≡ scanFrom (length (partAt table place)) 0 g → Refused Row ≡ found place (length (partAt table place)) (length out) (length ends) g
+        go : (g : Csv.Row) → Broken ≡ scanFrom (length (partAt table offset)) 0 g → Refused Row ≡ found offset (length (partAt table offset)) (length out) (length ends) g
         go Csv.malformed i = refl
         go (Csv.row vs r) i = absurd (let z : _≡_ {A = ℕ} 0 1 = cc in omega arith)
 
-    module _ (next size : ℕ) (q : Whole next size ≡ scanOf width (partAt table place)) where
+    module _ (next size : ℕ) (q : Whole next size ≡ scanOf width (partAt table offset)) where
       pub record Read : Type 0 where
         pub values : List (List ℕ)
         pub rest : List ℕ
-        pub is : rowAt table width place ≡ Csv.row values rest
-        pub to : next ≡ length (partAt table place) - length rest
+        pub is : rowAt table width offset ≡ Csv.row values rest
+        pub to : next ≡ length (partAt table offset) - length rest
         pub bytes : size ≡ length (joined values)
         pub many : length values ≡ width
 
       pub the-row : Read
       unfolding scanOf
-      the-row = go (rowAt table width place) refl q
+      the-row = go (rowAt table width offset) refl q
         where
-          go : (g : Csv.Row) → rowAt table width place ≡ g → Whole next size ≡ scanFrom (length (partAt table place)) 0 g → Read
+          go : (g : Csv.Row) → rowAt table width offset ≡ g → Whole next size ≡ scanFrom (length (partAt table offset)) 0 g → Read
           go Csv.malformed d i = absurd (let z : _≡_ {A = ℕ} 0 1 = cc in omega arith)
           go (Csv.row vs r) d i =
-              let a : next ≡ length (partAt table place) - length r = cc in
+              let a : next ≡ length (partAt table offset) - length r = cc in
               let b : size ≡ 0 + length (joined vs) = cc in
-              record { values = vs; rest = r; is = d; to = a; bytes = omega arith; many = sound width (partAt table place) vs r d .1 }
+              record { values = vs; rest = r; is = d; to = a; bytes = omega arith; many = sound width (partAt table offset) vs r d .1 }
 
-      pub is-row : IsRow (rowAt table width place)
+      pub is-row : IsRow (rowAt table width offset)
       is-row = rw (the-row .is) tt
 
-      pub row-bytes : length (joined (valuesAt table width place)) ≡ size
+      pub row-bytes : length (joined (valuesAt table width offset)) ≡ size
       row-bytes = rw (the-row .is) (sym (the-row .bytes))
 
-      here : readAnswer table width place (length out) (length ends) ≡ found place (length (partAt table place)) (length out) (length ends) (Csv.row (the-row .values) (the-row .rest))
+      here : readAnswer table width offset (length out) (length ends) ≡ found offset (length (partAt table offset)) (length out) (length ends) (Csv.row (the-row .values) (the-row .rest))
       here = inside ∙ rw (the-row .is)
 
-      pub read-short : length out < size → Answers table width place out ends (Refused Small) out ends
+      pub read-short : length out < size → Answers table width offset out ends (Refused Small) out ends
       read-short l =
           let k : length out < length (joined (the-row .values)) = omega (arith, the-row .bytes) in
           record { is = sym (here ∙ rw (lt-leb (length (joined (the-row .values))) (length out) k)); bytes = refl; marks = refl }
@@ -114,30 +114,30 @@ module _ (table : List ℕ) (width place : ℕ) (out ends : List ℕ) where
         fits : length (joined (the-row .values)) ≤ length out
         fits = omega (arith, the-row .bytes)
 
-        pub read-few : length ends < width → Answers table width place out ends (Refused Small) out ends
+        pub read-few : length ends < width → Answers table width offset out ends (Refused Small) out ends
         read-few m =
             let k : length ends < length (the-row .values) = omega (arith, the-row .many) in
             record { is = sym (here ∙ rw (le-leb (length (joined (the-row .values))) (length out) fits, lt-leb (length (the-row .values)) (length ends) k)); bytes = refl; marks = refl }
 
-        pub read-whole : width ≤ length ends → (o s : List ℕ) → o ≡ sets out 0 (joined (valuesAt table width place)) → s ≡ sets ends 0 (endsOf 0 (valuesAt table width place))
-            → Answers table width place out ends (Stored (place + next) size) o s
+        pub read-whole : width ≤ length ends → (o s : List ℕ) → o ≡ sets out 0 (joined (valuesAt table width offset)) → s ≡ sets ends 0 (endsOf 0 (valuesAt table width offset))
+            → Answers table width offset out ends (Stored (offset + next) size) o s
         read-whole m o s p w =
             let k : length (the-row .values) ≤ length ends = omega (arith, the-row .many) in
-            let v : valuesAt table width place ≡ the-row .values = ap valuesOf (the-row .is) in
+            let v : valuesAt table width offset ≡ the-row .values = ap valuesOf (the-row .is) in
             let y = row-bytes in
-            let x : length (endsOf 0 (valuesAt table width place)) ≡ width = length-ends 0 (valuesAt table width place) ∙ ap length v ∙ the-row .many in
+            let x : length (endsOf 0 (valuesAt table width offset)) ≡ width = length-ends 0 (valuesAt table width offset) ∙ ap length v ∙ the-row .many in
             record {
               is = sym (here ∙ rw (le-leb (length (joined (the-row .values))) (length out) fits, le-leb (length (the-row .values)) (length ends) k, ← the-row .to, ← the-row .bytes));
-              bytes = p ∙ sym (written-sets out 0 (joined (valuesAt table width place)) (omega arith));
-              marks = w ∙ sym (written-sets ends 0 (endsOf 0 (valuesAt table width place)) (omega arith));
+              bytes = p ∙ sym (written-sets out 0 (joined (valuesAt table width offset)) (omega arith));
+              marks = w ∙ sym (written-sets ends 0 (endsOf 0 (valuesAt table width offset)) (omega arith));
             }
 
     -- by a fast path
-    pub read-quick : {o s : List ℕ} {next size : ℕ} → Holds (partAt table place) 0 0 0 width out ends o s next size → Answers table width place out ends (Stored (place + next) size) o s
+    pub read-quick : {o s : List ℕ} {next size : ℕ} → Holds (partAt table offset) 0 0 0 width out ends o s next size → Answers table width offset out ends (Stored (offset + next) size) o s
     unfolding scanOf
     read-quick {o} {s} {next} {size} x =
-        let t = partAt table place in
+        let t = partAt table offset in
         let m : length (x .values) ≡ width = omega (arith, x .many) in
-        let c : rowAt table width place ≡ Csv.row (x .values) (drop next t) = rw m at (complete (x .read)) in
+        let c : rowAt table width offset ≡ Csv.row (x .values) (drop next t) = rw m at (complete (x .read)) in
         let n : length t - length (drop next t) ≡ next = omega (arith, length-drop next t, x .inside) in
         read-whole next size (rw (c, n, x .sized)) (x .fits) (x .slots) o s (x .bytes ∙ rw c) (x .marks ∙ rw c)

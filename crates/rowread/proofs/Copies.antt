@@ -133,8 +133,8 @@ sets-done out n v e = rw e
 -- values that are in t from an offset on, one after the other
 pub data Fields (t : List ℕ) : ℕ → List (List ℕ) → Type 0 where
   none : {from : ℕ} → Fields t from []
-  one : {from place : ℕ} {v : List ℕ} {vs : List (List ℕ)} → from ≤ length t → place < length t → fieldAt (drop from t) ≡ got v (drop place t)
-      → Fields t (place + 1) vs → Fields t from (v ∷ vs)
+  one : {from offset : ℕ} {v : List ℕ} {vs : List (List ℕ)} → from ≤ length t → offset < length t → fieldAt (drop from t) ≡ got v (drop offset t)
+      → Fields t (offset + 1) vs → Fields t from (v ∷ vs)
 
 -- a rest that is not empty starts inside t
 starts : (t r : List ℕ) (b : ℕ) → b ∷ r ≡ drop (length t - length (b ∷ r)) t → length t - length (b ∷ r) < length t
@@ -156,22 +156,22 @@ fields-of t (more {v = v} {w = w} {cs = cs} {ws = ws} f g) from b h =
 pub record First (t : List ℕ) (from : ℕ) (ws : List (List ℕ)) : Type 0 where
   pub value : List ℕ
   pub others : List (List ℕ)
-  pub place : ℕ
+  pub offset : ℕ
   pub split : ws ≡ value ∷ others
   pub start : from ≤ length t
-  pub inside : place < length t
-  pub read : fieldAt (drop from t) ≡ got value (drop place t)
-  pub left : Fields t (place + 1) others
+  pub inside : offset < length t
+  pub read : fieldAt (drop from t) ≡ got value (drop offset t)
+  pub left : Fields t (offset + 1) others
 
 pub first-of : {t : List ℕ} {from : ℕ} {ws : List (List ℕ)} → Fields t from ws → 0 < length ws → First t from ws
 first-of none h = absurd (omega arith)
-first-of (one {place = place} {v = v} {vs = vs} s i r l) h = record { value = v; others = vs; place = place; split = refl; start = s; inside = i; read = r; left = l }
+first-of (one {offset = offset} {v = v} {vs = vs} s i r l) h = record { value = v; others = vs; offset = offset; split = refl; start = s; inside = i; read = r; left = l }
 
 pub is-got : (g : Got) (v r : List ℕ) → g ≡ got v r → g ≡ got (valueOf g) (restOf g)
 is-got g v r e = rw e
 
-pub place-of : (t : List ℕ) (g : Got) (v : List ℕ) (place : ℕ) → place < length t → g ≡ got v (drop place t) → length t - length (restOf g) ≡ place
-place-of t g v place h e = rw e (omega (arith, length-drop place t))
+pub place-of : (t : List ℕ) (g : Got) (v : List ℕ) (offset : ℕ) → offset < length t → g ≡ got v (drop offset t) → length t - length (restOf g) ≡ offset
+place-of t g v offset h e = rw e (omega (arith, length-drop offset t))
 
 -- what is left to copy: values from an offset on, after `to` bytes and k ends
 pub record Left (t out₀ ends₀ : List ℕ) (width : ℕ) (out ends : List ℕ) (from to k : ℕ) : Type 0 where
@@ -214,19 +214,19 @@ module _ {t out₀ ends₀ : List ℕ} {width : ℕ} {out ends : List ℕ} {from
     read-value = ap valueOf (here .read)
 
     pub here-got : fieldAt (drop from t) ≡ got (valueOf (fieldAt (drop from t))) (restOf (fieldAt (drop from t)))
-    here-got = is-got (fieldAt (drop from t)) (here .value) (drop (here .place) t) (here .read)
+    here-got = is-got (fieldAt (drop from t)) (here .value) (drop (here .offset) t) (here .read)
 
     pub here-fits : to + length (valueOf (fieldAt (drop from t))) ≤ length out
     here-fits = omega (arith, ap length read-value, l .fits, joined-split (l .values) (here .value) (here .others) (here .split))
 
-    pub here-place : length t - length (restOf (fieldAt (drop from t))) ≡ here .place
-    here-place = place-of t (fieldAt (drop from t)) (here .value) (here .place) (here .inside) (here .read)
+    pub here-place : length t - length (restOf (fieldAt (drop from t))) ≡ here .offset
+    here-place = place-of t (fieldAt (drop from t)) (here .value) (here .offset) (here .inside) (here .read)
 
-    pub left-next : (o : List ℕ) (place end : ℕ) → o ≡ sets out to (valueOf (fieldAt (drop from t))) → place ≡ length t - length (restOf (fieldAt (drop from t)))
-        → end ≡ to + length (valueOf (fieldAt (drop from t))) → length o ≡ length out → length (set ends k end) ≡ length ends → Left t out₀ ends₀ width o (set ends k end) (place + 1) end (k + 1)
-    left-next o place end e p q m n =
+    pub left-next : (o : List ℕ) (offset end : ℕ) → o ≡ sets out to (valueOf (fieldAt (drop from t))) → offset ≡ length t - length (restOf (fieldAt (drop from t)))
+        → end ≡ to + length (valueOf (fieldAt (drop from t))) → length o ≡ length out → length (set ends k end) ≡ length ends → Left t out₀ ends₀ width o (set ends k end) (offset + 1) end (k + 1)
+    left-next o offset end e p q m n =
         let f = here in
-        let z : place ≡ f .place = p ∙ here-place in
+        let z : offset ≡ f .offset = p ∙ here-place in
         let y : end ≡ to + length (f .value) = q ∙ rw read-value in
         let x : o ≡ sets out to (f .value) = e ∙ rw read-value in
         let w = joined-split (l .values) (f .value) (f .others) (f .split) in

@@ -72,8 +72,8 @@ at-the-end front width capacity slots =
     let e : length (front ++ []) ≡ length front = ap length (append-nil front) in
     rw (le-leb (length front) (length (front ++ [])) (omega arith), eq-eqb (length front) (length (front ++ [])) (sym e))
 
-moved : (t u : Text) (width capacity slots place next : ℕ) (rows : List (List Text)) → t ≡ u → place ≡ next → Reads t width capacity slots place rows → Reads u width capacity slots next rows
-moved t u width capacity slots place next rows e p r = rw (← e, ← p) r
+moved : (t u : Text) (width capacity slots offset next : ℕ) (rows : List (List Text)) → t ≡ u → offset ≡ next → Reads t width capacity slots offset rows → Reads u width capacity slots next rows
+moved t u width capacity slots offset next rows e p r = rw (← e, ← p) r
 
 reads-from : (width capacity slots : ℕ) (front : Text) (rows : List (List Text)) → AllFit width capacity slots rows → Reads (front ++ tableOf rows) width capacity slots (length front) rows
 unfolding tableOf
@@ -96,31 +96,31 @@ refused-not r next size e = absurd (let z : _≡_ {A = ℕ} 0 1 = cc in omega ar
 end-not : {A : Type 0} (next size : ℕ) → End ≡ Stored next size → A
 end-not next size e = absurd (let z : _≡_ {A = ℕ} 0 1 = cc in omega arith)
 
-module _ (table : Text) (width place capacity slots next size : ℕ) where
-  at-place : (vs : List Text) (r : Text) → rowAt table width place ≡ Csv.row vs r → next ≡ place + (length (partAt table place) - length r) → Record (drop place table) vs (drop next table)
+module _ (table : Text) (width offset capacity slots next size : ℕ) where
+  at-place : (vs : List Text) (r : Text) → rowAt table width offset ≡ Csv.row vs r → next ≡ offset + (length (partAt table offset) - length r) → Record (drop offset table) vs (drop next table)
   at-place vs r e n =
-      let q : Record (partAt table place) vs r = sound width (partAt table place) vs r e .0 in
+      let q : Record (partAt table offset) vs r = sound width (partAt table offset) vs r e .0 in
       let f = frame q in
-      let d : Text = drop maxRow (drop place table) in
-      let a : drop place table ≡ f .0 ++ (r ++ d) = sym (take-append-drop maxRow (drop place table)) ∙ ap (λ (l : Text). l ++ d) (f .1) ∙ append-assoc (f .0) r d in
-      let m : next ≡ place + length (f .0) = omega (arith, ap length (f .1), length-append (f .0) r) in
-      let b : drop next table ≡ r ++ d = rw m (sym (drop-drop (length (f .0)) place table) ∙ ap (drop (length (f .0))) a ∙ drop-append-seam (f .0) (r ++ d)) in
+      let d : Text = drop maxRow (drop offset table) in
+      let a : drop offset table ≡ f .0 ++ (r ++ d) = sym (take-append-drop maxRow (drop offset table)) ∙ ap (λ (l : Text). l ++ d) (f .1) ∙ append-assoc (f .0) r d in
+      let m : next ≡ offset + length (f .0) = omega (arith, ap length (f .1), length-append (f .0) r) in
+      let b : drop next table ≡ r ++ d = rw m (sym (drop-drop (length (f .0)) offset table) ∙ ap (drop (length (f .0))) a ∙ drop-append-seam (f .0) (r ++ d)) in
       rw (a, b) (f .2 (r ++ d))
 
-  in-found : (g : Csv.Row) → rowAt table width place ≡ g → found place (length (partAt table place)) capacity slots g ≡ Stored next size → Record (drop place table) (valuesOf g) (drop next table)
+  in-found : (g : Csv.Row) → rowAt table width offset ≡ g → found offset (length (partAt table offset)) capacity slots g ≡ Stored next size → Record (drop offset table) (valuesOf g) (drop next table)
   in-found Csv.malformed e q = refused-not Row next size q
   in-found (Csv.row vs r) e q = go (leb (length (joined vs)) capacity) (leb (length vs) slots) q
     where
-      go : (s t : Bool) → pick s (pick t (Stored (place + (length (partAt table place) - length r)) (length (joined vs))) (Refused Small)) (Refused Small) ≡ Stored next size → Record (drop place table) vs (drop next table)
-      go true true i = let n : next ≡ place + (length (partAt table place) - length r) = cc in at-place vs r e n
+      go : (s t : Bool) → pick s (pick t (Stored (offset + (length (partAt table offset) - length r)) (length (joined vs))) (Refused Small)) (Refused Small) ≡ Stored next size → Record (drop offset table) vs (drop next table)
+      go true true i = let n : next ≡ offset + (length (partAt table offset) - length r) = cc in at-place vs r e n
       go true false i = refused-not Small next size i
       go false t i = refused-not Small next size i
 
-  in-answer : (s t : Bool) → pick s (pick t End (found place (length (partAt table place)) capacity slots (rowAt table width place))) (Refused Row) ≡ Stored next size → Record (drop place table) (valuesAt table width place) (drop next table)
+  in-answer : (s t : Bool) → pick s (pick t End (found offset (length (partAt table offset)) capacity slots (rowAt table width offset))) (Refused Row) ≡ Stored next size → Record (drop offset table) (valuesAt table width offset) (drop next table)
   in-answer true true q = end-not next size q
-  in-answer true false q = in-found (rowAt table width place) refl q
+  in-answer true false q = in-found (rowAt table width offset) refl q
   in-answer false t q = refused-not Row next size q
 
 pub stored-is-a-row : StoredIsARow
 unfolding readAnswer
-stored-is-a-row table width place capacity slots next size e = in-answer table width place capacity slots next size (leb place (length table)) (eqb place (length table)) e
+stored-is-a-row table width offset capacity slots next size e = in-answer table width offset capacity slots next size (leb offset (length table)) (eqb offset (length table)) e

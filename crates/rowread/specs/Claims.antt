@@ -19,7 +19,7 @@ pub record Fits (width capacity slots : ℕ) (vs : List Text) : Type 0 where
   pub bytes : length (joined vs) ≤ capacity
   pub ends : width ≤ slots
 
--- a written row is read back, whatever bytes are before and after it: its values, and the place after it (reads-written)
+-- a written row is read back, whatever bytes are before and after it: its values, and the offset after it (reads-written)
 abbrev pub ReadsWritten : Type 0
 ReadsWritten = (before behind : Text) (vs : List Text) (width capacity slots : ℕ) → Fits width capacity slots vs
     → (readAnswer (before ++ (rowOf vs ++ behind)) width (length before) capacity slots ≡ Stored (length before + length (rowOf vs)) (length (joined vs)))
@@ -30,11 +30,11 @@ unfoldable pub tableOf : List (List Text) → Text
 tableOf [] = []
 tableOf (vs ∷ rows) = rowOf vs ++ tableOf rows
 
--- from a place on, rows are read one by one, each at the place that the read before it gave, up to the table's end
+-- from an offset on, rows are read one by one, each at the offset that the read before it gave, up to the table's end
 pub data Reads (table : Text) (width capacity slots : ℕ) : ℕ → List (List Text) → Type 0 where
-  atEnd : {place : ℕ} → readAnswer table width place capacity slots ≡ End → Reads table width capacity slots place []
-  onward : {place next size : ℕ} {vs : List Text} {rows : List (List Text)} → readAnswer table width place capacity slots ≡ Stored next size
-      → valuesAt table width place ≡ vs → Reads table width capacity slots next rows → Reads table width capacity slots place (vs ∷ rows)
+  atEnd : {offset : ℕ} → readAnswer table width offset capacity slots ≡ End → Reads table width capacity slots offset []
+  onward : {offset next size : ℕ} {vs : List Text} {rows : List (List Text)} → readAnswer table width offset capacity slots ≡ Stored next size
+      → valuesAt table width offset ≡ vs → Reads table width capacity slots next rows → Reads table width capacity slots offset (vs ∷ rows)
 
 abbrev pub AllFit : ℕ → ℕ → ℕ → List (List Text) → Type 0
 AllFit width capacity slots [] = Unit {0}
@@ -46,5 +46,5 @@ ReadsTable = (width capacity slots : ℕ) (rows : List (List Text)) → AllFit w
 
 -- what is read as a row is one by the grammar, which has one reading (stored-is-a-row; specs/Claims.antt of csv: oneReading)
 abbrev pub StoredIsARow : Type 0
-StoredIsARow = (table : Text) (width place capacity slots next size : ℕ) → readAnswer table width place capacity slots ≡ Stored next size
-    → Record (drop place table) (valuesAt table width place) (drop next table)
+StoredIsARow = (table : Text) (width offset capacity slots next size : ℕ) → readAnswer table width offset capacity slots ≡ Stored next size
+    → Record (drop offset table) (valuesAt table width offset) (drop next table)

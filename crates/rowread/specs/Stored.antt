@@ -1,4 +1,4 @@
--- The call that reads a stored row: a row of `width` values at a place of a table.
+-- The call that reads a stored row: a row of `width` values at an offset of a table.
 use Prim.Native.Nat.{ℕ, _+_, _-_}
 use lib.Dec.{eqb, leb}
 use mathlib.Core.List.{List, [], _∷_, _++_}
@@ -13,13 +13,13 @@ use Rattle.rowread.specs.declared.ReadAnswer.the-variants.{Stored, End, 
 
 -- ---- the row
 
--- the bytes that a row at a place may have: a row that goes on after them is too long, and has no LF among them
+-- the bytes that a row at an offset may have: a row that goes on after them is too long, and has no LF among them
 abbrev pub partAt : List ℕ → ℕ → List ℕ
-partAt table place = take maxRow (drop place table)
+partAt table offset = take maxRow (drop offset table)
 
--- the row of `width` values at a place
+-- the row of `width` values at an offset
 abbrev pub rowAt : List ℕ → ℕ → ℕ → Csv.Row
-rowAt table width place = Csv.values width (partAt table place)
+rowAt table width offset = Csv.values width (partAt table offset)
 
 -- the values of a row, none where there is no row
 abbrev pub valuesOf : Csv.Row → List (List ℕ)
@@ -27,7 +27,7 @@ valuesOf (Csv.row vs rest) = vs
 valuesOf Csv.malformed = []
 
 abbrev pub valuesAt : List ℕ → ℕ → ℕ → List (List ℕ)
-valuesAt table width place = valuesOf (rowAt table width place)
+valuesAt table width offset = valuesOf (rowAt table width offset)
 
 -- ---- the outputs
 
@@ -41,20 +41,20 @@ unfoldable pub endsOf : ℕ → List (List ℕ) → List ℕ
 endsOf from [] = []
 endsOf from (v ∷ vs) = (from + length v) ∷ endsOf (from + length v) vs
 
--- a row read within n bytes from a place on: 14 if it is malformed; then 9 if the values joined, or their ends, don't fit; else
--- the place after the row, and how many bytes the values have
+-- a row read within n bytes from an offset on: 14 if it is malformed; then 9 if the values joined, or their ends, don't fit; else
+-- the offset after the row, and how many bytes the values have
 abbrev pub found : ℕ → ℕ → ℕ → ℕ → Csv.Row → ReadAnswer
-found place n capacity slots Csv.malformed = Refused Row
-found place n capacity slots (Csv.row vs rest) =
+found offset n capacity slots Csv.malformed = Refused Row
+found offset n capacity slots (Csv.row vs rest) =
     pick (leb (length (joined vs)) capacity)
-    (pick (leb (length vs) slots) (Stored (place + (n - length rest)) (length (joined vs))) (Refused Small))
+    (pick (leb (length vs) slots) (Stored (offset + (n - length rest)) (length (joined vs))) (Refused Small))
     (Refused Small)
 
 -- the answer: 14 past the table's end; no row at its end; else what is found
 unfoldable pub readAnswer : List ℕ → ℕ → ℕ → ℕ → ℕ → ReadAnswer
-readAnswer table width place capacity slots =
-    pick (leb place (length table))
-    (pick (eqb place (length table)) End (found place (length (partAt table place)) capacity slots (rowAt table width place)))
+readAnswer table width offset capacity slots =
+    pick (leb offset (length table))
+    (pick (eqb offset (length table)) End (found offset (length (partAt table offset)) capacity slots (rowAt table width offset)))
     (Refused Row)
 
 -- a lent output after the call: if a row was read, `new` at its start and the rest unchanged; else all unchanged

@@ -47,28 +47,28 @@ pub enum ReadAnswer {
     Refused(Refusal),
 }
 
-// Reads the row of `width` values at a place of a table: its values, joined, to out, and where each ends to ends.
+// Reads the row of `width` values at an offset of a table: its values, joined, to out, and where each ends to ends.
 pub fn read_row(
     table: &[u8],
     width: usize,
-    place: usize,
+    offset: usize,
     out: &mut [u8],
     ends: &mut [usize],
 ) -> ReadAnswer
-    ensures { λ r. ⌜ (r ≡ readAnswer (now (table .entry)) width place (length (now (out .entry))) (length (now (ends .entry)))) × (now (out .exit) ≡ after r (joined (valuesAt (now (table .entry)) width place)) (now (out .entry))) × (now (ends .exit) ≡ after r (endsOf 0 (valuesAt (now (table .entry)) width place)) (now (ends .entry))) ⌝ }
+    ensures { λ r. ⌜ (r ≡ readAnswer (now (table .entry)) width offset (length (now (out .entry))) (length (now (ends .entry)))) × (now (out .exit) ≡ after r (joined (valuesAt (now (table .entry)) width offset)) (now (out .entry))) × (now (ends .exit) ≡ after r (endsOf 0 (valuesAt (now (table .entry)) width offset)) (now (ends .entry))) ⌝ }
 {
-    if table.len() < place {
+    if table.len() < offset {
         return ReadAnswer::Refused(Refusal::Row);
     }
-    if place == table.len() {
+    if offset == table.len() {
         return ReadAnswer::End;
     }
-    let end = end_within(table.len(), place, MAX_ROW);
-    let t = &table[place..end];
+    let end = end_within(table.len(), offset, MAX_ROW);
+    let t = &table[offset..end];
     let quick = fast_row(t, width, out, ends);
     if let Fast::Read { next, size } = quick {
         return ReadAnswer::Stored {
-            next: place + next,
+            next: offset + next,
             size,
         };
     }
@@ -84,7 +84,7 @@ pub fn read_row(
     }
     copy_row(t, width, out, ends);
     ReadAnswer::Stored {
-        next: place + next,
+        next: offset + next,
         size,
     }
 }

@@ -53,12 +53,12 @@ module _ (region : List ℕ) (n i : ℕ) where
   unfolding sourceAnswer
   there q = there-by (named region n) refl q
 
-  module _ (t place capacity slots : ℕ) where
-    pub no-region : leb t lastTable ≡ false → eqb (length region) regionSize ≡ false → Refused Region ≡ bankRowAnswer region n i t place capacity slots
+  module _ (t offset capacity slots : ℕ) where
+    pub no-region : leb t lastTable ≡ false → eqb (length region) regionSize ≡ false → Refused Region ≡ bankRowAnswer region n i t offset capacity slots
     unfolding bankRowAnswer namedIf
     no-region h e = rw (h, e)
 
-    pub no-table : leb t lastTable ≡ false → eqb (length region) regionSize ≡ true → Refused Argument ≡ bankRowAnswer region n i t place capacity slots
+    pub no-table : leb t lastTable ≡ false → eqb (length region) regionSize ≡ true → Refused Argument ≡ bankRowAnswer region n i t offset capacity slots
     unfolding bankRowAnswer namedIf
     no-table h e = rw (h, e)
 
@@ -67,41 +67,41 @@ module _ (region : List ℕ) (n i : ℕ) where
     named-too h v e = rw h e
 
     pub is-answer : (b : Bank) → leb t lastTable ≡ true → named region n ≡ Good b → ltb i (b .count) ≡ true
-        → readAnswer (tableIn region b i t) (columnCount t) place capacity slots ≡ bankRowAnswer region n i t place capacity slots
+        → readAnswer (tableIn region b i t) (columnCount t) offset capacity slots ≡ bankRowAnswer region n i t offset capacity slots
     unfolding bankRowAnswer
-    is-answer b h e l = sym (ap (thenRow region i t place capacity slots) (named-too h (Good b) e) ∙ rw l)
+    is-answer b h e l = sym (ap (thenRow region i t offset capacity slots) (named-too h (Good b) e) ∙ rw l)
 
-    pub is-values : (b : Bank) → leb t lastTable ≡ true → named region n ≡ Good b → valuesAt (tableIn region b i t) (columnCount t) place ≡ valuesIn region n i t place
+    pub is-values : (b : Bank) → leb t lastTable ≡ true → named region n ≡ Good b → valuesAt (tableIn region b i t) (columnCount t) offset ≡ valuesIn region n i t offset
     unfolding valuesIn
-    is-values b h e = sym (ap (thenValues region i t place) (named-too h (Good b) e))
+    is-values b h e = sym (ap (thenValues region i t offset) (named-too h (Good b) e))
 
-    pub refused : leb t lastTable ≡ true → (r : Refusal) → sourceAnswer region n i .outcome ≡ NoSource r → Refused r ≡ bankRowAnswer region n i t place capacity slots
+    pub refused : leb t lastTable ≡ true → (r : Refusal) → sourceAnswer region n i .outcome ≡ NoSource r → Refused r ≡ bankRowAnswer region n i t offset capacity slots
     unfolding sourceAnswer bankRowAnswer
     refused h r q = by (named region n) refl q
       where
-        by : (v : Validated) → named region n ≡ v → thenSource region i v .outcome ≡ NoSource r → Refused r ≡ thenRow region i t place capacity slots (namedIf (leb t lastTable) region n)
-        by (Bad x) e j = let k : x ≡ r = cc in sym (ap (thenRow region i t place capacity slots) (named-too h (Bad x) e) ∙ ap Refused k)
+        by : (v : Validated) → named region n ≡ v → thenSource region i v .outcome ≡ NoSource r → Refused r ≡ thenRow region i t offset capacity slots (namedIf (leb t lastTable) region n)
+        by (Bad x) e j = let k : x ≡ r = cc in sym (ap (thenRow region i t offset capacity slots) (named-too h (Bad x) e) ∙ ap Refused k)
         by (Good b) e j = go (ltb i (b .count)) refl j
           where
-            go : (s : Bool) → ltb i (b .count) ≡ s → thenSource region i (Good b) .outcome ≡ NoSource r → Refused r ≡ thenRow region i t place capacity slots (namedIf (leb t lastTable) region n)
+            go : (s : Bool) → ltb i (b .count) ≡ s → thenSource region i (Good b) .outcome ≡ NoSource r → Refused r ≡ thenRow region i t offset capacity slots (namedIf (leb t lastTable) region n)
             go true l m = absurd (let z : _≡_ {A = ℕ} 0 1 = cc in omega arith)
-            go false l m = let k : NoSuchSource ≡ r = cc in sym (ap (thenRow region i t place capacity slots) (named-too h (Good b) e) ∙ rw l (ap Refused k))
+            go false l m = let k : NoSuchSource ≡ r = cc in sym (ap (thenRow region i t offset capacity slots) (named-too h (Good b) e) ∙ rw l (ap Refused k))
 
 -- the table that is read is the one asked for
 its-table : (region : List ℕ) (n i t : ℕ) (s : There region n i) → bytesOf region n (getD (sourceAnswer region n i .source .tables) t noBlock) ≡ tableIn region (s .bank) i t
 its-table region n i t s = rw (s .is-source, its-number region n (s .bank) (s .is-named))
 
 -- if the source is there and the table's bytes are read, answer and values are those asked for
-pub record IsRow (region : List ℕ) (n i t place capacity slots : ℕ) (stored : List ℕ) (width : ℕ) : Type 0 where
-  pub answer : readAnswer stored width place capacity slots ≡ bankRowAnswer region n i t place capacity slots
-  pub values : valuesAt stored width place ≡ valuesIn region n i t place
+pub record IsRow (region : List ℕ) (n i t offset capacity slots : ℕ) (stored : List ℕ) (width : ℕ) : Type 0 where
+  pub answer : readAnswer stored width offset capacity slots ≡ bankRowAnswer region n i t offset capacity slots
+  pub values : valuesAt stored width offset ≡ valuesIn region n i t offset
 
-pub is-row : (region : List ℕ) (n i t place capacity slots : ℕ) (stored : List ℕ) (width : ℕ) → leb t lastTable ≡ true → sourceAnswer region n i .outcome ≡ Done
-    → stored ≡ bytesOf region n (getD (sourceAnswer region n i .source .tables) t noBlock) → width ≡ columnCount t → IsRow region n i t place capacity slots stored width
-is-row region n i t place capacity slots stored width h q e w =
+pub is-row : (region : List ℕ) (n i t offset capacity slots : ℕ) (stored : List ℕ) (width : ℕ) → leb t lastTable ≡ true → sourceAnswer region n i .outcome ≡ Done
+    → stored ≡ bytesOf region n (getD (sourceAnswer region n i .source .tables) t noBlock) → width ≡ columnCount t → IsRow region n i t offset capacity slots stored width
+is-row region n i t offset capacity slots stored width h q e w =
     let s = there region n i q in
     let k : stored ≡ tableIn region (s .bank) i t = e ∙ its-table region n i t s in
     record {
-      answer = (λ j. readAnswer (k j) (w j) place capacity slots) ∙ is-answer region n i t place capacity slots (s .bank) h (s .is-named) (s .below);
-      values = (λ j. valuesAt (k j) (w j) place) ∙ is-values region n i t place capacity slots (s .bank) h (s .is-named);
+      answer = (λ j. readAnswer (k j) (w j) offset capacity slots) ∙ is-answer region n i t offset capacity slots (s .bank) h (s .is-named) (s .below);
+      values = (λ j. valuesAt (k j) (w j) offset) ∙ is-values region n i t offset capacity slots (s .bank) h (s .is-named);
     }

@@ -22,10 +22,10 @@ Text = List ℕ
 
 module _ (region : Text) (n i t capacity slots : ℕ) (b : Bank) (e : named region n ≡ Good b) (l : ltb i (b .count) ≡ true) (h : leb t lastTable ≡ true) where
   -- what is read of the table's bytes is read of the bank
-  from-table : (place : ℕ) (rows : List (List Text)) → Reads (tableIn region b i t) (columnCount t) capacity slots place rows → BankReads region n i t capacity slots place rows
-  from-table place [] (endOfTable q) = atEnd (sym (is-answer region n i t place capacity slots b h e l) ∙ q)
-  from-table place (vs ∷ rows) (further {next = next} q v r) =
-      onward (sym (is-answer region n i t place capacity slots b h e l) ∙ q) (sym (is-values region n i t place capacity slots b h e) ∙ v) (from-table next rows r)
+  from-table : (offset : ℕ) (rows : List (List Text)) → Reads (tableIn region b i t) (columnCount t) capacity slots offset rows → BankReads region n i t capacity slots offset rows
+  from-table offset [] (endOfTable q) = atEnd (sym (is-answer region n i t offset capacity slots b h e l) ∙ q)
+  from-table offset (vs ∷ rows) (further {next = next} q v r) =
+      onward (sym (is-answer region n i t offset capacity slots b h e l) ∙ q) (sym (is-values region n i t offset capacity slots b h e) ∙ v) (from-table next rows r)
 
 -- a names line and rows are the table of these rows
 is-table : (t : ℕ) (rows : List (List Text)) → namesLine t ++ tableOf rows ≡ tableOf (columnsOf t ∷ rows)

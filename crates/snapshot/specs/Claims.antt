@@ -18,13 +18,13 @@ use Rattle.base.specs.Table.{lastTable}
 abbrev Text : Type 0
 Text = List ℕ
 
--- from a place on, rows of a table of a bank are read one by one, each at the place that the read before it gave, up to the table's end
+-- from an offset on, rows of a table of a bank are read one by one, each at the offset that the read before it gave, up to the table's end
 pub data BankReads (region : Text) (n i t capacity slots : ℕ) : ℕ → List (List Text) → Type 0 where
-  atEnd : {place : ℕ} → bankRowAnswer region n i t place capacity slots ≡ End → BankReads region n i t capacity slots place []
-  onward : {place next size : ℕ} {vs : List Text} {rows : List (List Text)} → bankRowAnswer region n i t place capacity slots ≡ Stored next size
-      → valuesIn region n i t place ≡ vs → BankReads region n i t capacity slots next rows → BankReads region n i t capacity slots place (vs ∷ rows)
+  atEnd : {offset : ℕ} → bankRowAnswer region n i t offset capacity slots ≡ End → BankReads region n i t capacity slots offset []
+  onward : {offset next size : ℕ} {vs : List Text} {rows : List (List Text)} → bankRowAnswer region n i t offset capacity slots ≡ Stored next size
+      → valuesIn region n i t offset ≡ vs → BankReads region n i t capacity slots next rows → BankReads region n i t capacity slots offset (vs ∷ rows)
 
--- if a table of a bank that passes 3 to 6 has the bytes that a writer gives it, a names line and rows, then the names are read at place 0,
+-- if a table of a bank that passes 3 to 6 has the bytes that a writer gives it, a names line and rows, then the names are read at offset 0,
 -- and after them row by row to the table's end (reads-bank)
 abbrev pub ReadsBank : Type 0
 ReadsBank = (region : Text) (n i t capacity slots : ℕ) (b : Bank) (rows : List (List Text)) → named region n ≡ Good b → i < b .count → t ≤ lastTable

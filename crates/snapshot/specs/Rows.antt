@@ -1,4 +1,4 @@
--- A row of a loaded bank: named by bank, source, table, and the place in the table where it starts.
+-- A row of a loaded bank: named by bank, source, table, and the offset in the table where it starts.
 use mathlib.Core.List.{List, []}
 use Prim.Native.Nat.{ℕ, _+_}
 use lib.Dec.{leb, ltb}
@@ -29,18 +29,18 @@ tableIn region b i t = bytesOf region (b .number) (getD (sourceIn region b i .ta
 
 -- 6 for a source at or past the count; then the answer of the reader: 14, 9, no row at the table's end, or the row
 abbrev pub thenRow : List ℕ → ℕ → ℕ → ℕ → ℕ → ℕ → Validated → ReadAnswer
-thenRow region i t place capacity slots (Good b) =
-    pick (ltb i (b .count)) (readAnswer (tableIn region b i t) (columnCount t) place capacity slots) (Refused NoSuchSource)
-thenRow region i t place capacity slots (Bad r) = Refused r
+thenRow region i t offset capacity slots (Good b) =
+    pick (ltb i (b .count)) (readAnswer (tableIn region b i t) (columnCount t) offset capacity slots) (Refused NoSuchSource)
+thenRow region i t offset capacity slots (Bad r) = Refused r
 
 -- 1, 2 (bank and table), 3 to 6, 6 at or past the count, 14, 9
 unfoldable pub bankRowAnswer : List ℕ → ℕ → ℕ → ℕ → ℕ → ℕ → ℕ → ReadAnswer
-bankRowAnswer region n i t place capacity slots = thenRow region i t place capacity slots (namedIf (leb t lastTable) region n)
+bankRowAnswer region n i t offset capacity slots = thenRow region i t offset capacity slots (namedIf (leb t lastTable) region n)
 
--- the values of the row at a place; the outputs get them only if the answer is `Stored`
+-- the values of the row at an offset; the outputs get them only if the answer is `Stored`
 abbrev pub thenValues : List ℕ → ℕ → ℕ → ℕ → Validated → List (List ℕ)
-thenValues region i t place (Good b) = valuesAt (tableIn region b i t) (columnCount t) place
-thenValues region i t place (Bad r) = []
+thenValues region i t offset (Good b) = valuesAt (tableIn region b i t) (columnCount t) offset
+thenValues region i t offset (Bad r) = []
 
 unfoldable pub valuesIn : List ℕ → ℕ → ℕ → ℕ → ℕ → List (List ℕ)
-valuesIn region n i t place = thenValues region i t place (namedIf (leb t lastTable) region n)
+valuesIn region n i t offset = thenValues region i t offset (namedIf (leb t lastTable) region n)

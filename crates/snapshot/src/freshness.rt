@@ -153,12 +153,12 @@ fn updated_in(l: &[u8], version: u32, n: usize, days: Days, at: i64) -> i64
         oldest: 0,
     };
     let mut x = Seen { times, days };
-    let mut place = RECORDS_OFFSET;
+    let mut offset = RECORDS_OFFSET;
     let mut i = 0;
     while i < n {
-        let s = record_at(l, version, place);
+        let s = record_at(l, version, offset);
         x = see(at, x, s);
-        place += size;
+        offset += size;
         i += 1;
     }
     updated_of(x.times)

@@ -38,17 +38,17 @@ fn bytes_of(region: &[u8], number: u32, b: Block) -> &[u8]
     part(l, at, b.length as usize)
 }
 
-// Reads the row at a place of a table of a bank's source: its values, joined, to out, and where each ends to ends.
+// Reads the row at an offset of a table of a bank's source: its values, joined, to out, and where each ends to ends.
 pub fn bank_row(
     region: &[u8],
     number: u32,
     source: u32,
     table: u32,
-    place: usize,
+    offset: usize,
     out: &mut [u8],
     ends: &mut [usize],
 ) -> ReadAnswer
-    ensures { λ r. ⌜ (r ≡ bankRowAnswer (now (region .entry)) number source table place (length (now (out .entry))) (length (now (ends .entry)))) × (now (out .exit) ≡ after r (joined (valuesIn (now (region .entry)) number source table place)) (now (out .entry))) × (now (ends .exit) ≡ after r (endsOf 0 (valuesIn (now (region .entry)) number source table place)) (now (ends .entry))) ⌝ }
+    ensures { λ r. ⌜ (r ≡ bankRowAnswer (now (region .entry)) number source table offset (length (now (out .entry))) (length (now (ends .entry)))) × (now (out .exit) ≡ after r (joined (valuesIn (now (region .entry)) number source table offset)) (now (out .entry))) × (now (ends .exit) ≡ after r (endsOf 0 (valuesIn (now (region .entry)) number source table offset)) (now (ends .entry))) ⌝ }
 {
     if LAST_TABLE < table {
         if region.len() != REGION_SIZE {
@@ -64,7 +64,7 @@ pub fn bank_row(
             let b = block_of(s, table);
             let stored = bytes_of(region, number, b);
             let width = column_count(table);
-            read_row(stored, width, place, out, ends)
+            read_row(stored, width, offset, out, ends)
         }
         Outcome::Refused(r) => ReadAnswer::Refused(r),
     }

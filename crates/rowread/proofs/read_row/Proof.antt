@@ -15,13 +15,13 @@ use Rattle.rowread.proofs.read_row.Tie as tie
 returns : tie.Need-returns
 returns c =
     let a = c .before .before .before .before .args in
-    let r = read-past (a .table .now) (a .width) (a .place) (a .out .now) (a .ends .now) (c .if1 .taken) in
+    let r = read-past (a .table .now) (a .width) (a .offset) (a .out .now) (a .ends .now) (c .if1 .taken) in
     (r .is, r .bytes, r .marks)
 
 returns-2 : tie.Need-returns-2
 returns-2 c =
     let a = c .before .before .before .before .before .args in
-    let r = read-end (a .table .now) (a .width) (a .place) (a .out .now) (a .ends .now) (c .before .if1 .left) (c .if2 .taken) in
+    let r = read-end (a .table .now) (a .width) (a .offset) (a .out .now) (a .ends .now) (c .before .if1 .left) (c .if2 .taken) in
     (r .is, r .bytes, r .marks)
 
 end-within-requires : tie.Need-end-within-requires
@@ -48,7 +48,7 @@ add-t23 c =
     let r = c .before .before .before .before .before .before .before .before .before .before .before .end-within in
     let g = c .before .quick .given in
     let x = rw (g .1) at (c .before .before .before .before .before .before .before .fast-row .ensures) in
-    omega (arith, x .inside, length-take (r .result - a .place) (drop (a .place) (a .table .now)), r .ensures)
+    omega (arith, x .inside, length-take (r .result - a .offset) (drop (a .offset) (a .table .now)), r .ensures)
 
 same-length : tie.Need-same-length
 same-length c = search needs
@@ -60,13 +60,13 @@ returns-3 : tie.Need-returns-3
 returns-3 c =
     let s = c .before .before .before .before .before .before .before .before .before .before .before .before .before .before .before .before .before in
     let a = s .args in
-    let h : a .place ≤ length (a .table .now) = c .before .before .before .before .before .before .before .before .before .before .before .before .before .if1 .left in
-    let n : a .place ≡ length (a .table .now) → ⊥ = c .before .before .before .before .before .before .before .before .before .before .before .before .if2 .left in
+    let h : a .offset ≤ length (a .table .now) = c .before .before .before .before .before .before .before .before .before .before .before .before .before .if1 .left in
+    let n : a .offset ≡ length (a .table .now) → ⊥ = c .before .before .before .before .before .before .before .before .before .before .before .before .if2 .left in
     let r = c .before .before .before .before .before .before .before .before .before .before .before .end-within in
-    let e = part-is (a .table .now) (a .place) (r .result) h (r .ensures) in
+    let e = part-is (a .table .now) (a .offset) (r .result) h (r .ensures) in
     let g = c .before .quick .given in
     let x = rw e at (rw (g .1) at (c .before .before .before .before .before .before .before .fast-row .ensures)) in
-    let w = read-quick (a .table .now) (a .width) (a .place) (a .out .now) (a .ends .now) h n x in
+    let w = read-quick (a .table .now) (a .width) (a .offset) (a .out .now) (a .ends .now) h n x in
     (w .is, w .bytes, w .marks)
 
 enum-told : tie.Need-enum-told
@@ -91,12 +91,12 @@ returns-4 : tie.Need-returns-4
 returns-4 c =
     let s = c .before .before .before .before .before .before .before .before .before .before .before .before .before .before .before .before .before .before .before in
     let a = s .args in
-    let h : a .place ≤ length (a .table .now) = c .before .before .before .before .before .before .before .before .before .before .before .before .before .before .before .if1 .left in
-    let n : a .place ≡ length (a .table .now) → ⊥ = c .before .before .before .before .before .before .before .before .before .before .before .before .before .before .if2 .left in
+    let h : a .offset ≤ length (a .table .now) = c .before .before .before .before .before .before .before .before .before .before .before .before .before .before .before .if1 .left in
+    let n : a .offset ≡ length (a .table .now) → ⊥ = c .before .before .before .before .before .before .before .before .before .before .before .before .before .before .if2 .left in
     let r = c .before .before .before .before .before .before .before .before .before .before .before .before .before .end-within in
-    let e = part-is (a .table .now) (a .place) (r .result) h (r .ensures) in
+    let e = part-is (a .table .now) (a .offset) (r .result) h (r .ensures) in
     let k = rw (c .before .before .before .enum-told .given .1) at (c .before .before .before .before .before .before .before .before .before .fast-row .ensures) in
-    let w = since (k .0) (k .1) (read-broken (a .table .now) (a .width) (a .place) _ _ h n (sym (c .enum-told2 .given .1) ∙ c .before .before .scan-row .ensures ∙ ap (scanOf (a .width)) e)) in
+    let w = since (k .0) (k .1) (read-broken (a .table .now) (a .width) (a .offset) _ _ h n (sym (c .enum-told2 .given .1) ∙ c .before .before .scan-row .ensures ∙ ap (scanOf (a .width)) e)) in
     (w .is, w .bytes, w .marks)
 
 same-length-5 : tie.Need-same-length-5
@@ -109,14 +109,14 @@ returns-5 : tie.Need-returns-5
 returns-5 c =
     let s = c .before .before .before .before .before .before .before .before .before .before .before .before .before .before .before .before .before .before .before .before .before in
     let a = s .args in
-    let h : a .place ≤ length (a .table .now) = c .before .before .before .before .before .before .before .before .before .before .before .before .before .before .before .before .before .if1 .left in
-    let n : a .place ≡ length (a .table .now) → ⊥ = c .before .before .before .before .before .before .before .before .before .before .before .before .before .before .before .before .if2 .left in
+    let h : a .offset ≤ length (a .table .now) = c .before .before .before .before .before .before .before .before .before .before .before .before .before .before .before .before .before .if1 .left in
+    let n : a .offset ≡ length (a .table .now) → ⊥ = c .before .before .before .before .before .before .before .before .before .before .before .before .before .before .before .before .if2 .left in
     let r = c .before .before .before .before .before .before .before .before .before .before .before .before .before .before .before .end-within in
-    let e = part-is (a .table .now) (a .place) (r .result) h (r .ensures) in
+    let e = part-is (a .table .now) (a .offset) (r .result) h (r .ensures) in
     let k = rw (c .before .before .before .before .before .enum-told .given .1) at (c .before .before .before .before .before .before .before .before .before .before .before .fast-row .ensures) in
     let g = c .before .before .scan .given in
-    let q : Whole (g .0 .0) (g .0 .1 .0) ≡ scanOf (a .width) (partAt (a .table .now) (a .place)) = sym (g .1) ∙ c .before .before .before .before .scan-row .ensures ∙ ap (scanOf (a .width)) e in
-    let w = since (k .0) (k .1) (read-short (a .table .now) (a .width) (a .place) _ _ h n (g .0 .0) (g .0 .1 .0) q (c .if3 .taken)) in
+    let q : Whole (g .0 .0) (g .0 .1 .0) ≡ scanOf (a .width) (partAt (a .table .now) (a .offset)) = sym (g .1) ∙ c .before .before .before .before .scan-row .ensures ∙ ap (scanOf (a .width)) e in
+    let w = since (k .0) (k .1) (read-short (a .table .now) (a .width) (a .offset) _ _ h n (g .0 .0) (g .0 .1 .0) q (c .if3 .taken)) in
     (w .is, w .bytes, w .marks)
 
 same-length-7 : tie.Need-same-length-7
@@ -129,29 +129,29 @@ returns-6 : tie.Need-returns-6
 returns-6 c =
     let s = c .before .before .before .before .before .before .before .before .before .before .before .before .before .before .before .before .before .before .before .before .before .before in
     let a = s .args in
-    let h : a .place ≤ length (a .table .now) = c .before .before .before .before .before .before .before .before .before .before .before .before .before .before .before .before .before .before .if1 .left in
-    let n : a .place ≡ length (a .table .now) → ⊥ = c .before .before .before .before .before .before .before .before .before .before .before .before .before .before .before .before .before .if2 .left in
+    let h : a .offset ≤ length (a .table .now) = c .before .before .before .before .before .before .before .before .before .before .before .before .before .before .before .before .before .before .if1 .left in
+    let n : a .offset ≡ length (a .table .now) → ⊥ = c .before .before .before .before .before .before .before .before .before .before .before .before .before .before .before .before .before .if2 .left in
     let r = c .before .before .before .before .before .before .before .before .before .before .before .before .before .before .before .before .end-within in
-    let e = part-is (a .table .now) (a .place) (r .result) h (r .ensures) in
+    let e = part-is (a .table .now) (a .offset) (r .result) h (r .ensures) in
     let k = rw (c .before .before .before .before .before .before .enum-told .given .1) at (c .before .before .before .before .before .before .before .before .before .before .before .before .fast-row .ensures) in
     let g = c .before .before .before .scan .given in
-    let q : Whole (g .0 .0) (g .0 .1 .0) ≡ scanOf (a .width) (partAt (a .table .now) (a .place)) = sym (g .1) ∙ c .before .before .before .before .before .scan-row .ensures ∙ ap (scanOf (a .width)) e in
-    let w = since (k .0) (k .1) (read-few (a .table .now) (a .width) (a .place) _ _ h n (g .0 .0) (g .0 .1 .0) q (c .before .if3 .left) (c .if4 .taken)) in
+    let q : Whole (g .0 .0) (g .0 .1 .0) ≡ scanOf (a .width) (partAt (a .table .now) (a .offset)) = sym (g .1) ∙ c .before .before .before .before .before .scan-row .ensures ∙ ap (scanOf (a .width)) e in
+    let w = since (k .0) (k .1) (read-few (a .table .now) (a .width) (a .offset) _ _ h n (g .0 .0) (g .0 .1 .0) q (c .before .if3 .left) (c .if4 .taken)) in
     (w .is, w .bytes, w .marks)
 
 copy-row-requires : tie.Need-copy-row-requires
 copy-row-requires c κs =
     let s = c .before .before .before .before .before .before .before .before .before .before .before .before .before .before .before .before .before .before .before .before .before .before .before .before in
     let a = s .args in
-    let h : a .place ≤ length (a .table .now) = c .before .before .before .before .before .before .before .before .before .before .before .before .before .before .before .before .before .before .before .before .if1 .left in
-    let n : a .place ≡ length (a .table .now) → ⊥ = c .before .before .before .before .before .before .before .before .before .before .before .before .before .before .before .before .before .before .before .if2 .left in
+    let h : a .offset ≤ length (a .table .now) = c .before .before .before .before .before .before .before .before .before .before .before .before .before .before .before .before .before .before .before .before .if1 .left in
+    let n : a .offset ≡ length (a .table .now) → ⊥ = c .before .before .before .before .before .before .before .before .before .before .before .before .before .before .before .before .before .before .before .if2 .left in
     let r = c .before .before .before .before .before .before .before .before .before .before .before .before .before .before .before .before .before .before .end-within in
-    let e = part-is (a .table .now) (a .place) (r .result) h (r .ensures) in
+    let e = part-is (a .table .now) (a .offset) (r .result) h (r .ensures) in
     let k = rw (c .before .before .before .before .before .before .before .before .enum-told .given .1) at (c .before .before .before .before .before .before .before .before .before .before .before .before .before .before .fast-row .ensures) in
     let g = c .before .before .before .before .before .scan .given in
-    let q : Whole (g .0 .0) (g .0 .1 .0) ≡ scanOf (a .width) (partAt (a .table .now) (a .place)) = sym (g .1) ∙ c .before .before .before .before .before .before .before .scan-row .ensures ∙ ap (scanOf (a .width)) e in
-    let y = row-bytes (a .table .now) (a .width) (a .place) (a .out .now) (a .ends .now) h n (g .0 .0) (g .0 .1 .0) q in
-    rw e (is-row (a .table .now) (a .width) (a .place) (a .out .now) (a .ends .now) h n (g .0 .0) (g .0 .1 .0) q, omega (arith, y, c .before .before .before .if3 .left), c .before .before .if4 .left)
+    let q : Whole (g .0 .0) (g .0 .1 .0) ≡ scanOf (a .width) (partAt (a .table .now) (a .offset)) = sym (g .1) ∙ c .before .before .before .before .before .before .before .scan-row .ensures ∙ ap (scanOf (a .width)) e in
+    let y = row-bytes (a .table .now) (a .width) (a .offset) (a .out .now) (a .ends .now) h n (g .0 .0) (g .0 .1 .0) q in
+    rw e (is-row (a .table .now) (a .width) (a .offset) (a .out .now) (a .ends .now) h n (g .0 .0) (g .0 .1 .0) q, omega (arith, y, c .before .before .before .if3 .left), c .before .before .if4 .left)
 
 add-t14 : tie.Need-add-t14
 add-t14 c =
@@ -159,7 +159,7 @@ add-t14 c =
     let r = c .before .before .before .before .before .before .before .before .before .before .before .before .before .before .before .before .before .before .before .before .before .before .before .end-within in
     let g = c .before .before .before .before .before .before .before .before .before .before .scan .given in
     let x = scan-inside (a .width) _ (g .0 .0) (g .0 .1 .0) (sym (g .1) ∙ c .before .before .before .before .before .before .before .before .before .before .before .before .scan-row .ensures) in
-    omega (arith, x, length-take (r .result - a .place) (drop (a .place) (a .table .now)), r .ensures)
+    omega (arith, x, length-take (r .result - a .offset) (drop (a .offset) (a .table .now)), r .ensures)
 
 same-length-9 : tie.Need-same-length-9
 same-length-9 c = search needs
@@ -171,15 +171,15 @@ returns-7 : tie.Need-returns-7
 returns-7 c =
     let s = c .before .before .before .before .before .before .before .before .before .before .before .before .before .before .before .before .before .before .before .before .before .before .before .before .before .before .before .before .before in
     let a = s .args in
-    let h : a .place ≤ length (a .table .now) = c .before .before .before .before .before .before .before .before .before .before .before .before .before .before .before .before .before .before .before .before .before .before .before .before .before .if1 .left in
-    let n : a .place ≡ length (a .table .now) → ⊥ = c .before .before .before .before .before .before .before .before .before .before .before .before .before .before .before .before .before .before .before .before .before .before .before .before .if2 .left in
+    let h : a .offset ≤ length (a .table .now) = c .before .before .before .before .before .before .before .before .before .before .before .before .before .before .before .before .before .before .before .before .before .before .before .before .before .if1 .left in
+    let n : a .offset ≡ length (a .table .now) → ⊥ = c .before .before .before .before .before .before .before .before .before .before .before .before .before .before .before .before .before .before .before .before .before .before .before .before .if2 .left in
     let r = c .before .before .before .before .before .before .before .before .before .before .before .before .before .before .before .before .before .before .before .before .before .before .before .end-within in
-    let e = part-is (a .table .now) (a .place) (r .result) h (r .ensures) in
+    let e = part-is (a .table .now) (a .offset) (r .result) h (r .ensures) in
     let k = rw (c .before .before .before .before .before .before .before .before .before .before .before .before .before .enum-told .given .1) at (c .before .before .before .before .before .before .before .before .before .before .before .before .before .before .before .before .before .before .before .fast-row .ensures) in
     let g = c .before .before .before .before .before .before .before .before .before .before .scan .given in
-    let q : Whole (g .0 .0) (g .0 .1 .0) ≡ scanOf (a .width) (partAt (a .table .now) (a .place)) = sym (g .1) ∙ c .before .before .before .before .before .before .before .before .before .before .before .before .scan-row .ensures ∙ ap (scanOf (a .width)) e in
+    let q : Whole (g .0 .0) (g .0 .1 .0) ≡ scanOf (a .width) (partAt (a .table .now) (a .offset)) = sym (g .1) ∙ c .before .before .before .before .before .before .before .before .before .before .before .before .scan-row .ensures ∙ ap (scanOf (a .width)) e in
     let m = c .before .before .before .before .copy-row .ensures in
-    let w = since (k .0) (k .1) (read-whole (a .table .now) (a .width) (a .place) _ _ h n (g .0 .0) (g .0 .1 .0) q (c .before .before .before .before .before .before .before .before .if3 .left) (c .before .before .before .before .before .before .before .if4 .left) _ _ (m .0 ∙ rw e) (m .1 ∙ rw e)) in
+    let w = since (k .0) (k .1) (read-whole (a .table .now) (a .width) (a .offset) _ _ h n (g .0 .0) (g .0 .1 .0) q (c .before .before .before .before .before .before .before .before .if3 .left) (c .before .before .before .before .before .before .before .if4 .left) _ _ (m .0 ∙ rw e) (m .1 ∙ rw e)) in
     (w .is, w .bytes, w .marks)
 
 pub read-row-spec : {M : Type 1} → statement M

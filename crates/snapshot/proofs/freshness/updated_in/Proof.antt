@@ -18,10 +18,10 @@ use Rattle.snapshot.proofs.freshness.updated_in.Statement.{statement}
 use Rattle.snapshot.proofs.freshness.updated_in.Tie as tie
 
 abbrev Inv-loop : tie.InvT-loop
-Inv-loop l version n at size x₀ place₀ i₀ x place i = (i ≤ n) × (place ≤ 48 + i * 384) × (seen (toZ w64 at) x (many (recordAt version) size l place (n - i)) ≡ seen (toZ w64 at) x₀ (many (recordAt version) size l 48 n))
+Inv-loop l version n at size x₀ offset₀ i₀ x offset i = (i ≤ n) × (offset ≤ 48 + i * 384) × (seen (toZ w64 at) x (many (recordAt version) size l offset (n - i)) ≡ seen (toZ w64 at) x₀ (many (recordAt version) size l 48 n))
 
 abbrev μ-loop : tie.MeasureT-loop
-μ-loop l version n at size x₀ place₀ i₀ x place i = n - i
+μ-loop l version n at size x₀ offset₀ i₀ x offset i = n - i
 
 source-size-requires : tie.Need-source-size-requires Inv-loop μ-loop
 source-size-requires c κs = search needs
@@ -35,8 +35,8 @@ record-at-requires c κs = search needs
 see-requires : tie.Need-see-requires Inv-loop μ-loop
 see-requires c κs = search needs
 
-add-place : tie.Need-add-place Inv-loop μ-loop
-add-place c = search needs
+add-offset : tie.Need-add-offset Inv-loop μ-loop
+add-offset c = search needs
 
 add-i : tie.Need-add-i Inv-loop μ-loop
 add-i c = search needs
@@ -51,11 +51,11 @@ loop-again c =
     let a = z .before .before .args in
     let f = recordAt (a .version) in
     let at = toZ w64 (ofZ w64 (a .at)) in
-    let r : c .see .result ≡ see at (k .x) (f (a .l .now) (k .place)) = c .see .ensures ∙ ap (see at (k .x)) (c .before .record-at .ensures) in (
+    let r : c .see .result ≡ see at (k .x) (f (a .l .now) (k .offset)) = c .see .ensures ∙ ap (see at (k .x)) (c .before .record-at .ensures) in (
       omega arith,
       omega (arith, z .source-size .ensures .1),
-      ap (λ (y : Seen). seen at y (many f (z .source-size .result) (a .l .now) (k .place + z .source-size .result) (a .n - (k .i + 1)))) r
-          ∙ sym (one-more at f (z .source-size .result) (a .l .now) (k .place) (a .n) (k .i) (k .x) (omega arith))
+      ap (λ (y : Seen). seen at y (many f (z .source-size .result) (a .l .now) (k .offset + z .source-size .result) (a .n - (k .i + 1)))) r
+          ∙ sym (one-more at f (z .source-size .result) (a .l .now) (k .offset) (a .n) (k .i) (k .x) (omega arith))
           ∙ k .inv .2,
     )
 
@@ -73,7 +73,7 @@ returns c =
     let same : at ≡ a .at = toZ-ofZ w64 (a .at) (b .fits .at) in
     toZ-ofZ w64 (c .updated-of .result) (record { sfits = c .updated-of .ok })
     ∙ c .updated-of .ensures
-    ∙ no-more at f (z .source-size .result) (a .l .now) (k .place) (a .n) (k .i) (k .x) (omega arith)
+    ∙ no-more at f (z .source-size .result) (a .l .now) (k .offset) (a .n) (k .i) (k .x) (omega arith)
     ∙ k .inv .2
     ∙ (λ i. seen (same i) (nothing (a .days)) (many f (z .source-size .ensures .0 i) (a .l .now) 48 (a .n)))
     ∙ seen-all (a .at) (many f (sourceSize (a .version)) (a .l .now) 48 (a .n)) (a .days)
@@ -88,7 +88,7 @@ updated-in-spec =
     loop-holds
     record-at-requires
     see-requires
-    add-place
+    add-offset
     add-i
     loop-less
     loop-again

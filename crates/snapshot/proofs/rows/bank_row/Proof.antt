@@ -16,12 +16,12 @@ use Rattle.snapshot.proofs.rows.bank_row.Tie as tie
 returns : tie.Need-returns
 returns c =
     let a = c .before .before .before .before .before .args in
-    (no-region (a .region .now) (a .number) (a .source) (a .table) (a .place) (length (a .out .now)) (length (a .ends .now)) (lt-leb _ _ (c .before .if1 .taken)) (ne-eqb _ _ (c .if2 .taken)), refl, refl)
+    (no-region (a .region .now) (a .number) (a .source) (a .table) (a .offset) (length (a .out .now)) (length (a .ends .now)) (lt-leb _ _ (c .before .if1 .taken)) (ne-eqb _ _ (c .if2 .taken)), refl, refl)
 
 returns-2 : tie.Need-returns-2
 returns-2 c =
     let a = c .before .before .before .before .before .args in
-    (no-table (a .region .now) (a .number) (a .source) (a .table) (a .place) (length (a .out .now)) (length (a .ends .now)) (lt-leb _ _ (c .before .if1 .taken)) (eq-eqb _ _ (c .if2 .left)), refl, refl)
+    (no-table (a .region .now) (a .number) (a .source) (a .table) (a .offset) (length (a .out .now)) (length (a .ends .now)) (lt-leb _ _ (c .before .if1 .taken)) (eq-eqb _ _ (c .if2 .left)), refl, refl)
 
 source-requires : tie.Need-source-requires
 source-requires c κs = search needs
@@ -62,7 +62,7 @@ returns-3 c =
     let e = sym (ap (λ (x : SourceAnswer). x .outcome) (s .source .ensures)) ∙ m .enum-told .given .1 in
     let k = b .block-of .ensures ∙ ap (λ (x : SourceAnswer). getD (x .source .tables) (a .table) noBlock) (s .source .ensures) in
     let l =
-    is-row (a .region .now) (a .number) (a .source) (a .table) (a .place) (length (a .out .now)) (length (a .ends .now)) _ _ (le-leb (a .table) 7 (s .before .if1 .left)) e
+    is-row (a .region .now) (a .number) (a .source) (a .table) (a .offset) (length (a .out .now)) (length (a .ends .now)) _ _ (le-leb (a .table) 7 (s .before .if1 .left)) e
     (t .bytes-of .ensures ∙ ap (bytesOf (a .region .now) (a .number)) k) (w .column-count .ensures) in
     let q = r .read-row .ensures in (
       q .0 ∙ l .answer,
@@ -77,7 +77,7 @@ returns-4 c =
     let a = s .before .before .before .before .before .args in
     let h = le-leb (a .table) 7 (s .before .if1 .left) in
     let e = sym (ap (λ (x : SourceAnswer). x .outcome) (s .source .ensures)) ∙ o .o .given .1 in
-    (refused (a .region .now) (a .number) (a .source) (a .table) (a .place) (length (a .out .now)) (length (a .ends .now)) h _ e, refl, refl)
+    (refused (a .region .now) (a .number) (a .source) (a .table) (a .offset) (length (a .out .now)) (length (a .ends .now)) h _ e, refl, refl)
 
 pub bank-row-spec : {M : Type 1} → statement M
 bank-row-spec =
