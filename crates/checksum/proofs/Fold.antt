@@ -68,46 +68,46 @@ add-low : (p q w : ℕ) → p < 2 ^ 64 → w < 2 ^ 64 → bitXor (q * 2 ^ 64 + p
 add-low p q w hp hw =
     ap (bitXor (q * 2 ^ 64 + p)) (sym (zero-add w)) ∙ xor-block 64 q 0 p w hp hw ∙ ap (λ (z : ℕ). z * 2 ^ 64 + bitXor p w) (xor-zero-r q)
 
--- ---- the near fold: into the next three words, by x^185 + x^93 + x^54 + x^46 + x^20 + x^19 + 1
+-- ---- the fold into the next three words, by x^185 + x^93 + x^54 + x^46 + x^20 + x^19 + 1
 
-near-multiple : Multiple 185 (93 ∷ 54 ∷ 46 ∷ 20 ∷ 19 ∷ 0 ∷ [])
+into-three-multiple : Multiple 185 (93 ∷ 54 ∷ 46 ∷ 20 ∷ 19 ∷ 0 ∷ [])
 unfolding steps step
-near-multiple = refl
+into-three-multiple = refl
 
-near-shifts : List ℕ
-near-shifts = 3 ∷ 11 ∷ 37 ∷ 38 ∷ 57 ∷ []
+into-three-shifts : List ℕ
+into-three-shifts = 3 ∷ 11 ∷ 37 ∷ 38 ∷ 57 ∷ []
 
-abbrev pub near1 : ℕ → ℕ
-near1 x = shl x 28
+abbrev pub into-three1 : ℕ → ℕ
+into-three1 x = shl x 28
 
-abbrev pub near2 : ℕ → ℕ
-near2 x = bitXor (shr x 28) (bitXor (shl x 3) (bitXor (shl x 11) (bitXor (shl x 37) (bitXor (shl x 38) (shl x 57)))))
+abbrev pub into-three2 : ℕ → ℕ
+into-three2 x = bitXor (shr x 28) (bitXor (shl x 3) (bitXor (shl x 11) (bitXor (shl x 37) (bitXor (shl x 38) (shl x 57)))))
 
-abbrev pub near3 : ℕ → ℕ
-near3 x = bitXor (shr x 3) (bitXor (shr x 11) (bitXor (shr x 37) (bitXor (shr x 38) (shr x 57))))
+abbrev pub into-three3 : ℕ → ℕ
+into-three3 x = bitXor (shr x 3) (bitXor (shr x 11) (bitXor (shr x 37) (bitXor (shr x 38) (shr x 57))))
 
-near-spread : (x : ℕ)
-    → bitXor (steps 128 (bitXor (shl x 3) (bitXor (shl x 11) (bitXor (shl x 37) (bitXor (shl x 38) (shl x 57)))))) (steps 64 (near3 x))
-    ≡ xors (map (λ r. steps (64 - r + 64) x) near-shifts)
-unfolding near-shifts
-near-spread x =
+into-three-spread : (x : ℕ)
+    → bitXor (steps 128 (bitXor (shl x 3) (bitXor (shl x 11) (bitXor (shl x 37) (bitXor (shl x 38) (shl x 57)))))) (steps 64 (into-three3 x))
+    ≡ xors (map (λ r. steps (64 - r + 64) x) into-three-shifts)
+unfolding into-three-shifts
+into-three-spread x =
     ap₂
     (λ (a b : ℕ).
     bitXor (steps 128 (bitXor (shl x 3) (bitXor (shl x 11) (bitXor (shl x 37) (bitXor (shl x 38) a))))) (steps 64 (bitXor (shr x 3) (bitXor (shr x 11) (bitXor (shr x 37) (bitXor (shr x 38) b))))))
     (sym (xor-zero-r (shl x 57))) (sym (xor-zero-r (shr x 57)))
-    ∙ spread 64 x {rs = near-shifts} (more (omega arith) (more (omega arith) (more (omega arith) (more (omega arith) (more (omega arith) none)))))
+    ∙ spread 64 x {rs = into-three-shifts} (more (omega arith) (more (omega arith) (more (omega arith) (more (omega arith) (more (omega arith) none)))))
 
-near : (x : ℕ) → x < 2 ^ 64 → steps 256 x ≡ bitXor (steps 192 (near1 x)) (bitXor (steps 128 (near2 x)) (steps 64 (near3 x)))
-unfolding near-shifts
-near x h =
-    multiple 185 (93 ∷ 54 ∷ 46 ∷ 20 ∷ 19 ∷ 0 ∷ []) near-multiple 7 x h
-    ∙ ap₂ bitXor (sym (shift 128 28 36 x refl)) (sym (near-spread x))
+into-three : (x : ℕ) → x < 2 ^ 64 → steps 256 x ≡ bitXor (steps 192 (into-three1 x)) (bitXor (steps 128 (into-three2 x)) (steps 64 (into-three3 x)))
+unfolding into-three-shifts
+into-three x h =
+    multiple 185 (93 ∷ 54 ∷ 46 ∷ 20 ∷ 19 ∷ 0 ∷ []) into-three-multiple 7 x h
+    ∙ ap₂ bitXor (sym (shift 128 28 36 x refl)) (sym (into-three-spread x))
     ∙ same
-    (steps 192 (shl x 28) ∷ steps 128 (shr x 28) ∷ steps 128 (bitXor (shl x 3) (bitXor (shl x 11) (bitXor (shl x 37) (bitXor (shl x 38) (shl x 57))))) ∷ steps 64 (near3 x) ∷ [])
+    (steps 192 (shl x 28) ∷ steps 128 (shr x 28) ∷ steps 128 (bitXor (shl x 3) (bitXor (shl x 11) (bitXor (shl x 37) (bitXor (shl x 38) (shl x 57))))) ∷ steps 64 (into-three3 x) ∷ [])
     (plus (plus (term 0) (term 1)) (plus (term 2) (term 3)))
     (plus (term 0) (plus (plus (term 1) (term 2)) (term 3)))
     refl
-    ∙ ap (λ (z : ℕ). bitXor (steps 192 (near1 x)) (bitXor z (steps 64 (near3 x))))
+    ∙ ap (λ (z : ℕ). bitXor (steps 192 (into-three1 x)) (bitXor z (steps 64 (into-three3 x))))
     (sym (steps-xor 128 (shr x 28) (bitXor (shl x 3) (bitXor (shl x 11) (bitXor (shl x 37) (bitXor (shl x 38) (shl x 57)))))))
 
 shl-lt : (x r : ℕ) → shl x r < 2 ^ 64
@@ -119,8 +119,8 @@ shr-lt64 x r h = lt-of-le-of-lt (shr-le x (64 - r)) h
 xor64 : {a b : ℕ} → a < 2 ^ 64 → b < 2 ^ 64 → bitXor a b < 2 ^ 64
 xor64 {a} {b} ha hb = xor-lt 64 a b ha hb
 
-near2-lt : (x : ℕ) → x < 2 ^ 64 → near2 x < 2 ^ 64
-near2-lt x h =
+into-three2-lt : (x : ℕ) → x < 2 ^ 64 → into-three2 x < 2 ^ 64
+into-three2-lt x h =
     xor64 (shr-lt64 x 28 h) (xor64 (shl-lt x 3) (xor64 (shl-lt x 11) (xor64 (shl-lt x 37) (xor64 (shl-lt x 38) (shl-lt x 57)))))
 
 steps-three : (k a b c : ℕ) → a < 2 ^ 64 → b < 2 ^ 64
@@ -137,16 +137,16 @@ module _ (a b c w : ℕ) (ha : a < 2 ^ 64) (hb : b < 2 ^ 64) (hc : c < 2 ^ 64) (
   unfolding met
   met-lt = xor-lt 64 a w ha hw
 
-  pub near-fold : steps 192 (three (bitXor b (near1 (bitXor a w))) (bitXor c (near2 (bitXor a w))) (near3 (bitXor a w))) ≡ steps 256 (bitXor (three a b c) w)
+  pub into-three-fold : steps 192 (three (bitXor b (into-three1 (bitXor a w))) (bitXor c (into-three2 (bitXor a w))) (into-three3 (bitXor a w))) ≡ steps 256 (bitXor (three a b c) w)
   unfolding met
-  near-fold =
-      steps-three 64 (bitXor b (near1 met)) (bitXor c (near2 met)) (near3 met) (xor64 hb (shl-lt met 28)) (xor64 hc (near2-lt met met-lt))
-      ∙ ap₂ bitXor (steps-xor 192 b (near1 met)) (ap (λ (z : ℕ). bitXor z (steps 64 (near3 met))) (steps-xor 128 c (near2 met)))
-      ∙ same (steps 192 b ∷ steps 192 (near1 met) ∷ steps 128 c ∷ steps 128 (near2 met) ∷ steps 64 (near3 met) ∷ [])
+  into-three-fold =
+      steps-three 64 (bitXor b (into-three1 met)) (bitXor c (into-three2 met)) (into-three3 met) (xor64 hb (shl-lt met 28)) (xor64 hc (into-three2-lt met met-lt))
+      ∙ ap₂ bitXor (steps-xor 192 b (into-three1 met)) (ap (λ (z : ℕ). bitXor z (steps 64 (into-three3 met))) (steps-xor 128 c (into-three2 met)))
+      ∙ same (steps 192 b ∷ steps 192 (into-three1 met) ∷ steps 128 c ∷ steps 128 (into-three2 met) ∷ steps 64 (into-three3 met) ∷ [])
       (plus (plus (term 0) (term 1)) (plus (plus (term 2) (term 3)) (term 4)))
       (plus (plus (term 1) (plus (term 3) (term 4))) (plus (term 0) (term 2)))
       refl
-      ∙ ap (λ (z : ℕ). bitXor z (bitXor (steps 192 b) (steps 128 c))) (sym (near met met-lt))
+      ∙ ap (λ (z : ℕ). bitXor z (bitXor (steps 192 b) (steps 128 c))) (sym (into-three met met-lt))
       ∙ sym (ap (steps 256) (add-low a (c * 2 ^ 64 + b) w ha hw) ∙ steps-three 128 met b c met-lt hb)
 
 -- the same below further pending words
@@ -164,9 +164,9 @@ module _ (a b c w h : ℕ) (ha : a < 2 ^ 64) (hb : b < 2 ^ 64) (hc : c < 2 ^ 64)
       refl
       ∙ ap (λ (z : ℕ). bitXor z (steps 64 h)) (sym (ap (steps 256) (add-low a (c * 2 ^ 64 + b) w ha hw) ∙ steps-three 128 m b c hm hb))
 
-  pub near-under : (p q r : ℕ) → p < 2 ^ 64 → q < 2 ^ 64 → steps 192 (three p q r) ≡ steps 256 (bitXor (three a b c) w)
+  pub into-three-under : (p q r : ℕ) → p < 2 ^ 64 → q < 2 ^ 64 → steps 192 (three p q r) ≡ steps 256 (bitXor (three a b c) w)
       → steps 192 (three p q (bitXor r h)) ≡ steps 256 (bitXor (three a b (h * 2 ^ 64 + c)) w)
-  near-under p q r hp hq e =
+  into-three-under p q r hp hq e =
       steps-three 64 p q (bitXor r h) hp hq
       ∙ ap (λ (z : ℕ). bitXor (steps 192 p) (bitXor (steps 128 q) z)) (steps-xor 64 r h)
       ∙ same (steps 192 p ∷ steps 128 q ∷ steps 64 r ∷ steps 64 h ∷ [])
@@ -232,28 +232,28 @@ module _ (a b c w : ℕ) (ha : a < 2 ^ 64) (hb : b < 2 ^ 64) (hw : w < 2 ^ 64) w
       ∙ ap (λ (z : ℕ). bitXor z (bitXor (steps 128 b) (steps 64 c))) (sym (last seen seen-lt))
       ∙ sym (ap (steps 192) (add-low a (c * 2 ^ 64 + b) w ha hw) ∙ steps-three 64 seen b c seen-lt hb)
 
--- ---- the far fold: past the next word into the four after it, by x^300 + x^155 + x^117 + x^89 + 1
+-- ---- the fold past the next word into the four after it, by x^300 + x^155 + x^117 + x^89 + 1
 
-far-multiple : Multiple 300 (155 ∷ 117 ∷ 89 ∷ 0 ∷ [])
+into-five-multiple : Multiple 300 (155 ∷ 117 ∷ 89 ∷ 0 ∷ [])
 unfolding steps step
-far-multiple = refl
+into-five-multiple = refl
 
-abbrev pub far1 : ℕ → ℕ
-far1 x = bitXor (shl x 17) (shl x 55)
+abbrev pub into-five1 : ℕ → ℕ
+into-five1 x = bitXor (shl x 17) (shl x 55)
 
-abbrev pub far2 : ℕ → ℕ
-far2 x = bitXor (shr x 17) (bitXor (shr x 55) (shl x 19))
+abbrev pub into-five2 : ℕ → ℕ
+into-five2 x = bitXor (shr x 17) (bitXor (shr x 55) (shl x 19))
 
-abbrev pub far3 : ℕ → ℕ
-far3 x = bitXor (shr x 19) (shl x 44)
+abbrev pub into-five3 : ℕ → ℕ
+into-five3 x = bitXor (shr x 19) (shl x 44)
 
-abbrev pub far4 : ℕ → ℕ
-far4 x = shr x 44
+abbrev pub into-five4 : ℕ → ℕ
+into-five4 x = shr x 44
 
-far : (x : ℕ) → x < 2 ^ 64
-    → steps 384 x ≡ bitXor (steps 256 (far1 x)) (bitXor (steps 192 (far2 x)) (bitXor (steps 128 (far3 x)) (steps 64 (far4 x))))
-far x h =
-    multiple 300 (155 ∷ 117 ∷ 89 ∷ 0 ∷ []) far-multiple 20 x h
+into-five : (x : ℕ) → x < 2 ^ 64
+    → steps 384 x ≡ bitXor (steps 256 (into-five1 x)) (bitXor (steps 192 (into-five2 x)) (bitXor (steps 128 (into-five3 x)) (steps 64 (into-five4 x))))
+into-five x h =
+    multiple 300 (155 ∷ 117 ∷ 89 ∷ 0 ∷ []) into-five-multiple 20 x h
     ∙ ap (λ (z : ℕ). bitXor (steps 239 x) (bitXor (steps 201 x) (bitXor (steps 173 x) z))) (xor-zero-r (steps 84 x))
     ∙ sym
     (ap₂ bitXor (steps-xor 256 (shl x 17) (shl x 55))
@@ -277,14 +277,14 @@ steps-five k a b c d e ha hb hc hd =
     ∙ ap (bitXor (steps (64 + (64 + (64 + k))) b))
     (steps-two (64 + k) c (e * 2 ^ 64 + d) hc ∙ ap (bitXor (steps (64 + (64 + k)) c)) (steps-two k d e hd)))
 
-pub far1-lt : (x : ℕ) → far1 x < 2 ^ 64
-far1-lt x = xor64 (shl-lt x 17) (shl-lt x 55)
+pub into-five1-lt : (x : ℕ) → into-five1 x < 2 ^ 64
+into-five1-lt x = xor64 (shl-lt x 17) (shl-lt x 55)
 
-pub far2-lt : (x : ℕ) → x < 2 ^ 64 → far2 x < 2 ^ 64
-far2-lt x h = xor64 (shr-lt64 x 17 h) (xor64 (shr-lt64 x 55 h) (shl-lt x 19))
+pub into-five2-lt : (x : ℕ) → x < 2 ^ 64 → into-five2 x < 2 ^ 64
+into-five2-lt x h = xor64 (shr-lt64 x 17 h) (xor64 (shr-lt64 x 55 h) (shl-lt x 19))
 
-pub far3-lt : (x : ℕ) → x < 2 ^ 64 → far3 x < 2 ^ 64
-far3-lt x h = xor64 (shr-lt64 x 19 h) (shl-lt x 44)
+pub into-five3-lt : (x : ℕ) → x < 2 ^ 64 → into-five3 x < 2 ^ 64
+into-five3-lt x h = xor64 (shr-lt64 x 19 h) (shl-lt x 44)
 
 module _ (a b c d e w : ℕ) (ha : a < 2 ^ 64) (hb : b < 2 ^ 64) (hc : c < 2 ^ 64) (hd : d < 2 ^ 64) (he : e < 2 ^ 64) (hw : w < 2 ^ 64) where
   taken : ℕ
@@ -295,13 +295,13 @@ module _ (a b c d e w : ℕ) (ha : a < 2 ^ 64) (hb : b < 2 ^ 64) (hc : c < 2 ^ 6
   taken-lt = xor-lt 64 a w ha hw
 
   -- the five words after the fold
-  after : steps 320 (five b (bitXor c (far1 taken)) (bitXor d (far2 taken)) (bitXor e (far3 taken)) (far4 taken))
-      ≡ bitXor (steps 320 b) (bitXor (bitXor (steps 256 c) (steps 256 (far1 taken))) (bitXor (bitXor (steps 192 d) (steps 192 (far2 taken))) (bitXor (bitXor (steps 128 e) (steps 128 (far3 taken))) (steps 64 (far4 taken)))))
+  after : steps 320 (five b (bitXor c (into-five1 taken)) (bitXor d (into-five2 taken)) (bitXor e (into-five3 taken)) (into-five4 taken))
+      ≡ bitXor (steps 320 b) (bitXor (bitXor (steps 256 c) (steps 256 (into-five1 taken))) (bitXor (bitXor (steps 192 d) (steps 192 (into-five2 taken))) (bitXor (bitXor (steps 128 e) (steps 128 (into-five3 taken))) (steps 64 (into-five4 taken)))))
   after =
-      steps-five 64 b (bitXor c (far1 taken)) (bitXor d (far2 taken)) (bitXor e (far3 taken)) (far4 taken) hb (xor64 hc (far1-lt taken)) (xor64 hd (far2-lt taken taken-lt)) (xor64 he (far3-lt taken taken-lt))
+      steps-five 64 b (bitXor c (into-five1 taken)) (bitXor d (into-five2 taken)) (bitXor e (into-five3 taken)) (into-five4 taken) hb (xor64 hc (into-five1-lt taken)) (xor64 hd (into-five2-lt taken taken-lt)) (xor64 he (into-five3-lt taken taken-lt))
       ∙ ap (bitXor (steps 320 b))
-      (ap₂ bitXor (steps-xor 256 c (far1 taken))
-      (ap₂ bitXor (steps-xor 192 d (far2 taken)) (ap (λ (z : ℕ). bitXor z (steps 64 (far4 taken))) (steps-xor 128 e (far3 taken)))))
+      (ap₂ bitXor (steps-xor 256 c (into-five1 taken))
+      (ap₂ bitXor (steps-xor 192 d (into-five2 taken)) (ap (λ (z : ℕ). bitXor z (steps 64 (into-five4 taken))) (steps-xor 128 e (into-five3 taken)))))
 
   before : steps 384 (bitXor (five a b c d e) w) ≡ bitXor (steps 384 taken) (bitXor (steps 320 b) (bitXor (steps 256 c) (bitXor (steps 192 d) (steps 128 e))))
   unfolding taken
@@ -309,17 +309,17 @@ module _ (a b c d e w : ℕ) (ha : a < 2 ^ 64) (hb : b < 2 ^ 64) (hc : c < 2 ^ 6
       ap (steps 384) (add-low a (((e * 2 ^ 64 + d) * 2 ^ 64 + c) * 2 ^ 64 + b) w ha hw)
       ∙ steps-five 128 (bitXor a w) b c d e taken-lt hb hc hd
 
-  pub far-fold : steps 320 (five b (bitXor c (far1 (bitXor a w))) (bitXor d (far2 (bitXor a w))) (bitXor e (far3 (bitXor a w))) (far4 (bitXor a w)))
+  pub into-five-fold : steps 320 (five b (bitXor c (into-five1 (bitXor a w))) (bitXor d (into-five2 (bitXor a w))) (bitXor e (into-five3 (bitXor a w))) (into-five4 (bitXor a w)))
       ≡ steps 384 (bitXor (five a b c d e) w)
   unfolding taken
-  far-fold =
+  into-five-fold =
       after
       ∙ same
-      (steps 320 b ∷ steps 256 c ∷ steps 256 (far1 taken) ∷ steps 192 d ∷ steps 192 (far2 taken) ∷ steps 128 e ∷ steps 128 (far3 taken) ∷ steps 64 (far4 taken) ∷ [])
+      (steps 320 b ∷ steps 256 c ∷ steps 256 (into-five1 taken) ∷ steps 192 d ∷ steps 192 (into-five2 taken) ∷ steps 128 e ∷ steps 128 (into-five3 taken) ∷ steps 64 (into-five4 taken) ∷ [])
       (plus (term 0) (plus (plus (term 1) (term 2)) (plus (plus (term 3) (term 4)) (plus (plus (term 5) (term 6)) (term 7)))))
       (plus (plus (term 2) (plus (term 4) (plus (term 6) (term 7)))) (plus (term 0) (plus (term 1) (plus (term 3) (term 5)))))
       refl
-      ∙ ap (λ (z : ℕ). bitXor z (bitXor (steps 320 b) (bitXor (steps 256 c) (bitXor (steps 192 d) (steps 128 e))))) (sym (far taken taken-lt))
+      ∙ ap (λ (z : ℕ). bitXor z (bitXor (steps 320 b) (bitXor (steps 256 c) (bitXor (steps 192 d) (steps 128 e))))) (sym (into-five taken taken-lt))
       ∙ sym before
 
 -- ---- a word of the data

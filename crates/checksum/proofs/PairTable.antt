@@ -44,25 +44,25 @@ shift x h = sym (steps-split 4 2044 x ∙ ap (bitXor (steps 2048 (x % 16))) (par
 -- ---- the table
 
 -- the lowest bit after 2013 steps and more
-far-3 : steps 2013 1 ≡ 533709592
+shifted-3 : steps 2013 1 ≡ 533709592
 unfolding steps step
-far-3 = refl
+shifted-3 = refl
 
-far-2 : steps 2014 1 ≡ 266854796
+shifted-2 : steps 2014 1 ≡ 266854796
 unfolding steps step
-far-2 = steps-add 2013 1 1 ∙ ap (steps 1) far-3
+shifted-2 = steps-add 2013 1 1 ∙ ap (steps 1) shifted-3
 
-far-1 : steps 2015 1 ≡ 133427398
+shifted-1 : steps 2015 1 ≡ 133427398
 unfolding steps step
-far-1 = steps-add 2014 1 1 ∙ ap (steps 1) far-2
+shifted-1 = steps-add 2014 1 1 ∙ ap (steps 1) shifted-2
 
-far-0 : steps 2016 1 ≡ 66713699
+shifted-0 : steps 2016 1 ≡ 66713699
 unfolding steps step
-far-0 = steps-add 2015 1 1 ∙ ap (steps 1) far-1
+shifted-0 = steps-add 2015 1 1 ∙ ap (steps 1) shifted-1
 
 -- a nibble after 2016 steps, bit by bit
-unfoldable pub far : ℕ → ℕ
-far n = bitXor (n % 2 * 66713699) (bitXor (n / 2 % 2 * 133427398) (bitXor (n / 2 ^ 2 % 2 * 266854796) (n / 2 ^ 3 % 2 * 533709592)))
+unfoldable pub shifted : ℕ → ℕ
+shifted n = bitXor (n % 2 * 66713699) (bitXor (n / 2 % 2 * 133427398) (bitXor (n / 2 ^ 2 % 2 * 266854796) (n / 2 ^ 3 % 2 * 533709592)))
 
 steps-zero : (m : ℕ) → steps m 0 ≡ 0
 steps-zero m = steps-xor m 0 0 ∙ xor-self (steps m 0)
@@ -71,28 +71,28 @@ bit : (m e n : ℕ) → steps m 1 ≡ e → steps m (n % 2) ≡ n % 2 * e
 bit m e n h =
     digit-ind (λ (d : ℕ). steps m d ≡ d * e) (steps-zero m ∙ sym (zero-mul e)) (h ∙ sym (one-mul e)) (n % 2) (mod-lt n (pow-pos 1))
 
-far-steps : (n : ℕ) → n < 16 → far n ≡ steps 2016 n
-unfolding far
-far-steps n h =
+shifted-steps : (n : ℕ) → n < 16 → shifted n ≡ steps 2016 n
+unfolding shifted
+shifted-steps n h =
     sym
     (steps-split 1 2015 n
-    ∙ ap₂ bitXor (bit 2016 66713699 n far-0)
+    ∙ ap₂ bitXor (bit 2016 66713699 n shifted-0)
     (steps-split 1 2014 (n / 2)
-    ∙ ap₂ bitXor (bit 2015 133427398 (n / 2) far-1)
+    ∙ ap₂ bitXor (bit 2015 133427398 (n / 2) shifted-1)
     (ap (steps 2014) (shr-shr n 1 1)
     ∙ steps-split 1 2013 (n / 2 ^ 2)
-    ∙ ap₂ bitXor (bit 2014 266854796 (n / 2 ^ 2) far-2)
-    (ap (steps 2013) (shr-shr n 2 1 ∙ sym (shr-mod 1 3 h)) ∙ bit 2013 533709592 (n / 2 ^ 3) far-3))))
+    ∙ ap₂ bitXor (bit 2014 266854796 (n / 2 ^ 2) shifted-2)
+    (ap (steps 2013) (shr-shr n 2 1 ∙ sym (shr-mod 1 3 h)) ∙ bit 2013 533709592 (n / 2 ^ 3) shifted-3))))
 
 -- n nibbles from i on, each after 2016 steps
 unfoldable pub ahead : ℕ → ℕ → List ℕ
 ahead i zero = []
-ahead i (suc n) = far i ∷ ahead (suc i) n
+ahead i (suc n) = shifted i ∷ ahead (suc i) n
 
 ahead-at : (i n k : ℕ) → k < n → i + n ≤ 16 → getD (ahead i n) k 0 ≡ steps 2016 (i + k)
 unfolding ahead
 ahead-at i zero k h l = absurd (not-suc-le-zero h)
-ahead-at i (suc n) zero h l = far-steps i (omega arith) ∙ ap (steps 2016) (sym (add-zero i))
+ahead-at i (suc n) zero h l = shifted-steps i (omega arith) ∙ ap (steps 2016) (sym (add-zero i))
 ahead-at i (suc n) (suc k) h l = ahead-at (suc i) n k (le-of-suc-le-suc h) (omega arith) ∙ ap (steps 2016) (omega arith)
 
 ahead-length : (i n : ℕ) → length (ahead i n) ≡ n

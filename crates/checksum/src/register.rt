@@ -311,7 +311,7 @@ fn short_byte(crc: u32, b: u8) -> u32
 }
 
 // The register after a short input, byte by byte.
-fn short(crc: u32, s: &[u8]) -> u32
+fn feed_short(crc: u32, s: &[u8]) -> u32
     ensures { λ r. ⌜ r ≡ run crc (now (s .entry)) ⌝ }
 {
     let mut c = crc;
@@ -324,7 +324,7 @@ fn short(crc: u32, s: &[u8]) -> u32
 }
 
 // A word of the data folded into the three after it, by x^185 + x^93 + x^54 + x^46 + x^20 + x^19 + 1.
-fn fold_near(p: Three, w: u64) -> Three
+fn fold_into_three(p: Three, w: u64) -> Three
     ensures { λ r. ⌜ steps (3 * longBits) (three (r .a) (r .b) (r .c)) ≡ steps (4 * longBits) (bitXor (three (p .a) (p .b) (p .c)) w) ⌝ }
 {
     let x = p.a ^ w;
@@ -336,7 +336,7 @@ fn fold_near(p: Three, w: u64) -> Three
 }
 
 // A word of the data folded into the two after it, by x^120 + x^56 + x^40 + x^33 + x^15 + x^9 + x^8 + x + 1.
-fn fold_last(p: Three, w: u64) -> Two
+fn fold_into_two(p: Three, w: u64) -> Two
     ensures { λ r. ⌜ steps (2 * longBits) (two (r .a) (r .b)) ≡ steps (3 * longBits) (bitXor (three (p .a) (p .b) (p .c)) w) ⌝ }
 {
     let x = p.a ^ w;
@@ -353,7 +353,7 @@ fn fold_last(p: Three, w: u64) -> Two
 }
 
 // A word of the data folded into the second to fifth after it, by x^300 + x^155 + x^117 + x^89 + 1.
-fn fold_far(p: Five, w: u64) -> Five
+fn fold_into_five(p: Five, w: u64) -> Five
     ensures { λ r. ⌜ steps (5 * longBits) (five (r .a) (r .b) (r .c) (r .d) (r .e)) ≡ steps (6 * longBits) (bitXor (five (p .a) (p .b) (p .c) (p .d) (p .e)) w) ⌝ }
 {
     let x = p.a ^ w;
@@ -389,7 +389,7 @@ struct Part {
 }
 
 // Folds words until 24 to 31 bytes are left.
-fn near_all(crc: u32, s: &[u8]) -> ThreeAt
+fn fold_all_by_three(crc: u32, s: &[u8]) -> ThreeAt
     requires { ⌜ 3 * longBytes ≤ length (now s) ⌝ }
     ensures { λ r. ⌜ (r .at + 3 * longBytes ≤ length (now (s .entry))) × (run (three (r .a) (r .b) (r .c)) (drop (r .at) (now (s .entry))) ≡ run crc (now (s .entry))) ⌝ }
 {
@@ -400,7 +400,7 @@ fn near_all(crc: u32, s: &[u8]) -> ThreeAt
     };
     let mut i = 0;
     while FOUR_WORDS <= s.len() - i {
-        p = fold_near(p, load(s, i));
+        p = fold_into_three(p, load(s, i));
         i += ONE_WORD;
     }
     ThreeAt {
@@ -412,7 +412,7 @@ fn near_all(crc: u32, s: &[u8]) -> ThreeAt
 }
 
 // Folds two words at a time, until 40 to 55 bytes are left.
-fn far_all(crc: u32, s: &[u8]) -> FiveAt
+fn fold_all_by_five(crc: u32, s: &[u8]) -> FiveAt
     requires { ⌜ 5 * longBytes ≤ length (now s) ⌝ }
     ensures { λ r. ⌜ (r .at + 5 * longBytes ≤ length (now (s .entry))) × (run (five (r .a) (r .b) (r .c) (r .d) (r .e)) (drop (r .at) (now (s .entry))) ≡ run crc (now (s .entry))) ⌝ }
 {
@@ -425,8 +425,8 @@ fn far_all(crc: u32, s: &[u8]) -> FiveAt
     };
     let mut i = 0;
     while SEVEN_WORDS <= s.len() - i {
-        let q = fold_far(p, load(s, i));
-        p = fold_far(q, load(s, i + ONE_WORD));
+        let q = fold_into_five(p, load(s, i));
+        p = fold_into_five(q, load(s, i + ONE_WORD));
         i += TWO_WORDS;
     }
     FiveAt {
@@ -489,13 +489,13 @@ fn one(t: &[u32; ENTRIES], a: u64, s: &[u8], at: usize) -> u64
 }
 
 // Reads the last three words, with the pending words added.
-fn close_near(t: &[u32; ENTRIES], p: ThreeAt, s: &[u8]) -> u32
+fn close_three(t: &[u32; ENTRIES], p: ThreeAt, s: &[u8]) -> u32
     requires { ⌜ Nibbles (now t) ⌝ }
     requires { ⌜ p .at + 3 * longBytes ≤ length (now s) ⌝ }
     ensures { λ r. ⌜ run r (drop (p .at + 3 * longBytes) (now (s .entry))) ≡ run (three (p .a) (p .b) (p .c)) (drop (p .at) (now (s .entry))) ⌝ }
 {
     let at = p.at;
-    let q = fold_last(
+    let q = fold_into_two(
         Three {
             a: p.a,
             b: p.b,
@@ -507,14 +507,14 @@ fn close_near(t: &[u32; ENTRIES], p: ThreeAt, s: &[u8]) -> u32
     pair(t, (v ^ q.b) ^ load(s, at + TWO_WORDS))
 }
 
-// Reads the last five words: two near folds, then the last three.
-fn close_far(t: &[u32; ENTRIES], p: FiveAt, s: &[u8]) -> u32
+// Reads the last five words: two folds into three words, then the last three.
+fn close_five(t: &[u32; ENTRIES], p: FiveAt, s: &[u8]) -> u32
     requires { ⌜ Nibbles (now t) ⌝ }
     requires { ⌜ p .at + 5 * longBytes ≤ length (now s) ⌝ }
     ensures { λ r. ⌜ run r (drop (p .at + 5 * longBytes) (now (s .entry))) ≡ run (five (p .a) (p .b) (p .c) (p .d) (p .e)) (drop (p .at) (now (s .entry))) ⌝ }
 {
     let at = p.at;
-    let q = fold_near(
+    let q = fold_into_three(
         Three {
             a: p.a,
             b: p.b,
@@ -522,7 +522,7 @@ fn close_far(t: &[u32; ENTRIES], p: FiveAt, s: &[u8]) -> u32
         },
         load(s, at),
     );
-    let r = fold_near(
+    let r = fold_into_three(
         Three {
             a: q.a,
             b: q.b,
@@ -536,31 +536,31 @@ fn close_far(t: &[u32; ENTRIES], p: FiveAt, s: &[u8]) -> u32
         c: r.c ^ p.e,
         at: at + TWO_WORDS,
     };
-    close_near(t, l, s)
+    close_three(t, l, s)
 }
 
-fn feed_near(t: &[u32; ENTRIES], crc: u32, s: &[u8]) -> u32
+fn feed_by_three(t: &[u32; ENTRIES], crc: u32, s: &[u8]) -> u32
     requires { ⌜ Nibbles (now t) ⌝ }
     requires { ⌜ 3 * longBytes ≤ length (now s) ⌝ }
     ensures { λ r. ⌜ r ≡ run crc (now (s .entry)) ⌝ }
 {
-    let p = near_all(crc, s);
+    let p = fold_all_by_three(crc, s);
     let at = p.at;
-    let c = close_near(t, p, s);
+    let c = close_three(t, p, s);
     if s.len() == at + THREE_WORDS {
         return c;
     }
     rest(t, c, s, at + THREE_WORDS)
 }
 
-fn feed_far(t: &[u32; ENTRIES], crc: u32, s: &[u8]) -> u32
+fn feed_by_five(t: &[u32; ENTRIES], crc: u32, s: &[u8]) -> u32
     requires { ⌜ Nibbles (now t) ⌝ }
     requires { ⌜ 5 * longBytes ≤ length (now s) ⌝ }
     ensures { λ r. ⌜ r ≡ run crc (now (s .entry)) ⌝ }
 {
-    let p = far_all(crc, s);
+    let p = fold_all_by_five(crc, s);
     let at = p.at;
-    let c = close_far(t, p, s);
+    let c = close_five(t, p, s);
     if s.len() == at + FIVE_WORDS {
         return c;
     }
@@ -572,11 +572,11 @@ pub fn feed(crc: u32, bytes: &[u8]) -> u32
     ensures { λ r. ⌜ r ≡ run crc (now (bytes .entry)) ⌝ }
 {
     if bytes.len() < FOLDED_FROM {
-        return short(crc, bytes);
+        return feed_short(crc, bytes);
     }
     let t = TABLE;
     if bytes.len() < FOLDED_BY_TWO_FROM {
-        return feed_near(&t, crc, bytes);
+        return feed_by_three(&t, crc, bytes);
     }
-    feed_far(&t, crc, bytes)
+    feed_by_five(&t, crc, bytes)
 }

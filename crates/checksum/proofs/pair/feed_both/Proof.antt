@@ -6,7 +6,7 @@ use native.Mathlib.Omega.{arith}
 use lib.Bits.{bitXor}
 use Rattle.checksum.specs.Register.{step, steps, run}
 use Rattle.checksum.proofs.Table.{follows}
-use Rattle.checksum.proofs.PairTable.{far, ahead, table, second}
+use Rattle.checksum.proofs.PairTable.{shifted, ahead, table, second}
 use borrow.Author.Needs.{needs}
 use Rattle.checksum.proofs.pair.feed_both.Statement.{statement}
 use Rattle.checksum.proofs.pair.feed_both.Tie as tie
@@ -21,7 +21,7 @@ returns c =
     (f, f ∙ ap (λ (x : ℕ). run x (a .bytes .now)) (c .if1 .taken))
 
 shift-requires : tie.Need-shift-requires
-unfolding far ahead follows steps step
+unfolding shifted ahead follows steps step
 shift-requires c κs = table _ tt refl
 
 returns-2 : tie.Need-returns-2

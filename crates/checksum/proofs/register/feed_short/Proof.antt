@@ -7,8 +7,8 @@ use lib.ListN.{length, drop}
 use Rattle.checksum.specs.Register.{run}
 use lib.ListN.{drop-of-length-le}
 use Rattle.checksum.proofs.Fold.{byte-at}
-use Rattle.checksum.proofs.register.short.Statement.{statement}
-use Rattle.checksum.proofs.register.short.Tie as tie
+use Rattle.checksum.proofs.register.feed_short.Statement.{statement}
+use Rattle.checksum.proofs.register.feed_short.Tie as tie
 
 abbrev Inv-loop : tie.InvT-loop
 Inv-loop crc s c₀ k₀ c k = (k ≤ length s) × (run c (drop k s) ≡ run crc s)
@@ -43,8 +43,8 @@ returns c =
     let l = c .before .loop in
     rw (drop-of-length-le (c .before .before .before .args .s .now) {i = l .k} (omega arith)) at (l .inv .1)
 
-pub short-spec : {M : Type 1} → statement M
-short-spec =
+pub feed-short-spec : {M : Type 1} → statement M
+feed-short-spec =
     tie.close
     (tie.spec
     Inv-loop

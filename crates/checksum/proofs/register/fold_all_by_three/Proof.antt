@@ -1,4 +1,4 @@
--- The invariant: the three pending words, run from offset i on, give what crc gives on all bytes. Each near fold keeps it by `fold-at`.
+-- The invariant: the three pending words, run from offset i on, give what crc gives on all bytes. Each fold keeps it by `fold-at`.
 use mathlib.Core.Path.{_≡_, ap, _∙_}
 use Prim.Native.Nat.{ℕ, _+_, _-_, _≤_}
 use native.Mathlib.Nat.{zero-add}
@@ -8,8 +8,8 @@ use lib.ListN.{length, drop}
 use Rattle.checksum.specs.Register.{run}
 use Rattle.checksum.specs.Pending.{three}
 use Rattle.checksum.proofs.Fold.{fold-at}
-use Rattle.checksum.proofs.register.near_all.Statement.{statement}
-use Rattle.checksum.proofs.register.near_all.Tie as tie
+use Rattle.checksum.proofs.register.fold_all_by_three.Statement.{statement}
+use Rattle.checksum.proofs.register.fold_all_by_three.Tie as tie
 
 abbrev Inv-loop : tie.InvT-loop
 Inv-loop crc s p₀ i₀ p i = (i + 24 ≤ length s) × (run (three (p .a) (p .b) (p .c)) (drop i s) ≡ run crc s)
@@ -29,8 +29,8 @@ sub-loop c = search needs
 load-requires : tie.Need-load-requires Inv-loop μ-loop
 load-requires c κs = search needs
 
-fold-near-requires : tie.Need-fold-near-requires Inv-loop μ-loop
-fold-near-requires c κs = search needs
+fold-into-three-requires : tie.Need-fold-into-three-requires Inv-loop μ-loop
+fold-into-three-requires c κs = search needs
 
 add-i : tie.Need-add-i Inv-loop μ-loop
 add-i c = search needs
@@ -43,15 +43,15 @@ loop-again c =
     let l = c .before .before .before .loop in
     let s = c .before .before .before .before .before .before .args .s .now in (
       omega arith,
-      fold-at 192 (three (l .p .a) (l .p .b) (l .p .c)) (three (c .fold-near .result .a) (c .fold-near .result .b) (c .fold-near .result .c)) (c .before .load .result) (l .i) s (omega arith) (c .before .load .ensures) (c .fold-near .ensures)
+      fold-at 192 (three (l .p .a) (l .p .b) (l .p .c)) (three (c .fold-into-three .result .a) (c .fold-into-three .result .b) (c .fold-into-three .result .c)) (c .before .load .result) (l .i) s (omega arith) (c .before .load .ensures) (c .fold-into-three .ensures)
           ∙ l .inv .1,
     )
 
 returns : tie.Need-returns Inv-loop μ-loop
 returns c = c .before .loop .inv
 
-pub near-all-spec : {M : Type 1} → statement M
-near-all-spec =
+pub fold-all-by-three-spec : {M : Type 1} → statement M
+fold-all-by-three-spec =
     tie.close
     (tie.spec
     Inv-loop
@@ -60,7 +60,7 @@ near-all-spec =
     loop-holds
     sub-loop
     load-requires
-    fold-near-requires
+    fold-into-three-requires
     add-i
     loop-less
     loop-again

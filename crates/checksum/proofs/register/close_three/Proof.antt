@@ -6,14 +6,14 @@ use lib.Bits.{bitXor}
 use Rattle.checksum.specs.Pending.{two, three}
 use Rattle.checksum.proofs.Fold.{fold-at, last-of, next-after}
 use borrow.Author.Needs.{needs}
-use Rattle.checksum.proofs.register.close_near.Statement.{statement}
-use Rattle.checksum.proofs.register.close_near.Tie as tie
+use Rattle.checksum.proofs.register.close_three.Statement.{statement}
+use Rattle.checksum.proofs.register.close_three.Tie as tie
 
 load-requires : tie.Need-load-requires
 load-requires c κs = search needs
 
-fold-last-requires : tie.Need-fold-last-requires
-fold-last-requires c κs = search needs
+fold-into-two-requires : tie.Need-fold-into-two-requires
+fold-into-two-requires c κs = search needs
 
 add-one : tie.Need-add-one
 add-one c = search needs
@@ -38,19 +38,19 @@ returns c =
     let known = c .before .before .struct-known .given in
     let s = a .s .now in
     let p = a .p in
-    let q = c .before .before .before .before .fold-last in
+    let q = c .before .before .before .before .fold-into-two in
     let w = c .before .before .before .before .before .load in
     let v = c .before .before .before .one in
     last-of s (p .at) (bitXor (v .result) (q .result .b)) (c .pair .result) (c .before .load2 .result) 16 (omega arith) (c .before .load2 .ensures) (c .pair .ensures)
     ∙ next-after s (p .at) (q .result .a) (q .result .b) (v .result) 8 (omega arith) (omega arith) (v .ensures .0)
     ∙ fold-at 128 (three (p .a) (p .b) (p .c)) (two (q .result .a) (q .result .b)) (w .result) (p .at) s (omega arith) (w .ensures) (q .ensures)
 
-pub close-near-spec : {M : Type 1} → statement M
-close-near-spec =
+pub close-three-spec : {M : Type 1} → statement M
+close-three-spec =
     tie.close
     (tie.spec
     load-requires
-    fold-last-requires
+    fold-into-two-requires
     add-one
     one-requires
     add-load

@@ -6,14 +6,14 @@ use native.Mathlib.Omega.{arith}
 use lib.ListN.{drop-of-length-le}
 use Rattle.checksum.specs.Register.{run}
 use borrow.Author.Needs.{needs}
-use Rattle.checksum.proofs.register.feed_far.Statement.{statement}
-use Rattle.checksum.proofs.register.feed_far.Tie as tie
+use Rattle.checksum.proofs.register.feed_by_five.Statement.{statement}
+use Rattle.checksum.proofs.register.feed_by_five.Tie as tie
 
-far-all-requires : tie.Need-far-all-requires
-far-all-requires c κs = search needs
+fold-all-by-five-requires : tie.Need-fold-all-by-five-requires
+fold-all-by-five-requires c κs = search needs
 
-close-far-requires : tie.Need-close-far-requires
-close-far-requires c κs = search needs
+close-five-requires : tie.Need-close-five-requires
+close-five-requires c κs = search needs
 
 add-if1 : tie.Need-add-if1
 add-if1 c = search needs
@@ -22,8 +22,8 @@ returns : tie.Need-returns
 unfolding run
 returns c =
     let s = c .before .before .before .before .args .s .now in
-    let p = c .before .before .far-all in
-    let r = c .before .close-far in
+    let p = c .before .before .fold-all-by-five in
+    let r = c .before .close-five in
     ap (run (r .result)) (sym (drop-of-length-le s {i = p .result .at + 40} (omega arith))) ∙ r .ensures ∙ p .ensures .1
 
 add-rest : tie.Need-add-rest
@@ -35,7 +35,7 @@ rest-requires c κs = search needs
 returns-2 : tie.Need-returns-2
 returns-2 c = search needs
 
-pub feed-far-spec : {M : Type 1} → statement M
-feed-far-spec =
+pub feed-by-five-spec : {M : Type 1} → statement M
+feed-by-five-spec =
     tie.close
-    (tie.spec far-all-requires close-far-requires add-if1 returns add-rest rest-requires returns-2)
+    (tie.spec fold-all-by-five-requires close-five-requires add-if1 returns add-rest rest-requires returns-2)

@@ -1,5 +1,5 @@
--- Two near folds use up the words at `at` and `at + 8` while the fourth and fifth pending words are added above (`near-under`);
--- `close_near` does the three words that are left.
+-- Two folds into three words use up the words at `at` and `at + 8` while the fourth and fifth pending words are added above (`into-three-under`);
+-- `close_three` does the three words that are left.
 use mathlib.Core.Path.{_≡_, sym, ap, _∙_}
 use Prim.Native.Nat.{ℕ, _+_, _*_, _^_}
 use native.Mathlib.Omega.{arith}
@@ -7,16 +7,16 @@ use lib.Bits.{bitXor, xor-lt}
 use lib.ListN.{drop}
 use Rattle.checksum.specs.Register.{run}
 use Rattle.checksum.specs.Pending.{three}
-use Rattle.checksum.proofs.Fold.{fold-at, near-under, above-low}
+use Rattle.checksum.proofs.Fold.{fold-at, into-three-under, above-low}
 use borrow.Author.Needs.{needs}
-use Rattle.checksum.proofs.register.close_far.Statement.{statement}
-use Rattle.checksum.proofs.register.close_far.Tie as tie
+use Rattle.checksum.proofs.register.close_five.Statement.{statement}
+use Rattle.checksum.proofs.register.close_five.Tie as tie
 
 load-requires : tie.Need-load-requires
 load-requires c κs = search needs
 
-fold-near-requires : tie.Need-fold-near-requires
-fold-near-requires c κs = search needs
+fold-into-three-requires : tie.Need-fold-into-three-requires
+fold-into-three-requires c κs = search needs
 
 add-load : tie.Need-add-load
 add-load c = search needs
@@ -24,14 +24,14 @@ add-load c = search needs
 load-requires-2 : tie.Need-load-requires-2
 load-requires-2 c κs = search needs
 
-fold-near-requires-2 : tie.Need-fold-near-requires-2
-fold-near-requires-2 c κs = search needs
+fold-into-three-requires-2 : tie.Need-fold-into-three-requires-2
+fold-into-three-requires-2 c κs = search needs
 
 add-t11 : tie.Need-add-t11
 add-t11 c = search needs
 
-close-near-requires : tie.Need-close-near-requires
-close-near-requires c κs = search needs
+close-three-requires : tie.Need-close-three-requires
+close-three-requires c κs = search needs
 
 returns : tie.Need-returns
 returns c =
@@ -42,8 +42,8 @@ returns c =
     let a = j .before .before .args in
     let p = a .p in
     let s = a .s .now in
-    let q = m .fold-near .result in
-    let r = n .fold-near2 .result in
+    let q = m .fold-into-three .result in
+    let r = n .fold-into-three2 .result in
     let w = j .load .result in
     let x = k .load2 .result in
     let h = p .e * 2 ^ 64 + p .d in
@@ -52,28 +52,28 @@ returns c =
     let known-r = c .before .before .struct-known3 .given in
     let one : run (three (q .a) (q .b) (bitXor (q .c) h)) (drop (p .at + 8) s) ≡ run (three (p .a) (p .b) (h * 2 ^ 64 + p .c)) (drop (p .at) s) =
     fold-at 192 (three (p .a) (p .b) (h * 2 ^ 64 + p .c)) (three (q .a) (q .b) (bitXor (q .c) h)) w (p .at) s (omega arith) (j .load .ensures)
-    (near-under (p .a) (p .b) (p .c) w h (omega arith) (omega arith) (omega arith) (omega arith) (q .a) (q .b) (q .c) (omega arith) (omega arith) (m .fold-near .ensures)) in
+    (into-three-under (p .a) (p .b) (p .c) w h (omega arith) (omega arith) (omega arith) (omega arith) (q .a) (q .b) (q .c) (omega arith) (omega arith) (m .fold-into-three .ensures)) in
     let two : run (three (r .a) (r .b) (bitXor (r .c) (p .e))) (drop (p .at + 8 + 8) s) ≡ run (three (q .a) (q .b) (p .e * 2 ^ 64 + bitXor (q .c) (p .d))) (drop (p .at + 8) s) =
     fold-at 192 (three (q .a) (q .b) (p .e * 2 ^ 64 + bitXor (q .c) (p .d))) (three (r .a) (r .b) (bitXor (r .c) (p .e))) x (p .at + 8) s (omega arith) (k .load2 .ensures)
-    (near-under (q .a) (q .b) (bitXor (q .c) (p .d)) x (p .e) (omega arith) (omega arith) (xor-lt 64 (q .c) (p .d) (omega arith) (omega arith)) (omega arith) (r .a) (r .b) (r .c) (omega arith) (omega arith) (n .fold-near2 .ensures)) in
+    (into-three-under (q .a) (q .b) (bitXor (q .c) (p .d)) x (p .e) (omega arith) (omega arith) (xor-lt 64 (q .c) (p .d) (omega arith) (omega arith)) (omega arith) (r .a) (r .b) (r .c) (omega arith) (omega arith) (n .fold-into-three2 .ensures)) in
     let f : p .at + 16 + 24 ≡ p .at + 40 = omega arith in
     let g : p .at + 8 + 8 ≡ p .at + 16 = omega arith in
-    ap (λ (i : ℕ). run (c .close-near .result) (drop i s)) (sym f)
-    ∙ c .close-near .ensures
+    ap (λ (i : ℕ). run (c .close-three .result) (drop i s)) (sym f)
+    ∙ c .close-three .ensures
     ∙ ap (λ (i : ℕ). run (three (r .a) (r .b) (bitXor (r .c) (p .e))) (drop i s)) (sym g)
     ∙ two
     ∙ ap (λ (v : ℕ). run (three (q .a) (q .b) v) (drop (p .at + 8) s)) (sym (above-low (q .c) (p .d) (p .e) (omega arith) (omega arith)))
     ∙ one
 
-pub close-far-spec : {M : Type 1} → statement M
-close-far-spec =
+pub close-five-spec : {M : Type 1} → statement M
+close-five-spec =
     tie.close
     (tie.spec
     load-requires
-    fold-near-requires
+    fold-into-three-requires
     add-load
     load-requires-2
-    fold-near-requires-2
+    fold-into-three-requires-2
     add-t11
-    close-near-requires
+    close-three-requires
     returns)
