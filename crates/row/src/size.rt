@@ -61,7 +61,7 @@ fn special_from(v: &[u8], from: usize) -> bool
 }
 
 // The end of the bytes from i on that are tested at once, at most 32.
-fn near(len: usize, i: usize) -> usize
+fn search_end(len: usize, i: usize) -> usize
     requires { ⌜ i ≤ len ⌝ }
     ensures { λ r. ⌜ r ≡ i + min searched (len - i) ⌝ }
 {
@@ -81,7 +81,7 @@ fn any_special(v: &[u8]) -> bool
     }
     let mut i: usize = 0;
     while i < v.len() {
-        let end = near(v.len(), i);
+        let end = search_end(v.len(), i);
         if some_special(&v[i..end]) {
             return true;
         }

@@ -52,7 +52,7 @@ fn put_each(v: &[u8], out: &mut [u8], to: usize) -> usize
     n
 }
 
-fn quote_place(byte: u8, i: u8, none: u8) -> u8
+fn quote_index(byte: u8, i: u8, none: u8) -> u8
     ensures { λ r. ⌜ r ≡ pick (eqb byte quote) i none ⌝ }
 {
     if byte == QUOTE { i } else { none }
@@ -73,7 +73,7 @@ fn first_quote(v: &[u8]) -> u8
     let mut n = none;
     let mut i: usize = 0;
     while i < v.len() {
-        n = least(quote_place(v[i], i as u8, none), n);
+        n = least(quote_index(v[i], i as u8, none), n);
         i += 1;
     }
     n
@@ -168,7 +168,7 @@ struct Put {
 }
 
 // Copies a value with few quotes to out, quotes doubled: by blocks, then from quote to quote.
-fn put_few(v: &[u8], size: usize, out: &mut [u8], to: usize)
+fn put_blocks_then_runs(v: &[u8], size: usize, out: &mut [u8], to: usize)
     requires { ⌜ (size ≡ length (doubled (now v))) × (to + size ≤ length (now out)) ⌝ }
     ensures { λ _. ⌜ now (out .exit) ≡ sets (now (out .entry)) to (doubled (now (v .entry))) ⌝ }
 {
@@ -187,7 +187,7 @@ fn put_inner(v: &[u8], size: usize, out: &mut [u8], to: usize)
         return;
     }
     if size - v.len() < v.len() / FEW_QUOTES {
-        put_few(v, size, out, to);
+        put_blocks_then_runs(v, size, out, to);
         return;
     }
     put_each(v, out, to);

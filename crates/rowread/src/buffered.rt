@@ -16,7 +16,7 @@ use crate::line::copy_before;
 use crate::scan::Piece;
 use crate::scan::Scan;
 use crate::scan::byte_at;
-use crate::scan::count_few;
+use crate::scan::count_in_block;
 use crate::scan::delimiter_from;
 use crate::scan::end_within;
 use crate::scan::has_few_quotes;
@@ -261,7 +261,7 @@ fn ends_soon(t: &[u8], from: usize) -> bool
         return true;
     }
     let end = from + LF_WITHIN;
-    count_few(&t[from..end], LF) != 0
+    count_in_block(&t[from..end], LF) != 0
 }
 
 // Reads a row of `width` values with a buffer; n values without quotes are before e.

@@ -17,7 +17,7 @@ use csv::LF;
 use csv::QUOTE;
 
 // How many of at most 64 bytes are commas.
-fn count_few_commas(v: &[u8]) -> u8
+fn count_commas_in_block(v: &[u8]) -> u8
     requires { ⌜ length (now v) ≤ atOnce ⌝ }
     ensures { λ r. ⌜ r ≡ commasIn (now (v .entry)) ⌝ }
 {
@@ -41,10 +41,10 @@ pub(crate) fn count_commas(v: &[u8]) -> usize
     let mut i: usize = 0;
     while AT_ONCE <= v.len() - i {
         let end = i + AT_ONCE;
-        n += count_few_commas(&v[i..end]) as usize;
+        n += count_commas_in_block(&v[i..end]) as usize;
         i = end;
     }
-    n + count_few_commas(&v[i..v.len()]) as usize
+    n + count_commas_in_block(&v[i..v.len()]) as usize
 }
 
 // Copies the values of bytes without quotes to out, and the ends of those that a comma follows; gives how many bytes they have.

@@ -113,7 +113,7 @@ pub(crate) fn delimiter_from(t: &[u8], from: usize) -> usize
 }
 
 // How many of at most 64 bytes are b; the contract only bounds it.
-pub(crate) fn count_few(v: &[u8], b: u8) -> u8
+pub(crate) fn count_in_block(v: &[u8], b: u8) -> u8
     requires { ⌜ length (now v) ≤ atOnce ⌝ }
     ensures { λ r. ⌜ r ≤ length (now (v .entry)) ⌝ }
 {
@@ -136,7 +136,7 @@ pub(crate) fn has_few_quotes(t: &[u8], from: usize) -> bool
         return false;
     }
     let end = from + WITHOUT_QUOTE;
-    count_few(&t[from..end], QUOTE) == 0
+    count_in_block(&t[from..end], QUOTE) == 0
 }
 
 // The value after an opening quote, byte by byte.

@@ -25,41 +25,41 @@ returns c = c .special-from .ensures
 loop-holds : tie.Need-loop-holds Inv-loop μ-loop
 loop-holds c = (omega arith, refl)
 
-near-requires : tie.Need-near-requires Inv-loop μ-loop
-near-requires c κs = search needs
+search-end-requires : tie.Need-search-end-requires Inv-loop μ-loop
+search-end-requires c κs = search needs
 
 sub-some-special : tie.Need-sub-some-special Inv-loop μ-loop
-sub-some-special c = omega (arith, c .near .ensures)
+sub-some-special c = omega (arith, c .search-end .ensures)
 
 part-some-special-start : tie.Need-part-some-special-start Inv-loop μ-loop
-part-some-special-start c = omega (arith, c .near .ensures)
+part-some-special-start c = omega (arith, c .search-end .ensures)
 
 part-some-special-end : tie.Need-part-some-special-end Inv-loop μ-loop
-part-some-special-end c = omega (arith, c .near .ensures, c .before .before .loop .inv .0)
+part-some-special-end c = omega (arith, c .search-end .ensures, c .before .before .loop .inv .0)
 
 some-special-requires : tie.Need-some-special-requires Inv-loop μ-loop
 some-special-requires c κs =
     let l = c .before .before .before .loop in
     let v = c .before .before .before .before .before .before .args .v .now in
-    let e = c .before .near .result in
-    omega (arith, c .before .near .ensures, length-take (e - l .i) (drop (l .i) v))
+    let e = c .before .search-end .result in
+    omega (arith, c .before .search-end .ensures, length-take (e - l .i) (drop (l .i) v))
 
 returns-2 : tie.Need-returns-2 Inv-loop μ-loop
 returns-2 c =
     let l = c .before .before .before .before .before .loop in
     let v = c .before .before .before .before .before .before .before .before .args .v .now in
-    let e = c .before .before .before .near .result in
+    let e = c .before .before .before .search-end .result in
     chunk-yes v (l .i) (e - l .i) (sym (c .before .some-special .ensures) ∙ c .if2 .taken) ∙ sym (l .inv .1)
 
 loop-less : tie.Need-loop-less Inv-loop μ-loop
-loop-less c = omega (arith, c .before .before .before .near .ensures, c .before .before .before .before .loop-test .taken)
+loop-less c = omega (arith, c .before .before .before .search-end .ensures, c .before .before .before .before .loop-test .taken)
 
 loop-again : tie.Need-loop-again Inv-loop μ-loop
 loop-again c =
     let l = c .before .before .before .before .before .loop in
     let v = c .before .before .before .before .before .before .before .before .args .v .now in
-    let e = c .before .before .before .near .result in
-    let n = c .before .before .before .near .ensures in
+    let e = c .before .before .before .search-end .result in
+    let n = c .before .before .before .search-end .ensures in
     (omega (arith, n, l .inv .0), l .inv .1 ∙ chunk-no v (l .i) e (omega (arith, n)) (sym (c .before .some-special .ensures) ∙ c .if2 .left))
 
 returns-3 : tie.Need-returns-3 Inv-loop μ-loop
@@ -76,7 +76,7 @@ any-special-spec =
     special-from-requires
     returns
     loop-holds
-    near-requires
+    search-end-requires
     sub-some-special
     part-some-special-start
     part-some-special-end

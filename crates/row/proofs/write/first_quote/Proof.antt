@@ -20,14 +20,14 @@ cast-none c = search needs
 loop-holds : tie.Need-loop-holds Inv-loop μ-loop
 loop-holds c = (omega arith, least-start (c .before .args .v .now))
 
-shared-slice-read-quote-place : tie.Need-shared-slice-read-quote-place Inv-loop μ-loop
-shared-slice-read-quote-place c = search needs
+shared-slice-read-quote-index : tie.Need-shared-slice-read-quote-index Inv-loop μ-loop
+shared-slice-read-quote-index c = search needs
 
-cast-quote-place : tie.Need-cast-quote-place Inv-loop μ-loop
-cast-quote-place c = search needs
+cast-quote-index : tie.Need-cast-quote-index Inv-loop μ-loop
+cast-quote-index c = search needs
 
-quote-place-requires : tie.Need-quote-place-requires Inv-loop μ-loop
-quote-place-requires c κs = search needs
+quote-index-requires : tie.Need-quote-index-requires Inv-loop μ-loop
+quote-index-requires c κs = search needs
 
 least-requires : tie.Need-least-requires Inv-loop μ-loop
 least-requires c κs = search needs
@@ -43,7 +43,7 @@ loop-again c =
     let l = c .before .before .before .before .loop in
     let s = c .before .before .before .before .before .before in
     let v = s .args .v .now in
-    let e = c .least .ensures ∙ ap (λ (x : ℕ). min x (l .n)) (c .before .quote-place .ensures) in
+    let e = c .least .ensures ∙ ap (λ (x : ℕ). min x (l .n)) (c .before .quote-index .ensures) in
     (omega arith, least-turn v (l .i) (l .n) _ (search needs) e (l .inv .1))
 
 returns : tie.Need-returns Inv-loop μ-loop
@@ -59,9 +59,9 @@ first-quote-spec =
     μ-loop
     cast-none
     loop-holds
-    shared-slice-read-quote-place
-    cast-quote-place
-    quote-place-requires
+    shared-slice-read-quote-index
+    cast-quote-index
+    quote-index-requires
     least-requires
     add-i
     loop-less

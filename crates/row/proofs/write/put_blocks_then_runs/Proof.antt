@@ -9,8 +9,8 @@ use Rattle.csv.specs.Write.{doubled}
 use Rattle.row.proofs.Laws.{rest-is}
 use Rattle.row.proofs.Blocks.{blocks-end}
 use borrow.Author.Needs.{needs}
-use Rattle.row.proofs.write.put_few.Statement.{statement}
-use Rattle.row.proofs.write.put_few.Tie as tie
+use Rattle.row.proofs.write.put_blocks_then_runs.Statement.{statement}
+use Rattle.row.proofs.write.put_blocks_then_runs.Tie as tie
 
 put-blocks-requires : tie.Need-put-blocks-requires
 put-blocks-requires c κs = search needs
@@ -51,8 +51,8 @@ returns c =
     let r = b .result in
     blocks-end v _ _ _ (r .bytes) (r .to) (c .before .before .put-runs .ensures) (b .ensures .2)
 
-pub put-few-spec : {M : Type 1} → statement M
-put-few-spec =
+pub put-blocks-then-runs-spec : {M : Type 1} → statement M
+put-blocks-then-runs-spec =
     tie.close
     (tie.spec
     put-blocks-requires

@@ -22,8 +22,8 @@ returns c =
 sub-if2 : tie.Need-sub-if2
 sub-if2 c = omega (arith, c .before .before .before .pre .0, doubled-less (c .before .before .before .args .v .now))
 
-put-few-requires : tie.Need-put-few-requires
-put-few-requires c κs = search needs
+put-blocks-then-runs-requires : tie.Need-put-blocks-then-runs-requires
+put-blocks-then-runs-requires c κs = search needs
 
 same-length-2 : tie.Need-same-length-2
 same-length-2 c = search needs
@@ -48,7 +48,7 @@ put-inner-spec =
     same-length
     returns
     sub-if2
-    put-few-requires
+    put-blocks-then-runs-requires
     same-length-2
     returns-2
     put-each-requires

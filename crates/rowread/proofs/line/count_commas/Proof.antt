@@ -24,17 +24,17 @@ sub-loop c = search needs
 add-end : tie.Need-add-end Inv-loop μ-loop
 add-end c = search needs
 
-sub-count-few-commas : tie.Need-sub-count-few-commas Inv-loop μ-loop
-sub-count-few-commas c = search needs
+sub-count-commas-in-block : tie.Need-sub-count-commas-in-block Inv-loop μ-loop
+sub-count-commas-in-block c = search needs
 
-part-count-few-commas-start : tie.Need-part-count-few-commas-start Inv-loop μ-loop
-part-count-few-commas-start c = search needs
+part-count-commas-in-block-start : tie.Need-part-count-commas-in-block-start Inv-loop μ-loop
+part-count-commas-in-block-start c = search needs
 
-part-count-few-commas-end : tie.Need-part-count-few-commas-end Inv-loop μ-loop
-part-count-few-commas-end c = search needs
+part-count-commas-in-block-end : tie.Need-part-count-commas-in-block-end Inv-loop μ-loop
+part-count-commas-in-block-end c = search needs
 
-count-few-commas-requires : tie.Need-count-few-commas-requires Inv-loop μ-loop
-count-few-commas-requires c κs =
+count-commas-in-block-requires : tie.Need-count-commas-in-block-requires Inv-loop μ-loop
+count-commas-in-block-requires c κs =
     let l = c .before .before .loop in
     let v = c .before .before .before .before .args .v .now in
     part-length v (l .i) 64
@@ -47,7 +47,7 @@ add-n c =
     let l = c .before .before .before .loop in
     let s = c .before .before .before .before .before in
     let v = s .args .v .now in
-    omega (arith, s .pre, text-size v, commas-turn v (l .i) (l .n) _ (c .count-few-commas .ensures) (l .inv .1))
+    omega (arith, s .pre, text-size v, commas-turn v (l .i) (l .n) _ (c .count-commas-in-block .ensures) (l .inv .1))
 
 loop-less : tie.Need-loop-less Inv-loop μ-loop
 loop-less c = omega arith
@@ -56,19 +56,19 @@ loop-again : tie.Need-loop-again Inv-loop μ-loop
 loop-again c =
     let l = c .before .before .before .loop in
     let v = c .before .before .before .before .before .args .v .now in
-    (omega arith, commas-turn v (l .i) (l .n) _ (c .count-few-commas .ensures) (l .inv .1))
+    (omega arith, commas-turn v (l .i) (l .n) _ (c .count-commas-in-block .ensures) (l .inv .1))
 
-sub-count-few-commas-2 : tie.Need-sub-count-few-commas-2 Inv-loop μ-loop
-sub-count-few-commas-2 c = search needs
+sub-count-commas-in-block-2 : tie.Need-sub-count-commas-in-block-2 Inv-loop μ-loop
+sub-count-commas-in-block-2 c = search needs
 
-part-count-few-commas-start-2 : tie.Need-part-count-few-commas-start-2 Inv-loop μ-loop
-part-count-few-commas-start-2 c = search needs
+part-count-commas-in-block-start-2 : tie.Need-part-count-commas-in-block-start-2 Inv-loop μ-loop
+part-count-commas-in-block-start-2 c = search needs
 
-part-count-few-commas-end-2 : tie.Need-part-count-few-commas-end-2 Inv-loop μ-loop
-part-count-few-commas-end-2 c = search needs
+part-count-commas-in-block-end-2 : tie.Need-part-count-commas-in-block-end-2 Inv-loop μ-loop
+part-count-commas-in-block-end-2 c = search needs
 
-count-few-commas-requires-2 : tie.Need-count-few-commas-requires-2 Inv-loop μ-loop
-count-few-commas-requires-2 c κs =
+count-commas-in-block-requires-2 : tie.Need-count-commas-in-block-requires-2 Inv-loop μ-loop
+count-commas-in-block-requires-2 c κs =
     let l = c .before .before .loop in
     let v = c .before .before .before .before .args .v .now in
     omega (arith, length-take (length v - l .i) (drop (l .i) v), length-drop (l .i) v, c .before .loop-test .left)
@@ -81,13 +81,13 @@ add-result c =
     let l = c .before .before .before .loop in
     let s = c .before .before .before .before .before in
     let v = s .args .v .now in
-    omega (arith, s .pre, text-size v, commas-end v (l .i) (l .n) _ (c .count-few-commas2 .ensures) (l .inv .1))
+    omega (arith, s .pre, text-size v, commas-end v (l .i) (l .n) _ (c .count-commas-in-block2 .ensures) (l .inv .1))
 
 returns : tie.Need-returns Inv-loop μ-loop
 returns c =
     let l = c .before .before .before .loop in
     let v = c .before .before .before .before .before .args .v .now in
-    commas-end v (l .i) (l .n) _ (c .count-few-commas2 .ensures) (l .inv .1)
+    commas-end v (l .i) (l .n) _ (c .count-commas-in-block2 .ensures) (l .inv .1)
 
 pub count-commas-spec : {M : Type 1} → statement M
 count-commas-spec =
@@ -98,18 +98,18 @@ count-commas-spec =
     loop-holds
     sub-loop
     add-end
-    sub-count-few-commas
-    part-count-few-commas-start
-    part-count-few-commas-end
-    count-few-commas-requires
+    sub-count-commas-in-block
+    part-count-commas-in-block-start
+    part-count-commas-in-block-end
+    count-commas-in-block-requires
     cast-n
     add-n
     loop-less
     loop-again
-    sub-count-few-commas-2
-    part-count-few-commas-start-2
-    part-count-few-commas-end-2
-    count-few-commas-requires-2
+    sub-count-commas-in-block-2
+    part-count-commas-in-block-start-2
+    part-count-commas-in-block-end-2
+    count-commas-in-block-requires-2
     cast-result
     add-result
     returns)

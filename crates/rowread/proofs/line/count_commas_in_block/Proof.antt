@@ -7,8 +7,8 @@ use lib.ListN.{length, drop}
 use Rattle.rowread.specs.Steps.{commasIn}
 use Rattle.rowread.proofs.Lines.{comma-yes, comma-no, comma-out}
 use borrow.Author.Needs.{needs}
-use Rattle.rowread.proofs.line.count_few_commas.Statement.{statement}
-use Rattle.rowread.proofs.line.count_few_commas.Tie as tie
+use Rattle.rowread.proofs.line.count_commas_in_block.Statement.{statement}
+use Rattle.rowread.proofs.line.count_commas_in_block.Tie as tie
 
 abbrev Inv-loop : tie.InvT-loop
 Inv-loop v n₀ i₀ n i = (i ≤ length v) × (n ≤ i) × (n + commasIn (drop i v) ≡ commasIn v)
@@ -45,8 +45,8 @@ returns c =
     let l = c .before .loop in
     omega (arith, l .inv .2, comma-out (c .before .before .args .v .now) (l .i) (search needs))
 
-pub count-few-commas-spec : {M : Type 1} → statement M
-count-few-commas-spec =
+pub count-commas-in-block-spec : {M : Type 1} → statement M
+count-commas-in-block-spec =
     tie.close
     (tie.spec
     Inv-loop

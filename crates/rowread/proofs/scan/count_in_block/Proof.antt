@@ -4,8 +4,8 @@ use Prim.Native.Nat.{_≤_, _-_}
 use native.Mathlib.Omega.{arith}
 use lib.ListN.{length}
 use borrow.Author.Needs.{needs}
-use Rattle.rowread.proofs.scan.count_few.Statement.{statement}
-use Rattle.rowread.proofs.scan.count_few.Tie as tie
+use Rattle.rowread.proofs.scan.count_in_block.Statement.{statement}
+use Rattle.rowread.proofs.scan.count_in_block.Tie as tie
 
 abbrev Inv-loop : tie.InvT-loop
 Inv-loop v b n₀ i₀ n i = (i ≤ length v) × (n ≤ i)
@@ -34,8 +34,8 @@ loop-again c = ⊎-elim (λ w. (omega arith, omega arith)) (λ w. (omega arith, 
 returns : tie.Need-returns Inv-loop μ-loop
 returns c = omega (arith, c .before .loop .inv .0, c .before .loop .inv .1)
 
-pub count-few-spec : {M : Type 1} → statement M
-count-few-spec =
+pub count-in-block-spec : {M : Type 1} → statement M
+count-in-block-spec =
     tie.close
     (tie.spec
     Inv-loop
