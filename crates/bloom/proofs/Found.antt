@@ -9,7 +9,7 @@ use borrow.Author.Tests.{leb-true}
 use lib.Dec.{leb}
 use lib.ListN.{length}
 use Rattle.base.proofs.Bools.{and-left}
-use Rattle.bloom.specs.Bloom.{hashOf, position, positions, placesOf, isSet, fits, query, insertAnswer, inserted, setAll}
+use Rattle.bloom.specs.Bloom.{hashOf, position, positions, positionsOf, isSet, fits, query, insertAnswer, inserted, setAll}
 use Rattle.bloom.specs.Claims.{Found, ClearsNone, SetsOnlyFour, SameLength, AnswersAsQuery}
 use Rattle.bloom.proofs.Sums.{within, differ}
 use Rattle.bloom.proofs.Runs.{length-all, kept-all, other-all, found-all, seen-all, None, Distinct}
@@ -20,7 +20,7 @@ some n h = leb-true 1 n (and-left (leb 1 n) (leb n 65536) h)
 pub found : Found
 unfolding query inserted
 found bits id h =
-    let ps = placesOf bits id in
+    let ps = positionsOf bits id in
     let l : length (setAll bits ps) ≡ length bits = length-all ps bits in
     let f = found-all ps bits (within (hashOf id) (length bits) (some (length bits) h)) in
     rw (h, l, h, f)
@@ -28,17 +28,17 @@ found bits id h =
 module _ (bits id : List ℕ) where
   left : (t : Bool) → fits (length bits) ≡ t → (p : ℕ) → isSet bits p ≡ true → isSet (inserted bits id) p ≡ true
   unfolding inserted
-  left true e p h = rw e (kept-all (placesOf bits id) bits p h)
+  left true e p h = rw e (kept-all (positionsOf bits id) bits p h)
   left false e p h = rw e h
 
-  only : (t : Bool) → fits (length bits) ≡ t → (p : ℕ) → None p (placesOf bits id) → isSet (inserted bits id) p ≡ isSet bits p
+  only : (t : Bool) → fits (length bits) ≡ t → (p : ℕ) → None p (positionsOf bits id) → isSet (inserted bits id) p ≡ isSet bits p
   unfolding inserted
-  only true e p h = rw e (other-all (placesOf bits id) bits p h)
+  only true e p h = rw e (other-all (positionsOf bits id) bits p h)
   only false e p h = rw e
 
   long : (t : Bool) → fits (length bits) ≡ t → length (inserted bits id) ≡ length bits
   unfolding inserted
-  long true e = rw e (length-all (placesOf bits id) bits)
+  long true e = rw e (length-all (positionsOf bits id) bits)
   long false e = rw e
 
 pub clears-none : ClearsNone
@@ -64,4 +64,4 @@ distinct hash n =
 
 pub answers-as-query : AnswersAsQuery
 unfolding query insertAnswer
-answers-as-query bits id = rw (seen-all (placesOf bits id) bits (distinct (hashOf id) (length bits)))
+answers-as-query bits id = rw (seen-all (positionsOf bits id) bits (distinct (hashOf id) (length bits)))

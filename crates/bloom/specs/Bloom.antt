@@ -68,16 +68,16 @@ answer true = Present
 answer false = Absent
 
 -- the four positions of a trip id in a filter
-abbrev pub placesOf : List ℕ → List ℕ → List ℕ
-placesOf bits id = positions (hashOf id) (length bits)
+abbrev pub positionsOf : List ℕ → List ℕ → List ℕ
+positionsOf bits id = positions (hashOf id) (length bits)
 
 -- what a query answers
 unfoldable pub query : List ℕ → List ℕ → Filter
-query bits id = pick (fits (length bits)) (answer (allSet bits (placesOf bits id))) (Refused Argument)
+query bits id = pick (fits (length bits)) (answer (allSet bits (positionsOf bits id))) (Refused Argument)
 
 -- what an insertion answers, and the filter that it leaves
 unfoldable pub insertAnswer : List ℕ → List ℕ → Filter
-insertAnswer bits id = pick (fits (length bits)) (answer (seen bits (placesOf bits id))) (Refused Argument)
+insertAnswer bits id = pick (fits (length bits)) (answer (seen bits (positionsOf bits id))) (Refused Argument)
 
 unfoldable pub inserted : List ℕ → List ℕ → List ℕ
-inserted bits id = pick (fits (length bits)) (setAll bits (placesOf bits id)) bits
+inserted bits id = pick (fits (length bits)) (setAll bits (positionsOf bits id)) bits

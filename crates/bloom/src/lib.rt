@@ -38,7 +38,7 @@ fn step_of(hash: u32) -> u32
 }
 
 // A sum modulo the filter's number of bits.
-fn place(sum: u32, bytes: usize) -> u32
+fn position_in(sum: u32, bytes: usize) -> u32
     requires { ⌜ (0 < bytes) × (bytes ≤ maxFilter) ⌝ }
     ensures { λ r. ⌜ (r ≡ sum % (byteBits * bytes)) × (r / byteBits < bytes) ⌝ }
 {
@@ -54,10 +54,10 @@ fn positions(hash: u32, bytes: usize) -> Four
     let third = std::num::wrapping_add_u32(second, step);
     let fourth = std::num::wrapping_add_u32(third, step);
     Four {
-        a: place(hash, bytes),
-        b: place(second, bytes),
-        c: place(third, bytes),
-        d: place(fourth, bytes),
+        a: position_in(hash, bytes),
+        b: position_in(second, bytes),
+        c: position_in(third, bytes),
+        d: position_in(fourth, bytes),
     }
 }
 

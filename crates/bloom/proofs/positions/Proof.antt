@@ -16,17 +16,17 @@ wrapping-add-u32-requires-2 c κs = search needs
 wrapping-add-u32-requires-3 : tie.Need-wrapping-add-u32-requires-3
 wrapping-add-u32-requires-3 c κs = search needs
 
-place-requires : tie.Need-place-requires
-place-requires c κs = search needs
+position-in-requires : tie.Need-position-in-requires
+position-in-requires c κs = search needs
 
-place-requires-2 : tie.Need-place-requires-2
-place-requires-2 c κs = search needs
+position-in-requires-2 : tie.Need-position-in-requires-2
+position-in-requires-2 c κs = search needs
 
-place-requires-3 : tie.Need-place-requires-3
-place-requires-3 c κs = search needs
+position-in-requires-3 : tie.Need-position-in-requires-3
+position-in-requires-3 c κs = search needs
 
-place-requires-4 : tie.Need-place-requires-4
-place-requires-4 c κs = search needs
+position-in-requires-4 : tie.Need-position-in-requires-4
+position-in-requires-4 c κs = search needs
 
 returns : tie.Need-returns
 returns c =
@@ -35,10 +35,10 @@ returns c =
     let x = c .before .before .before .before .before .before .wrapping-add-u32 in
     let y = c .before .before .before .before .before .wrapping-add-u322 in
     let z = c .before .before .before .before .wrapping-add-u323 in
-    let p = c .before .before .before .place in
-    let q = c .before .before .place2 in
-    let u = c .before .place3 in
-    let v = c .place4 in (
+    let p = c .before .before .before .position-in in
+    let q = c .before .before .position-in2 in
+    let u = c .before .position-in3 in
+    let v = c .position-in4 in (
       summed (a .hash) (a .bytes) (s .result) (s .ensures) (x .result) (y .result) (z .result) (p .result) (q .result) (u .result) (v .result)
           (search needs)
           (x .ensures)
@@ -59,8 +59,8 @@ positions-spec =
     wrapping-add-u32-requires
     wrapping-add-u32-requires-2
     wrapping-add-u32-requires-3
-    place-requires
-    place-requires-2
-    place-requires-3
-    place-requires-4
+    position-in-requires
+    position-in-requires-2
+    position-in-requires-3
+    position-in-requires-4
     returns)

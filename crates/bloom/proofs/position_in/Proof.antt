@@ -1,8 +1,8 @@
 use mathlib.Core.Path.{refl}
 use Rattle.bloom.proofs.Sums.{in-filter}
 use borrow.Author.Needs.{needs}
-use Rattle.bloom.proofs.place.Statement.{statement}
-use Rattle.bloom.proofs.place.Tie as tie
+use Rattle.bloom.proofs.position_in.Statement.{statement}
+use Rattle.bloom.proofs.position_in.Tie as tie
 
 mul-result : tie.Need-mul-result
 mul-result c = search needs
@@ -16,5 +16,5 @@ rem-result c = search needs
 returns : tie.Need-returns
 returns c = (refl, in-filter (c .args .sum) (c .args .bytes) (c .pre .0))
 
-pub place-spec : {M : Type 1} → statement M
-place-spec = tie.close (tie.spec mul-result cast-result rem-result returns)
+pub position-in-spec : {M : Type 1} → statement M
+position-in-spec = tie.close (tie.spec mul-result cast-result rem-result returns)
