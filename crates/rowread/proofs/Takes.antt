@@ -23,7 +23,7 @@ use Rattle.rowread.specs.declared.scan.Scan.the-variants.{Whole, Broken}
 use Rattle.rowread.specs.declared.fast.Fast.{Fast}
 use Rattle.rowread.specs.declared.fast.Fast.the-variants.{Read, Not}
 use Rattle.rowread.specs.Stored.{joined, endsOf}
-use Rattle.rowread.specs.Steps.{isStop, lineOf, anyStop, textIn, cutsIn, Opens, Closes, Into, Took, Holds, TookRow, Within, Handed, Quickly}
+use Rattle.rowread.specs.Steps.{isStop, lineOf, anyStop, textIn, cutsIn, Opens, Closes, Into, ValueRead, Holds, RowRead, Within, Handed, Quickly}
 use Rattle.rowread.proofs.Laws.{past, plain-size, field-plain}
 use Rattle.rowread.proofs.Lines.{neither, no-quote, line-clean, stop-inside, run-split, run-part, more-of, before, front-part}
 use Rattle.rowread.proofs.Calls.{length-ends}
@@ -114,9 +114,9 @@ quoted {t} {from} e i =
       bytes = i .bytes;
     }
 
-pub quoted-took : (t : List ℕ) (from : ℕ) (out : List ℕ) (to : ℕ) (o : List ℕ) (p : Piece) → getD t from 0 ≡ quote → Took Inner t (from + 1) out to o p → Took Field t from out to o p
-quoted-took t from out to o (Value next size) e i = quoted e i
-quoted-took t from out to o Bad e i = tt
+pub quoted-read-value : (t : List ℕ) (from : ℕ) (out : List ℕ) (to : ℕ) (o : List ℕ) (p : Piece) → getD t from 0 ≡ quote → ValueRead Inner t (from + 1) out to o p → ValueRead Field t from out to o p
+quoted-read-value t from out to o (Value next size) e i = quoted e i
+quoted-read-value t from out to o Bad e i = tt
 
 pub plain-into : (t : List ℕ) (from : ℕ) (out : List ℕ) (to : ℕ) (o : List ℕ) (next size : ℕ) → from ≤ length t → (getD t from 0 ≡ quote → ⊥) → o ≡ sets out to (plainValue (drop from t))
     → next ≡ from + length (plainValue (drop from t)) → size ≡ length (plainValue (drop from t)) → Into Field t from out to o next size
@@ -204,9 +204,9 @@ module _ (t : List ℕ) (e n : ℕ) (h : Opens t e n) (out ends o s : List ℕ) 
         marks = w .marks ∙ rw (y, f, b .marks, ends-append 0 (b .values) (w .values), k, sets-append ends 0 (endsOf 0 (b .values)) (endsOf to (w .values)), l);
       }
 
-  pub took-before : (width : ℕ) (p q : List ℕ) (scan : Scan) → TookRow t e to n width o s p q scan → TookRow t 0 0 0 width out ends p q scan
-  took-before width p q (Whole next size) w = holds-before w
-  took-before width p q Broken w = tt
+  pub read-value-before : (width : ℕ) (p q : List ℕ) (scan : Scan) → RowRead t e to n width o s p q scan → RowRead t 0 0 0 width out ends p q scan
+  read-value-before width p q (Whole next size) w = holds-before w
+  read-value-before width p q Broken w = tt
 
   -- from there on: one quoted value with no delimiter inside
   pub quote-before : (c size : ℕ) (p : List ℕ) → getD t e 0 ≡ quote → Closes t e c → size ≡ to + (c - (e + 1)) → p ≡ sets o to (take (c - (e + 1)) (drop (e + 1) t)) → size ≤ length out → n < length ends
@@ -221,7 +221,7 @@ module _ (t : List ℕ) (e n : ℕ) (h : Opens t e n) (out ends o s : List ℕ) 
 take-sets : (l v : List ℕ) (n : ℕ) → n ≡ length v → n ≤ length l → take n (sets l 0 v) ≡ v
 take-sets l v n e h = rw (sets-eq v l 0 (omega arith)) (take-at v (drop (0 + length v) l) n (sym e))
 
-pub handed : (t : List ℕ) (width : ℕ) (buffer marks r m out ends o s : List ℕ) (scan : Scan) (q : Fast) → TookRow t 0 0 0 width buffer marks r m scan → Handed scan width r m out ends o s q → Quickly t width out ends o s q
+pub handed : (t : List ℕ) (width : ℕ) (buffer marks r m out ends o s : List ℕ) (scan : Scan) (q : Fast) → RowRead t 0 0 0 width buffer marks r m scan → Handed scan width r m out ends o s q → Quickly t width out ends o s q
 handed t width buffer marks r m out ends o s scan Not x h = h
 handed t width buffer marks r m out ends o s scan (Read next size) x h =
     let y : Holds t 0 0 0 width buffer marks r m next size = rw (h .0) at x in
@@ -238,9 +238,9 @@ handed t width buffer marks r m out ends o s scan (Read next size) x h =
     }
 
 -- what was scanned is in the buffer
-pub took-within : (t : List ℕ) (width : ℕ) (buffer marks r m : List ℕ) (scan : Scan) → TookRow t 0 0 0 width buffer marks r m scan → length r ≡ length buffer → Within (length r) scan
-took-within t width buffer marks r m Broken x e = tt
-took-within t width buffer marks r m (Whole next size) x e = omega (arith, x .fits, e)
+pub read-value-within : (t : List ℕ) (width : ℕ) (buffer marks r m : List ℕ) (scan : Scan) → RowRead t 0 0 0 width buffer marks r m scan → length r ≡ length buffer → Within (length r) scan
+read-value-within t width buffer marks r m Broken x e = tt
+read-value-within t width buffer marks r m (Whole next size) x e = omega (arith, x .fits, e)
 
 -- a row of the first bytes is a row of all of them
 pub longer : (n : ℕ) (t : List ℕ) (width : ℕ) (out ends o s : List ℕ) (q : Fast) → Quickly (take n t) width out ends o s q → Quickly t width out ends o s q

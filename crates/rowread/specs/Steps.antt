@@ -117,9 +117,9 @@ pub record Into (Rule : List ℕ → List ℕ → List ℕ → Type 0) (t : List
   pub inside : next ≤ length t
   pub bytes : o ≡ sets out to value
 
-abbrev pub Took : (List ℕ → List ℕ → List ℕ → Type 0) → List ℕ → ℕ → List ℕ → ℕ → List ℕ → Piece → Type 0
-Took Rule t from out to o (Value next size) = Into Rule t from out to o next size
-Took Rule t from out to o Bad = Unit {0}
+abbrev pub ValueRead : (List ℕ → List ℕ → List ℕ → Type 0) → List ℕ → ℕ → List ℕ → ℕ → List ℕ → Piece → Type 0
+ValueRead Rule t from out to o (Value next size) = Into Rule t from out to o next size
+ValueRead Rule t from out to o Bad = Unit {0}
 
 -- the values of a row from an offset on, with k values before it, were put into out after `to` bytes, and their ends into `ends`
 pub record Holds (t : List ℕ) (from to k width : ℕ) (out ends o s : List ℕ) (next size : ℕ) : Type 0 where
@@ -133,9 +133,9 @@ pub record Holds (t : List ℕ) (from to k width : ℕ) (out ends o s : List ℕ
   pub bytes : o ≡ sets out to (joined values)
   pub marks : s ≡ sets ends k (endsOf to values)
 
-abbrev pub TookRow : List ℕ → ℕ → ℕ → ℕ → ℕ → List ℕ → List ℕ → List ℕ → List ℕ → Scan → Type 0
-TookRow t from to k width out ends o s (Whole next size) = Holds t from to k width out ends o s next size
-TookRow t from to k width out ends o s Broken = Unit {0}
+abbrev pub RowRead : List ℕ → ℕ → ℕ → ℕ → ℕ → List ℕ → List ℕ → List ℕ → List ℕ → Scan → Type 0
+RowRead t from to k width out ends o s (Whole next size) = Holds t from to k width out ends o s next size
+RowRead t from to k width out ends o s Broken = Unit {0}
 
 -- a fast path: the row was read, or nothing was written
 abbrev pub Quickly : List ℕ → ℕ → List ℕ → List ℕ → List ℕ → List ℕ → Fast → Type 0

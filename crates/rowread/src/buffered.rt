@@ -5,7 +5,7 @@ ghost use Prim.Native.Nat.{_+_, _-_, _≤_, _<_};
 ghost use lib.ListN.{length, take};
 ghost use lib.Seq.{sets};
 ghost use Rattle.csv.specs.Csv.{Inner, Field, maxColumns};
-ghost use Rattle.rowread.specs.Steps.{Opens, Took, TookRow, Within, Handed, Quickly, smallBuffer, largeBuffer};
+ghost use Rattle.rowread.specs.Steps.{Opens, ValueRead, RowRead, Within, Handed, Quickly, smallBuffer, largeBuffer};
 use crate::LARGE_BUFFER;
 use crate::LF_WITHIN;
 use crate::SMALL_BUFFER;
@@ -28,7 +28,7 @@ use csv::QUOTE;
 // Unquotes the value after an opening quote into the buffer `buffer`, byte by byte.
 fn buffer_bytes(t: &[u8], from: usize, buffer: &mut [u8], to: usize) -> Piece
     requires { ⌜ (from ≤ length (now t)) × (to + (length (now t) - from) ≤ length (now buffer)) ⌝ }
-    ensures { λ r. ⌜ Took Inner (now (t .entry)) from (now (buffer .entry)) to (now (buffer .exit)) r ⌝ }
+    ensures { λ r. ⌜ ValueRead Inner (now (t .entry)) from (now (buffer .entry)) to (now (buffer .exit)) r ⌝ }
 {
     let mut p = from;
     let mut n = to;
@@ -53,7 +53,7 @@ fn buffer_bytes(t: &[u8], from: usize, buffer: &mut [u8], to: usize) -> Piece
 // The same, from delimiter to delimiter.
 fn buffer_runs(t: &[u8], from: usize, buffer: &mut [u8], to: usize) -> Piece
     requires { ⌜ (from ≤ length (now t)) × (to + (length (now t) - from) ≤ length (now buffer)) ⌝ }
-    ensures { λ r. ⌜ Took Inner (now (t .entry)) from (now (buffer .entry)) to (now (buffer .exit)) r ⌝ }
+    ensures { λ r. ⌜ ValueRead Inner (now (t .entry)) from (now (buffer .entry)) to (now (buffer .exit)) r ⌝ }
 {
     let mut p = from;
     let mut n = to;
@@ -83,7 +83,7 @@ fn buffer_runs(t: &[u8], from: usize, buffer: &mut [u8], to: usize) -> Piece
 // Unquotes the value after an opening quote into `buffer`.
 fn buffer_inner(t: &[u8], from: usize, buffer: &mut [u8], to: usize) -> Piece
     requires { ⌜ (from ≤ length (now t)) × (to + (length (now t) - from) ≤ length (now buffer)) ⌝ }
-    ensures { λ r. ⌜ Took Inner (now (t .entry)) from (now (buffer .entry)) to (now (buffer .exit)) r ⌝ }
+    ensures { λ r. ⌜ ValueRead Inner (now (t .entry)) from (now (buffer .entry)) to (now (buffer .exit)) r ⌝ }
 {
     if has_few_quotes(t, from) {
         return buffer_runs(t, from, buffer, to);
@@ -94,7 +94,7 @@ fn buffer_inner(t: &[u8], from: usize, buffer: &mut [u8], to: usize) -> Piece
 // Copies the value at an offset into `buffer`, unquoted.
 fn buffer_field(t: &[u8], from: usize, buffer: &mut [u8], to: usize) -> Piece
     requires { ⌜ (from ≤ length (now t)) × (to + (length (now t) - from) ≤ length (now buffer)) ⌝ }
-    ensures { λ r. ⌜ Took Field (now (t .entry)) from (now (buffer .entry)) to (now (buffer .exit)) r ⌝ }
+    ensures { λ r. ⌜ ValueRead Field (now (t .entry)) from (now (buffer .entry)) to (now (buffer .exit)) r ⌝ }
 {
     if byte_at(t, from) == QUOTE {
         return buffer_inner(t, from + 1, buffer, to);
@@ -117,7 +117,7 @@ fn buffer_rest(
     marks: &mut [usize],
 ) -> Scan
     requires { ⌜ (size ≤ start) × (start ≤ length (now t)) × (length (now t) ≤ length (now buffer)) × (width ≤ length (now marks)) ⌝ }
-    ensures { λ r. ⌜ TookRow (now (t .entry)) start size count width (now (buffer .entry)) (now (marks .entry)) (now (buffer .exit)) (now (marks .exit)) r ⌝ }
+    ensures { λ r. ⌜ RowRead (now (t .entry)) start size count width (now (buffer .entry)) (now (marks .entry)) (now (buffer .exit)) (now (marks .exit)) r ⌝ }
 {
     let mut from = start;
     let mut to = size;
@@ -157,7 +157,7 @@ fn buffer_row(
     marks: &mut [usize],
 ) -> Scan
     requires { ⌜ Opens (now t) e n × (n < width) × (length (now t) ≤ length (now buffer)) × (width ≤ length (now marks)) ⌝ }
-    ensures { λ r. ⌜ TookRow (now (t .entry)) 0 0 0 width (now (buffer .entry)) (now (marks .entry)) (now (buffer .exit)) (now (marks .exit)) r ⌝ }
+    ensures { λ r. ⌜ RowRead (now (t .entry)) 0 0 0 width (now (buffer .entry)) (now (marks .entry)) (now (buffer .exit)) (now (marks .exit)) r ⌝ }
 {
     let to = copy_before(&t[0..e], buffer, marks);
     buffer_rest(t, width, e, to, n, buffer, marks)

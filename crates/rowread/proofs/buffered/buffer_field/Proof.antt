@@ -1,9 +1,9 @@
--- A quote opens a quoted value (`quoted-took`), any other byte a plain one (`plain-into`).
+-- A quote opens a quoted value (`quoted-read-value`), any other byte a plain one (`plain-into`).
 use mathlib.Core.Path.{sym, _∙_}
 use Prim.Native.Nat.{_-_}
 use native.Mathlib.Omega.{arith}
 use Rattle.rowread.proofs.Laws.{past, plain-size}
-use Rattle.rowread.proofs.Takes.{quoted-took, plain-into}
+use Rattle.rowread.proofs.Takes.{quoted-read-value, plain-into}
 use borrow.Author.Needs.{needs}
 use Rattle.rowread.proofs.buffered.buffer_field.Statement.{statement}
 use Rattle.rowread.proofs.buffered.buffer_field.Tie as tie
@@ -29,7 +29,7 @@ returns c =
     let s = c .before .before .before .before .before .before .before .before in
     let a = s .args in
     let t = a .t .now in
-    quoted-took t (a .from) (a .buffer .now) (a .to) _ (c .before .before .buffer-inner .result) (sym (c .before .before .before .before .before .byte-at .ensures) ∙ c .before .before .before .before .if1 .taken) (c .before .before .buffer-inner .ensures)
+    quoted-read-value t (a .from) (a .buffer .now) (a .to) _ (c .before .before .buffer-inner .result) (sym (c .before .before .before .before .before .byte-at .ensures) ∙ c .before .before .before .before .if1 .taken) (c .before .before .buffer-inner .ensures)
 
 copy-plain-requires : tie.Need-copy-plain-requires
 copy-plain-requires c κs =

@@ -1,7 +1,7 @@
--- The values before e are copied as they are, the rest by `buffer_rest`; `took-before` joins both.
+-- The values before e are copied as they are, the rest by `buffer_rest`; `read-value-before` joins both.
 use native.Mathlib.Omega.{arith}
 use Rattle.rowread.proofs.Lines.{opens-size}
-use Rattle.rowread.proofs.Takes.{took-before}
+use Rattle.rowread.proofs.Takes.{read-value-before}
 use borrow.Author.Needs.{needs}
 use Rattle.rowread.proofs.buffered.buffer_row.Statement.{statement}
 use Rattle.rowread.proofs.buffered.buffer_row.Tie as tie
@@ -39,7 +39,7 @@ returns c =
     let a = s .args in
     let r = c .before .before .before .before .before .before .before .before .before .before .before .copy-before in
     let w = c .before .before .before .before .buffer-rest in
-    took-before (a .t .now) (a .e) (a .n) (s .pre .0) (a .buffer .now) (a .marks .now) _ _ (r .result) (r .ensures .0) (r .ensures .1) (r .ensures .2) (a .width) _ _ (w .result) (w .ensures)
+    read-value-before (a .t .now) (a .e) (a .n) (s .pre .0) (a .buffer .now) (a .marks .now) _ _ (r .result) (r .ensures .0) (r .ensures .1) (r .ensures .2) (a .width) _ _ (w .result) (w .ensures)
 
 pub buffer-row-spec : {M : Type 1} → statement M
 buffer-row-spec =

@@ -1,6 +1,6 @@
 -- What `buffer_row` holds in the buffer is copied to the outputs (`handed`), so the row is read as the fast path promises.
 use native.Mathlib.Omega.{arith}
-use Rattle.rowread.proofs.Takes.{handed, took-within}
+use Rattle.rowread.proofs.Takes.{handed, read-value-within}
 use borrow.Author.Needs.{needs}
 use Rattle.rowread.proofs.buffered.row_through.Statement.{statement}
 use Rattle.rowread.proofs.buffered.row_through.Tie as tie
@@ -12,7 +12,7 @@ copy-out-requires : tie.Need-copy-out-requires
 copy-out-requires c κs =
     let s = c .before .before .before .before .before .before .before .before .before .before .before .before .before .before .before .before in
     let w = c .before .before .before .before .before .before .before .before .buffer-row in
-    (took-within (s .args .t .now) (s .args .width) _ _ _ _ (w .result) (w .ensures) (w .kept .1 .1 .1 .1 .0), omega (arith, s .pre .3, w .kept .1 .1 .1 .1 .1 .0))
+    (read-value-within (s .args .t .now) (s .args .width) _ _ _ _ (w .result) (w .ensures) (w .kept .1 .1 .1 .1 .0), omega (arith, s .pre .3, w .kept .1 .1 .1 .1 .1 .0))
 
 same-length : tie.Need-same-length
 same-length c = search needs
