@@ -61,17 +61,17 @@ module _ (b : Text) (l : List ℕ) (m : ℕ) where
     pub starts-length : m + 1 ≡ length starts
     starts-length = sym (rw one-behind (length-take-le (m + 1) all (omega arith)))
 
-    starts-places : Offsets b l m starts
-    starts-places k h = rw one-behind (getD-take (m + 1) all k 0 (omega arith) ∙ given k h)
+    starts-offsets : Offsets b l m starts
+    starts-offsets k h = rw one-behind (getD-take (m + 1) all k 0 (omega arith) ∙ given k h)
 
     pub starts-rise : Rising starts (length b)
-    starts-rise = rising b l m starts starts-places (sym starts-length)
+    starts-rise = rising b l m starts starts-offsets (sym starts-length)
 
     pub starts-picks : (n : ℕ) → n * fieldCount ≡ m → firsts n (pickOf (between b starts)) ≡ firsts n (pickAt b l)
-    starts-picks n e = picks-same starts starts-places n e
+    starts-picks n e = picks-same starts starts-offsets n e
 
     pub starts-fit : (t : Bool) → t ≡ every m (sized (between b starts)) → m ≡ count l * fieldCount → length l ≤ 80 → t ≡ fit b l
-    starts-fit t e h w = e ∙ sizes-same starts starts-places ∙ rw h (fit-few b l w)
+    starts-fit t e h w = e ∙ sizes-same starts starts-offsets ∙ rw h (fit-few b l w)
 
 -- what preparation has shown, once every text is within its size
 module _ (id b : Text) (l all : List ℕ) (long : length all ≡ startsSize) (few : length l ≤ 80) (given : Offsets b l (count l * fieldCount) all) where

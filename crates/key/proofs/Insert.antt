@@ -9,9 +9,9 @@ use native.Mathlib.Omega.{arith}
 use lib.ListN.{length, take, drop, getD, set, length-map, length-take, drop-of-length-le, take-append-drop}
 use lib.Seq.{take-suc, take-take, take-suc-set, drop-cons, length-take-le, take-append-le, drop-append-le, append-snoc}
 use Rattle.key.specs.Order.{Pick, pickOrder}
-use Rattle.key.specs.Picks.{place, insert, distinct, firsts}
+use Rattle.key.specs.Picks.{insertBy, insert, distinct, firsts}
 use Rattle.key.specs.Steps.{number, Goes, Ordered, Below}
-use Rattle.key.specs.declared.picks.Place.the-variants.{At, There}
+use Rattle.key.specs.declared.picks.Index.the-variants.{At, There}
 use Rattle.key.proofs.Taken.{firsts-length, firsts-at}
 
 is-lt : (o : Ordering) → number o ≡ 0 → o ≡ Ordering·lt
@@ -40,7 +40,7 @@ module _ (p : Pick) (s : List Pick) (k : ℕ) (so-far : insert p s ≡ take k s 
     here : drop k s ≡ q ∷ drop (suc k) s
     here = drop-cons s k [] h ∙ ap (λ (x : Pick). x ∷ drop (suc k) s) (sym e)
 
-    there : (w : Ordering) → pickOrder p q ≡ w → insert p s ≡ take k s ++ place w p q (drop (suc k) s) (insert p (drop (suc k) s))
+    there : (w : Ordering) → pickOrder p q ≡ w → insert p s ≡ take k s ++ insertBy w p q (drop (suc k) s) (insert p (drop (suc k) s))
     unfolding insert
     there w d = so-far ∙ ap (λ (r : List Pick). take k s ++ insert p r) here ∙ rw d
 
@@ -142,8 +142,8 @@ module _ (f : ℕ → Pick) where
       inside = omega arith;
     }
 
-    pub place-low : (k : ℕ) → Goes (f i) (map f (take m order)) (At k) → k ≤ m
-    place-low k g = omega (arith, g .0, length-map (take m order) f, length-take m order)
+    pub index-low : (k : ℕ) → Goes (f i) (map f (take m order)) (At k) → k ≤ m
+    index-low k g = omega (arith, g .0, length-map (take m order) f, length-take m order)
 
   -- ---- one pick after the other, from the last
 

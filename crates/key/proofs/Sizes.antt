@@ -12,7 +12,7 @@ use borrow.Author.Tests.{leb-true}
 use Rattle.base.specs.Number.{pick}
 use Rattle.base.proofs.Bools.{both-true}
 use Rattle.key.specs.Order.{Text, Pick, pickOrder, fieldCount}
-use Rattle.key.specs.Picks.{pickOf, unlessCode, firsts, place, insert, distinct, In}
+use Rattle.key.specs.Picks.{pickOf, unlessCode, firsts, insertBy, insert, distinct, In}
 use Rattle.key.specs.Layout.{every, sized, sizes, joined, field, entry, longestEntry}
 use Rattle.key.specs.Steps.{Rising, between, Small}
 use Rattle.key.proofs.Sort.{sorts}
@@ -135,15 +135,15 @@ small n f h =
 
 -- ---- no more picks than were passed
 
-place-count : (o : Ordering) (p q : Pick) (qs f : List Pick) → length f ≤ suc (length qs) → length (place o p q qs f) ≤ suc (suc (length qs))
-place-count Ordering·lt p q qs f h = omega arith
-place-count Ordering·eq p q qs f h = omega arith
-place-count Ordering·gt p q qs f h = omega arith
+insert-by-count : (o : Ordering) (p q : Pick) (qs f : List Pick) → length f ≤ suc (length qs) → length (insertBy o p q qs f) ≤ suc (suc (length qs))
+insert-by-count Ordering·lt p q qs f h = omega arith
+insert-by-count Ordering·eq p q qs f h = omega arith
+insert-by-count Ordering·gt p q qs f h = omega arith
 
 insert-count : (p : Pick) (s : List Pick) → length (insert p s) ≤ suc (length s)
 unfolding insert
 insert-count p [] = omega arith
-insert-count p (q ∷ qs) = place-count (pickOrder p q) p q qs (insert p qs) (insert-count p qs)
+insert-count p (q ∷ qs) = insert-by-count (pickOrder p q) p q qs (insert p qs) (insert-count p qs)
 
 distinct-count : (ps : List Pick) → length (distinct ps) ≤ length ps
 unfolding distinct

@@ -5,53 +5,53 @@ use mathlib.Core.List.{List, [], _∷_}
 use mathlib.Core.Logic.{_⊎_, inl, inr, ⊎-elim}
 use Prim.Native.Nat.{Ordering, Ordering·lt, Ordering·eq, Ordering·gt}
 use Rattle.key.specs.Order.{Pick, pickOrder}
-use Rattle.key.specs.Picks.{place, insert, distinct, In, Ascending}
+use Rattle.key.specs.Picks.{insertBy, insert, distinct, In, Ascending}
 use Rattle.key.specs.Claims.{DistinctSorts, OnlyOneSorts}
 use Rattle.key.proofs.Linear.{flip, on-picks, no-eq}
 
 -- ---- members
 
-in-place : (o : Ordering) (p q : Pick) (qs further : List Pick) → pickOrder p q ≡ o
+in-insert-by : (o : Ordering) (p q : Pick) (qs further : List Pick) → pickOrder p q ≡ o
     → In p further → ((x : Pick) → In x qs → In x further)
-    → In p (place o p q qs further) × ((x : Pick) → In x (q ∷ qs) → In x (place o p q qs further))
-in-place Ordering·lt p q qs f e h k = (inl refl, λ x m. inr m)
-in-place Ordering·eq p q qs f e h k = (inl (on-picks .same p q e), λ x m. m)
-in-place Ordering·gt p q qs f e h k = (inr h, λ x m. ⊎-elim (λ w. inl w) (λ w. inr (k x w)) m)
+    → In p (insertBy o p q qs further) × ((x : Pick) → In x (q ∷ qs) → In x (insertBy o p q qs further))
+in-insert-by Ordering·lt p q qs f e h k = (inl refl, λ x m. inr m)
+in-insert-by Ordering·eq p q qs f e h k = (inl (on-picks .same p q e), λ x m. m)
+in-insert-by Ordering·gt p q qs f e h k = (inr h, λ x m. ⊎-elim (λ w. inl w) (λ w. inr (k x w)) m)
 
 in-insert : (p : Pick) (s : List Pick) → In p (insert p s) × ((x : Pick) → In x s → In x (insert p s))
 unfolding insert
 in-insert p [] = (inl refl, λ x m. absurd m)
-in-insert p (q ∷ qs) = in-place (pickOrder p q) p q qs (insert p qs) refl (in-insert p qs .0) (in-insert p qs .1)
+in-insert p (q ∷ qs) = in-insert-by (pickOrder p q) p q qs (insert p qs) refl (in-insert p qs .0) (in-insert p qs .1)
 
-of-place : (o : Ordering) (p q : Pick) (qs further : List Pick) (x : Pick)
-    → (In x further → (x ≡ p) ⊎ In x qs) → In x (place o p q qs further) → (x ≡ p) ⊎ In x (q ∷ qs)
-of-place Ordering·lt p q qs f x k m = m
-of-place Ordering·eq p q qs f x k m = inr m
-of-place Ordering·gt p q qs f x k m =
+of-insert-by : (o : Ordering) (p q : Pick) (qs further : List Pick) (x : Pick)
+    → (In x further → (x ≡ p) ⊎ In x qs) → In x (insertBy o p q qs further) → (x ≡ p) ⊎ In x (q ∷ qs)
+of-insert-by Ordering·lt p q qs f x k m = m
+of-insert-by Ordering·eq p q qs f x k m = inr m
+of-insert-by Ordering·gt p q qs f x k m =
     ⊎-elim (λ w. inr (inl w)) (λ w. ⊎-elim (λ v. inl v) (λ v. inr (inr v)) (k w)) m
 
 of-insert : (p : Pick) (s : List Pick) (x : Pick) → In x (insert p s) → (x ≡ p) ⊎ In x s
 unfolding insert
 of-insert p [] x m = m
-of-insert p (q ∷ qs) x m = of-place (pickOrder p q) p q qs (insert p qs) x (of-insert p qs x) m
+of-insert p (q ∷ qs) x m = of-insert-by (pickOrder p q) p q qs (insert p qs) x (of-insert p qs x) m
 
 -- ---- order
 
 lt-turned : (p q : Pick) → pickOrder p q ≡ Ordering·gt → pickOrder q p ≡ Ordering·lt
 lt-turned p q e = on-picks .turned p q ∙ ap flip e
 
-up-place : (o : Ordering) (p q : Pick) (qs : List Pick) → pickOrder p q ≡ o → Ascending (q ∷ qs) → Ascending (insert p qs)
-    → Ascending (place o p q qs (insert p qs))
-up-place Ordering·lt p q qs e h k =
+up-insert-by : (o : Ordering) (p q : Pick) (qs : List Pick) → pickOrder p q ≡ o → Ascending (q ∷ qs) → Ascending (insert p qs)
+    → Ascending (insertBy o p q qs (insert p qs))
+up-insert-by Ordering·lt p q qs e h k =
     (λ x m. ⊎-elim (λ w. rw w e) (λ w. on-picks .chain p q x e (h .0 x w)) m, h)
-up-place Ordering·eq p q qs e h k = h
-up-place Ordering·gt p q qs e h k =
+up-insert-by Ordering·eq p q qs e h k = h
+up-insert-by Ordering·gt p q qs e h k =
     (λ x m. ⊎-elim (λ w. rw w (lt-turned p q e)) (λ w. h .0 x w) (of-insert p qs x m), k)
 
 up-insert : (p : Pick) (s : List Pick) → Ascending s → Ascending (insert p s)
 unfolding insert
 up-insert p [] h = (λ x m. absurd m, tt)
-up-insert p (q ∷ qs) h = up-place (pickOrder p q) p q qs refl h (up-insert p qs (h .1))
+up-insert p (q ∷ qs) h = up-insert-by (pickOrder p q) p q qs refl h (up-insert p qs (h .1))
 
 -- ---- the theorem
 

@@ -43,20 +43,20 @@ sum-next : (l : List ℕ) (i : ℕ) → sum (take (i + 1) l) ≡ sum (take i l) 
 sum-next l i = ⊎-elim (sum-more l i) (sum-past l i) (split i (length l))
 
 module _ (b : Text) (l : List ℕ) where
-  pub place-none : 0 ≡ offsetOf b l 0
+  pub offset-none : 0 ≡ offsetOf b l 0
   unfolding offsetOf sum
-  place-none = omega arith
+  offset-none = omega arith
 
-  pub place-within : (k : ℕ) → offsetOf b l k ≤ length b
+  pub offset-within : (k : ℕ) → offsetOf b l k ≤ length b
   unfolding offsetOf
-  place-within k = omega arith
+  offset-within k = omega arith
 
-  pub place-next : (k : ℕ) → offsetOf b l (k + 1) ≡ min (length b) (offsetOf b l k + getD l k 0)
+  pub offset-next : (k : ℕ) → offsetOf b l (k + 1) ≡ min (length b) (offsetOf b l k + getD l k 0)
   unfolding offsetOf
-  place-next k = let e = sum-next l k in omega arith
+  offset-next k = let e = sum-next l k in omega arith
 
-  pub place-past : (k : ℕ) → length l ≤ k → offsetOf b l k ≡ offsetOf b l (k + 1)
-  place-past k h = omega (arith, place-next k, List·getD-eq-default l 0 h, place-within k)
+  pub offset-past : (k : ℕ) → length l ≤ k → offsetOf b l k ≡ offsetOf b l (k + 1)
+  offset-past k h = omega (arith, offset-next k, List·getD-eq-default l 0 h, offset-within k)
 
 -- a start past the end is the end
 drop-min : (s : Text) (n : ℕ) → drop (min (length s) n) s ≡ drop n s
@@ -79,17 +79,17 @@ take-up-to s m n e =
     (λ (h : length s ≤ n). take-all m s (omega arith) ∙ sym (take-all n s h))
     (split n (length s))
 
-drop-place : (b : Text) (l : List ℕ) (k : ℕ) → drop (offsetOf b l k) b ≡ drop (sum (take k l)) b
+drop-offset : (b : Text) (l : List ℕ) (k : ℕ) → drop (offsetOf b l k) b ≡ drop (sum (take k l)) b
 unfolding offsetOf
-drop-place b l k = drop-min b (sum (take k l))
+drop-offset b l k = drop-min b (sum (take k l))
 
 between-text : (b : Text) (l : List ℕ) (k : ℕ)
     → take (offsetOf b l (k + 1) - offsetOf b l k) (drop (offsetOf b l k) b) ≡ text b l k
 unfolding text
 between-text b l k =
     take-up-to (drop (offsetOf b l k) b) (offsetOf b l (k + 1) - offsetOf b l k) (getD l k 0)
-    (omega (arith, place-next b l k, place-within b l k, length-drop (offsetOf b l k) b))
-    ∙ ap (take (getD l k 0)) (drop-place b l k)
+    (omega (arith, offset-next b l k, offset-within b l k, length-drop (offsetOf b l k) b))
+    ∙ ap (take (getD l k 0)) (drop-offset b l k)
 
 module _ (b : Text) (l : List ℕ) (m : ℕ) (starts : List ℕ) (all : Offsets b l m starts) where
   pub between-is : (k : ℕ) → k < m → between b starts k ≡ text b l k
@@ -98,8 +98,8 @@ module _ (b : Text) (l : List ℕ) (m : ℕ) (starts : List ℕ) (all : Offsets 
 
   pub rising : length starts ≡ m + 1 → Rising starts (length b)
   rising e = record {
-    rises = λ k h. omega (arith, all k (omega arith), all (k + 1) (omega arith), place-next b l k, place-within b l k);
-    within = λ k h. omega (arith, all k (omega arith), place-within b l k);
+    rises = λ k h. omega (arith, all k (omega arith), all (k + 1) (omega arith), offset-next b l k, offset-within b l k);
+    within = λ k h. omega (arith, all k (omega arith), offset-within b l k);
   }
 
 pub between-length : (b : Text) (starts : List ℕ) (k : ℕ) → Rising starts (length b) → k + 1 < length starts

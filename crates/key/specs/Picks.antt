@@ -61,14 +61,14 @@ pub record Sorts (ps s : List Pick) : Type 0 where
   pub from : (p : Pick) → In p s → In p ps
 
 -- p inserted before q if it is smaller, not at all if it is equal, else further on
-abbrev pub place : Ordering → Pick → Pick → List Pick → List Pick → List Pick
-place Ordering·lt p q qs further = p ∷ q ∷ qs
-place Ordering·eq p q qs further = q ∷ qs
-place Ordering·gt p q qs further = q ∷ further
+abbrev pub insertBy : Ordering → Pick → Pick → List Pick → List Pick → List Pick
+insertBy Ordering·lt p q qs further = p ∷ q ∷ qs
+insertBy Ordering·eq p q qs further = q ∷ qs
+insertBy Ordering·gt p q qs further = q ∷ further
 
 unfoldable pub insert : Pick → List Pick → List Pick
 insert p [] = p ∷ []
-insert p (q ∷ qs) = place (pickOrder p q) p q qs (insert p qs)
+insert p (q ∷ qs) = insertBy (pickOrder p q) p q qs (insert p qs)
 
 -- the one list that sorts ps (specs/Claims.antt: DistinctSorts, OnlyOneSorts)
 unfoldable pub distinct : List Pick → List Pick

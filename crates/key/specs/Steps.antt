@@ -14,8 +14,8 @@ use Rattle.key.specs.Layout.{entry, fit, maxIdentity, maxPicks, longestE
 use Rattle.key.specs.declared.picks.Prepared.{Prepared}
 use Rattle.key.specs.declared.picks.Prepared.the-variants.{Ready as IsReady, Refused}
 use Rattle.base.specs.Same.{same}
-use Rattle.key.specs.declared.picks.Place.{Place}
-use Rattle.key.specs.declared.picks.Place.the-variants.{At, There}
+use Rattle.key.specs.declared.picks.Index.{Index}
+use Rattle.key.specs.declared.picks.Index.the-variants.{At, There}
 use Rattle.key.specs.declared.matching.Matched.{Matched}
 use Rattle.key.specs.declared.matching.Matched.the-variants.{To, Differs}
 
@@ -51,7 +51,7 @@ pickIn bytes starts i = pickOf (between bytes starts) i
 -- ---- sorting
 
 -- the index at which p is inserted among sorted picks s, or that it is among them
-abbrev pub Goes : Pick → List Pick → Place → Type 0
+abbrev pub Goes : Pick → List Pick → Index → Type 0
 Goes p s (At k) = (k ≤ length s) × (insert p s ≡ take k s ++ p ∷ drop k s)
 Goes p s There = insert p s ≡ s
 

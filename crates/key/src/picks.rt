@@ -17,7 +17,7 @@ use crate::NAME_FIELD;
 use refusal::Refusal;
 
 // The index at which a pick is inserted among the sorted ones, or that it is among them.
-enum Place {
+enum Index {
     At(usize),
     There,
 }
@@ -54,7 +54,7 @@ fn order(a: &[u8], b: &[u8]) -> u8
 }
 
 // The offsets of texts 0 to m: each after the texts before it, at most the end.
-fn places(texts: &[u8], lengths: &[u32], m: usize, starts: &mut [usize])
+fn offsets_of(texts: &[u8], lengths: &[u32], m: usize, starts: &mut [usize])
     requires { ⌜ m < length (now starts) ⌝ }
     ensures { λ _. ⌜ Offsets (now (texts .entry)) (now (lengths .entry)) m (now (starts .exit)) ⌝ }
 {
@@ -137,7 +137,7 @@ fn order_picks(texts: &[u8], starts: &[usize], i: usize, j: usize) -> u8
 }
 
 // The index at which pick i is inserted among the sorted ones.
-fn place_of(texts: &[u8], starts: &[usize], n: usize, sorted: &[usize], i: usize) -> Place
+fn index_of(texts: &[u8], starts: &[usize], n: usize, sorted: &[usize], i: usize) -> Index
     requires { ⌜ Rising (now starts) (length (now texts)) × (n * fieldCount < length (now starts)) × (i < n) × Below n (now sorted) ⌝ }
     ensures { λ r. ⌜ Goes (pickIn (now (texts .entry)) (now (starts .entry)) i) (map (pickIn (now (texts .entry)) (now (starts .entry))) (now (sorted .entry))) r ⌝ }
 {
@@ -146,14 +146,14 @@ fn place_of(texts: &[u8], starts: &[usize], n: usize, sorted: &[usize], i: usize
         let j = sorted[k];
         let o = order_picks(texts, starts, i, j);
         if o == SAME {
-            return Place::There;
+            return Index::There;
         }
         if o == LESS {
-            return Place::At(k);
+            return Index::At(k);
         }
         k += 1;
     }
-    Place::At(k)
+    Index::At(k)
 }
 
 // Inserts v at index k of the first m; those from k on move by one.
@@ -184,8 +184,8 @@ fn insert_pick(
     requires { ⌜ Rising (now starts) (length (now texts)) × (n * fieldCount < length (now starts)) × (i < n) × (m < length (now order)) × Below n (take m (now order)) ⌝ }
     ensures { λ r. ⌜ (r ≤ m + 1) × Ordered (pickIn (now (texts .entry)) (now (starts .entry))) n (insert (pickIn (now (texts .entry)) (now (starts .entry)) i) (map (pickIn (now (texts .entry)) (now (starts .entry))) (take m (now (order .entry))))) (now (order .exit)) r ⌝ }
 {
-    let p = place_of(texts, starts, n, &order[0..m], i);
-    let Place::At(k) = p else {
+    let p = index_of(texts, starts, n, &order[0..m], i);
+    let Index::At(k) = p else {
         return m;
     };
     put_in(order, m, k, i);
@@ -227,7 +227,7 @@ pub(crate) fn prepare(
     }
     let n = (lengths.len() + LAST_FIELD) / FIELDS;
     let m = n * FIELDS;
-    places(texts, lengths, m, starts);
+    offsets_of(texts, lengths, m, starts);
     let end = m + 1;
     if !sizes_fit(texts, &starts[0..end], m) {
         return Prepared::Refused(Refusal::Argument);

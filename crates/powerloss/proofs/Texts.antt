@@ -16,7 +16,7 @@ use Rattle.header.specs.Types.{Bytes}
 use Rattle.header.proofs.WriteLaws.{bytes-append}
 use Rattle.key.specs.Order.{Text, Pick, pickOrder}
 use Rattle.key.specs.Picks as Picks
-use Rattle.key.specs.Picks.{text, unlessCode, pickOf, pickAt, count, firsts, place, insert, distinct}
+use Rattle.key.specs.Picks.{text, unlessCode, pickOf, pickAt, count, firsts, insertBy, insert, distinct}
 use Rattle.key.specs.Layout.{joined, field, entry, prefix, body, keyOf}
 use Rattle.csv.specs.Write.{anySpecial, doubled, fieldOf, delimiter, rowOf}
 use Rattle.row.specs.Columns.{columns, columnsOf, line, namesLine}
@@ -124,7 +124,7 @@ bytes-entry p h = bytes-joined field Bytes bytes-text p h
 AllBytes : Pick → Type 0
 AllBytes p = All Bytes p
 
-place-all : (x : Ordering) (p q : Pick) (qs further : List Pick) → AllBytes p → AllBytes q → All AllBytes qs → All AllBytes further → All AllBytes (place x p q qs further)
+place-all : (x : Ordering) (p q : Pick) (qs further : List Pick) → AllBytes p → AllBytes q → All AllBytes qs → All AllBytes further → All AllBytes (insertBy x p q qs further)
 unfolding All
 place-all Ordering·lt p q qs further a b c d = (a, (b, c))
 place-all Ordering·eq p q qs further a b c d = (b, c)

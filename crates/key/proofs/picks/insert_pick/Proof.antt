@@ -1,4 +1,4 @@
--- `place_of` says that the pick is there already, and nothing changes, or its index, and `put_in` inserts it there.
+-- `index_of` says that the pick is there already, and nothing changes, or its index, and `put_in` inserts it there.
 use mathlib.Core.Path.{_≡_}
 use mathlib.Core.List.{map}
 use Prim.Native.Nat.{_-_}
@@ -6,23 +6,23 @@ use native.Mathlib.Omega.{arith}
 use lib.ListN.{take}
 use Rattle.key.specs.Picks.{pickOf}
 use Rattle.key.specs.Steps.{between, Goes}
-use Rattle.key.specs.declared.picks.Place.the-variants.{At, There}
-use Rattle.key.proofs.Insert.{stays, goes-in, place-low}
+use Rattle.key.specs.declared.picks.Index.the-variants.{At, There}
+use Rattle.key.proofs.Insert.{stays, goes-in, index-low}
 use borrow.Author.Needs.{needs}
 use Rattle.key.proofs.picks.insert_pick.Statement.{statement}
 use Rattle.key.proofs.picks.insert_pick.Tie as tie
 
-sub-place-of : tie.Need-sub-place-of
-sub-place-of c = search needs
+sub-index-of : tie.Need-sub-index-of
+sub-index-of c = search needs
 
-part-place-of-start : tie.Need-part-place-of-start
-part-place-of-start c = search needs
+part-index-of-start : tie.Need-part-index-of-start
+part-index-of-start c = search needs
 
-part-place-of-end : tie.Need-part-place-of-end
-part-place-of-end c = search needs
+part-index-of-end : tie.Need-part-index-of-end
+part-index-of-end c = search needs
 
-place-of-requires : tie.Need-place-of-requires
-place-of-requires c κs =
+index-of-requires : tie.Need-index-of-requires
+index-of-requires c κs =
     let s = c .before .before .before .before .before in
     let e : s .args .m - 0 ≡ s .args .m = omega arith in
     (s .pre .0, s .pre .1, s .pre .2, rw e (s .pre .4))
@@ -42,7 +42,7 @@ returns c =
     let a = s .args in
     let f = pickOf (between (a .texts .now) (a .starts .now)) in
     let e : a .m - 0 ≡ a .m = omega arith in
-    let g : Goes (f (a .i)) (map f (take (a .m) (a .order .now))) There = rw (e, c .enum-told .given .1) at (c .before .before .place-of .ensures) in
+    let g : Goes (f (a .i)) (map f (take (a .m) (a .order .now))) There = rw (e, c .enum-told .given .1) at (c .before .before .index-of .ensures) in
     (omega arith, stays f (a .n) (a .i) (a .m) (a .order .now) (s .pre .2) (s .pre .3) (s .pre .4) g)
 
 put-in-requires : tie.Need-put-in-requires
@@ -51,8 +51,8 @@ put-in-requires c κs =
     let a = s .args in
     let f = pickOf (between (a .texts .now) (a .starts .now)) in
     let e : a .m - 0 ≡ a .m = omega arith in
-    let g : Goes (f (a .i)) (map f (take (a .m) (a .order .now))) (At (c .before .before .p .given .0 .0)) = rw (e, c .before .before .p .given .1) at (c .before .before .before .before .place-of .ensures) in
-    (place-low f (a .n) (a .i) (a .m) (a .order .now) (s .pre .2) (s .pre .3) (s .pre .4) (c .before .before .p .given .0 .0) g, s .pre .3)
+    let g : Goes (f (a .i)) (map f (take (a .m) (a .order .now))) (At (c .before .before .p .given .0 .0)) = rw (e, c .before .before .p .given .1) at (c .before .before .before .before .index-of .ensures) in
+    (index-low f (a .n) (a .i) (a .m) (a .order .now) (s .pre .2) (s .pre .3) (s .pre .4) (c .before .before .p .given .0 .0) g, s .pre .3)
 
 add-result : tie.Need-add-result
 add-result c = search needs
@@ -66,7 +66,7 @@ returns-2 c =
     let a = s .args in
     let f = pickOf (between (a .texts .now) (a .starts .now)) in
     let e : a .m - 0 ≡ a .m = omega arith in
-    let g : Goes (f (a .i)) (map f (take (a .m) (a .order .now))) (At (c .before .before .before .before .before .p .given .0 .0)) = rw (e, c .before .before .before .before .before .p .given .1) at (c .before .before .before .before .before .before .before .place-of .ensures) in (
+    let g : Goes (f (a .i)) (map f (take (a .m) (a .order .now))) (At (c .before .before .before .before .before .p .given .0 .0)) = rw (e, c .before .before .before .before .before .p .given .1) at (c .before .before .before .before .before .before .before .index-of .ensures) in (
       omega arith,
       goes-in f (a .n) (a .i) (a .m) (a .order .now) (s .pre .2) (s .pre .3) (s .pre .4) (c .before .before .before .before .before .p .given .0 .0) (c .before .before .put-in .last .0) g
           (c .before .before .put-in .kept .0) (c .before .before .put-in .ensures),
@@ -76,10 +76,10 @@ pub insert-pick-spec : {M : Type 1} → statement M
 insert-pick-spec =
     tie.close
     (tie.spec
-    sub-place-of
-    part-place-of-start
-    part-place-of-end
-    place-of-requires
+    sub-index-of
+    part-index-of-start
+    part-index-of-end
+    index-of-requires
     enum-known-p
     enum-told
     same-length

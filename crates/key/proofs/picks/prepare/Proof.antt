@@ -23,8 +23,8 @@ add-n c = search needs
 mul-m : tie.Need-mul-m
 mul-m c = search needs
 
-places-requires : tie.Need-places-requires
-places-requires c κs = search needs
+offsets-of-requires : tie.Need-offsets-of-requires
+offsets-of-requires c κs = search needs
 
 add-end : tie.Need-add-end
 add-end c = search needs
@@ -41,7 +41,7 @@ part-sizes-fit-end c = search needs
 sizes-fit-requires : tie.Need-sizes-fit-requires
 sizes-fit-requires c κs =
     let a = c .before .before .before .before .before .before .before .before .before .before .before .args in
-    let p = c .before .before .before .before .places in
+    let p = c .before .before .before .before .offsets-of in
     let h = c .before .before .before .before .before .before .if1 .left in
     let k = p .kept .1 .1 .1 .0 ∙ c .before .before .before .before .before .before .before .before .before .before .before .pre in
     let w : count (a .lengths .now) * fieldCount ≤ 80 = omega (arith, h) in
@@ -53,7 +53,7 @@ same-length c = search needs
 returns-2 : tie.Need-returns-2
 returns-2 c =
     let a = c .before .before .before .before .before .before .before .before .before .before .before .before .before .args in
-    let p = c .before .before .before .before .before .before .places in
+    let p = c .before .before .before .before .before .before .offsets-of in
     let h = c .before .before .before .before .before .before .before .before .if1 .left in
     let k = p .kept .1 .1 .1 .0 ∙ c .before .before .before .before .before .before .before .before .before .before .before .before .before .pre in
     inl (refl, sym (not-true _ (c .if2 .taken)) ∙ fit-known (a .identity .now) (a .texts .now) (a .lengths .now) _ k h (p .ensures) _ (c .before .sizes-fit .ensures))
@@ -64,7 +64,7 @@ same-length-2 c = search needs
 returns-3 : tie.Need-returns-3
 returns-3 c =
     let a = c .before .before .before .before .before .before .before .before .before .before .before .before .before .before .args in
-    let p = c .before .before .before .before .before .before .before .places in
+    let p = c .before .before .before .before .before .before .before .offsets-of in
     let h = c .before .before .before .before .before .before .before .before .before .if1 .left in
     let k = p .kept .1 .1 .1 .0 ∙ c .before .before .before .before .before .before .before .before .before .before .before .before .before .before .pre in
     inr (refl, sym (not-false _ (c .before .if2 .left)) ∙ fit-known (a .identity .now) (a .texts .now) (a .lengths .now) _ k h (p .ensures) _ (c .before .before .sizes-fit .ensures), c .if3 .taken)
@@ -75,7 +75,7 @@ same-length-3 c = search needs
 returns-4 : tie.Need-returns-4
 returns-4 c =
     let a = c .before .before .before .before .before .before .before .before .before .before .before .before .before .before .args in
-    let p = c .before .before .before .before .before .before .before .places in
+    let p = c .before .before .before .before .before .before .before .offsets-of in
     let h = c .before .before .before .before .before .before .before .before .before .if1 .left in
     let k = p .kept .1 .1 .1 .0 ∙ c .before .before .before .before .before .before .before .before .before .before .before .before .before .before .pre in
     prepared (a .identity .now) (a .texts .now) (a .lengths .now) _ k h (p .ensures) (sym (c .before .before .sizes-fit .ensures) ∙ not-false _ (c .before .if2 .left)) (c .if3 .left)
@@ -87,7 +87,7 @@ prepare-spec =
     returns
     add-n
     mul-m
-    places-requires
+    offsets-of-requires
     add-end
     sub-sizes-fit
     part-sizes-fit-start

@@ -7,9 +7,9 @@ use native.Mathlib.Omega.{arith}
 use lib.ListN.{length, getD, set, length-set}
 use lib.Seq.{getD-set-same, getD-set-other}
 use Rattle.key.specs.Steps.{offsetOf}
-use Rattle.key.proofs.Taken.{split, place-none, place-next, place-within, place-past}
-use Rattle.key.proofs.picks.places.Statement.{statement}
-use Rattle.key.proofs.picks.places.Tie as tie
+use Rattle.key.proofs.Taken.{split, offset-none, offset-next, offset-within, offset-past}
+use Rattle.key.proofs.picks.offsets_of.Statement.{statement}
+use Rattle.key.proofs.picks.offsets_of.Tie as tie
 
 abbrev Inv-loop : tie.InvT-loop
 Inv-loop texts lengths m starts₀ at₀ i₀ starts at i = (i ≤ m + 1) × (length starts ≡ length starts₀) × (at ≡ offsetOf texts lengths i) × ((k : ℕ) → k < i → getD starts k 0 ≡ offsetOf texts lengths k)
@@ -27,7 +27,7 @@ stored b l s i at h e f k w =
     (split k i)
 
 loop-holds : tie.Need-loop-holds Inv-loop μ-loop
-loop-holds c = (omega arith, refl, place-none (c .args .texts .now) (c .args .lengths .now), λ k h. absurd (omega arith))
+loop-holds c = (omega arith, refl, offset-none (c .args .texts .now) (c .args .lengths .now), λ k h. absurd (omega arith))
 
 mul-starts : tie.Need-mul-starts Inv-loop μ-loop
 mul-starts c = omega arith
@@ -45,10 +45,10 @@ cast-n : tie.Need-cast-n Inv-loop μ-loop
 cast-n c = omega (arith, c .shared-slice-known .given (c .before .before .before .loop .i))
 
 sub-if2 : tie.Need-sub-if2 Inv-loop μ-loop
-sub-if2 c = omega (arith, place-within (c .before .before .before .before .args .texts .now) (c .before .before .before .before .args .lengths .now) (c .before .before .before .loop .i))
+sub-if2 c = omega (arith, offset-within (c .before .before .before .before .args .texts .now) (c .before .before .before .before .args .lengths .now) (c .before .before .before .loop .i))
 
 add-at : tie.Need-add-at Inv-loop μ-loop
-add-at c = omega (arith, place-within (c .before .before .before .before .before .args .texts .now) (c .before .before .before .before .before .args .lengths .now) (c .before .before .before .before .loop .i))
+add-at c = omega (arith, offset-within (c .before .before .before .before .before .args .texts .now) (c .before .before .before .before .before .args .lengths .now) (c .before .before .before .before .loop .i))
 
 add-i : tie.Need-add-i Inv-loop μ-loop
 add-i c = omega arith
@@ -60,11 +60,11 @@ loop-again : tie.Need-loop-again Inv-loop μ-loop
 loop-again c =
     let l = c .before .before .loop in
     let a = c .before .before .before .args in
-    let n = place-next (a .texts .now) (a .lengths .now) (l .i) in
-    let w = place-within (a .texts .now) (a .lengths .now) (l .i) in (
+    let n = offset-next (a .texts .now) (a .lengths .now) (l .i) in
+    let w = offset-within (a .texts .now) (a .lengths .now) (l .i) in (
       omega arith,
       simp length-set (l .inv .1),
-      ⊎-elim (λ v. omega arith) (λ v. ⊎-elim (λ u. omega arith) (λ u. omega (arith, place-past (a .texts .now) (a .lengths .now) (l .i) (omega arith))) v) (c .if1 .came),
+      ⊎-elim (λ v. omega arith) (λ v. ⊎-elim (λ u. omega arith) (λ u. omega (arith, offset-past (a .texts .now) (a .lengths .now) (l .i) (omega arith))) v) (c .if1 .came),
       stored (a .texts .now) (a .lengths .now) (l .starts) (l .i) (l .at) (omega arith) (l .inv .2) (l .inv .3),
     )
 
@@ -76,8 +76,8 @@ returns c =
     let l = c .before .loop in
     λ k h. l .inv .3 k (omega arith)
 
-pub places-spec : {M : Type 1} → statement M
-places-spec =
+pub offsets-of-spec : {M : Type 1} → statement M
+offsets-of-spec =
     tie.close
     (tie.spec
     Inv-loop

@@ -10,8 +10,8 @@ use Rattle.key.specs.Picks.{insert}
 use Rattle.key.specs.Steps.{between}
 use Rattle.key.proofs.Insert.{below-at, map-at}
 use Rattle.key.proofs.Insert.{goes-end, goes-before, goes-nowhere, goes-on}
-use Rattle.key.proofs.picks.place_of.Statement.{statement}
-use Rattle.key.proofs.picks.place_of.Tie as tie
+use Rattle.key.proofs.picks.index_of.Statement.{statement}
+use Rattle.key.proofs.picks.index_of.Tie as tie
 
 abbrev Inv-loop : tie.InvT-loop
 Inv-loop texts starts n sorted i k₀ k =
@@ -82,8 +82,8 @@ returns-3 c =
     let w = length-map (a .sorted .now) f in
     goes-end (f (a .i)) (map f (a .sorted .now)) (l .k) (l .inv .1) (omega arith) (omega arith)
 
-pub place-of-spec : {M : Type 1} → statement M
-place-of-spec =
+pub index-of-spec : {M : Type 1} → statement M
+index-of-spec =
     tie.close
     (tie.spec
     Inv-loop
