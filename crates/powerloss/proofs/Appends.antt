@@ -30,12 +30,12 @@ use Rattle.lower.specs.Lower.{mayAppend, accepted, withBytes, appended, bytesSt
 use Rattle.due.specs.Due.{operated, stepOf}
 use Rattle.run.specs.Run.{Lower, bytes, due, lowerStep, lowerOps, lowerRegion}
 use Rattle.run.specs.Appends.{dues, appends}
-use Rattle.powerloss.specs.History.{Update, takes, updateAfter}
+use Rattle.powerloss.specs.History.{Update, withAppended, updateAfter}
 use Rattle.powerloss.specs.Machine.{Image}
 use Rattle.powerloss.proofs.Bytes.{bytes-nil, bytes-cons}
 use Rattle.powerloss.proofs.Inv.{Kept, Open}
 use Rattle.powerloss.proofs.Range.{headed-end, committed-end, idle-due, idle-free}
-use Rattle.powerloss.proofs.Quiet.{takes-nil}
+use Rattle.powerloss.proofs.Quiet.{withAppended-nil}
 use Rattle.powerloss.proofs.Take.{with-bytes}
 use Rattle.powerloss.proofs.Dues.{due-is}
 use Rattle.powerloss.proofs.Lowers.{plain-call}
@@ -196,12 +196,12 @@ byte-step hd region w u x o e d p =
     appended-one x w (mayAppend w) (leb (position (w .contents) + 1) capacity) (isDue (w .contents)) (accepted (w .contents) 1) (may-append hd region w u o e) (le-leb (position (w .contents) + 1) capacity p) d
     (omega (arith, idle-free (w .contents) d (ranged w (o .tied .range) .contents)))
 
-takes-more : (x : ℕ) (xs : List ℕ) (u : Update) → takes xs (takes (x ∷ []) u) ≡ takes (x ∷ xs) u
-takes-more x xs u =
+withAppended-more : (x : ℕ) (xs : List ℕ) (u : Update) → withAppended xs (withAppended (x ∷ []) u) ≡ withAppended (x ∷ xs) u
+withAppended-more x xs u =
     ap (λ (l : List ℕ). record { number = u .number; generation = u .generation; now = u .now; data· = l; notes = u .notes; checked = u .checked }) (append-assoc (u .data·) (x ∷ []) xs)
 
 byte-update : (region : List ℕ) (w : Writer) (u : Update) (x : ℕ) (cs : List Lower) → bytesStep w (x ∷ []) ≡ record { answer = Appended 1; writer = withBytes w (x ∷ []) }
-    → ranUpdate region w (bytes (x ∷ []) ∷ cs) u ≡ ranUpdate region (withBytes w (x ∷ [])) cs (takes (x ∷ []) u)
+    → ranUpdate region w (bytes (x ∷ []) ∷ cs) u ≡ ranUpdate region (withBytes w (x ∷ [])) cs (withAppended (x ∷ []) u)
 unfolding ranUpdate lowerOps lowerStep performed updateAfter
 byte-update region w u x cs e = ap (λ (s : Step). ranUpdate region (s .writer) cs (updateAfter (bytes (x ∷ [])) (s .answer) u)) e
 
@@ -214,13 +214,13 @@ unfolding withBytes
 bytes-position w x = omega arith
 
 pub appends-update : (hd : Loaded) (rs : List Source) (im : Image) (xs region : List ℕ) (w : Writer) (u : Update) → Now hd rs im region w u → w .contents .closed ≡ false → isDue (w .contents) ≡ false
-    → position (w .contents) + length xs ≤ capacity → Bytes xs → ranUpdate region w (appends xs) u ≡ takes xs u
+    → position (w .contents) + length xs ≤ capacity → Bytes xs → ranUpdate region w (appends xs) u ≡ withAppended xs u
 unfolding appends
-appends-update hd rs im [] region w u h e d p b = unfold ranUpdate in (sym (takes-nil u))
+appends-update hd rs im [] region w u h e d p b = unfold ranUpdate in (sym (withAppended-nil u))
 appends-update hd rs im (x ∷ xs) region w u h e d p b =
     let s = byte-step hd region w u x (h .open·) e d (omega arith) in
     let w1 = withBytes w (x ∷ []) in
-    let u1 = takes (x ∷ []) u in
+    let u1 = withAppended (x ∷ []) u in
     let rm = idle-free (w .contents) d (ranged w (h .open· .tied .range) .contents) in
     let h1 : Now hd rs im region w1 u1 =
     record { kept = h .kept; open· = with-bytes region hd w u (h .open·) (x ∷ []) (bytes-cons x [] (b 0) bytes-nil) e d (omega arith) (omega arith) } in
@@ -229,11 +229,11 @@ appends-update hd rs im (x ∷ xs) region w u h e d p b =
     byte-update region w u x (dues ++ appends xs) s
     ∙ dues-update region w1 (appends xs) u1
     ∙ appends-update hd rs im xs (regionThree region w1) (writerThree region w1) u1 (t .now) (t .closed ∙ c1) (t .still) (omega (arith, t .position·, bytes-position w x)) (λ k. b (suc k))
-    ∙ takes-more x xs u
+    ∙ withAppended-more x xs u
 
 -- what was due, then bytes
 pub dues-appends : (hd : Loaded) (rs : List Source) (im : Image) (xs region : List ℕ) (w : Writer) (u : Update) → Now hd rs im region w u → w .contents .closed ≡ false
-    → position (w .contents) + length xs ≤ capacity → Bytes xs → ranUpdate region w (dues ++ appends xs) u ≡ takes xs u
+    → position (w .contents) + length xs ≤ capacity → Bytes xs → ranUpdate region w (dues ++ appends xs) u ≡ withAppended xs u
 dues-appends hd rs im xs region w u h e p b =
     let t = three hd rs im region w u h in
     dues-update region w (appends xs) u

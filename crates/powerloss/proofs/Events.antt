@@ -28,7 +28,7 @@ use Rattle.lower.specs.Lower.{started, begun}
 use Rattle.run.specs.Run.{Lower, lowerStep, lowerOps, lowerRegion, ranWriter, ranOps}
 use Rattle.run.specs.Appends.{appends}
 use Rattle.upper.specs.Upper.{Upper, runOf, refusalOf, runIf, upperRun, answered, upperStep, upperOps, beginRefusal, keyBytes, beginRun, beganWith, beginStep, beginOps}
-use Rattle.powerloss.specs.History.{Update, opened, takes, updateAfter, isDone}
+use Rattle.powerloss.specs.History.{Update, opened, withAppended, updateAfter, isDone}
 use Rattle.powerloss.specs.Machine.{Image, Event, begin, beginCut, call, cut, beginKey, beginKeyCut, upper, upperCut, Run, onCall, onCut, onUpper, onUpperCut, stateAfter, found, next, nextAll}
 use Rattle.powerloss.specs.Claim.{UpperTyped, Typed, AllTyped}
 use Rattle.powerloss.proofs.Inv.{Kept, Open, State}
@@ -86,7 +86,7 @@ module _ (region : List ℕ) (hd : Loaded) (rs : List Source) (im : Image) (k : 
   key-by : (x : Option Refusal) → beganWith x (ranWriter region w0 (runIf x (appends key))) comparing now .answer ≡ Done
       → TallyOf (length (ranOps region w0 (runIf x (appends key)))) (beganWith x (ranWriter region w0 (runIf x (appends key))) comparing now .writer)
   key-by none e =
-      ran-tally (appends key) region hd rs im w0 (takes [] (opened hd now)) (plain-appends key (bytes-key identity texts lengths bi bt)) k
+      ran-tally (appends key) region hd rs im w0 (withAppended [] (opened hd now)) (plain-appends key (bytes-key identity texts lengths bi bt)) k
       (begun-open region hd rs im comparing now f k (done-by region hd (k .size) (k .loads)))
       0 (length (ranOps region w0 (appends key))) (first-tally comparing hd now) (omega arith)
   key-by (some r) e = absurd (false≢true (ap isDone e))
@@ -228,7 +228,7 @@ lower-operations region l y now f calls p e =
     let k = inv-found region l y .kept in
     let hd = loaded region in
     let w = started hd false now in
-    let i : Inv (mk region (some w) hd (found region .history .records) (some (takes [] (opened hd now))) (found region .image)) =
+    let i : Inv (mk region (some w) hd (found region .history .records) (some (withAppended [] (opened hd now))) (found region .image)) =
     record { kept = unfold found in k; open· = unfold found in (begun-open region hd _ _ false now f k (done-by region hd l refl)) } in
-    let z = calls-tally calls region w hd (found region .history .records) (some (takes [] (opened hd now))) (found region .image) p i 0 (length (ranOps region w calls)) (first-tally false hd now) (omega arith) in
+    let z = calls-tally calls region w hd (found region .history .records) (some (withAppended [] (opened hd now))) (found region .image) p i 0 (length (ranOps region w calls)) (first-tally false hd now) (omega arith) in
     counted (ranWriter region w calls) (length (ranOps region w calls)) (z .range) e (z .tally)

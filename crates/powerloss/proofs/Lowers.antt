@@ -37,7 +37,7 @@ use Rattle.lower.specs.Lower.{started, begun, answerOf}
 use Rattle.due.specs.Due.{withStage}
 use Rattle.commit.specs.Commit.{isHeaderWritten, wordStep, wordOps}
 use Rattle.run.specs.Run.{Lower, source, table, bytes, end, close, due, unchanged, commit, word, lowerStep, lowerOps}
-use Rattle.powerloss.specs.History.{Update, opened, takes, recordsAfter, updateAfter, isWord, isDone, anyDone, committed, afterLower, afterLowerCut, afterBegin}
+use Rattle.powerloss.specs.History.{Update, opened, withAppended, recordsAfter, updateAfter, isWord, isDone, anyDone, committed, afterLower, afterLowerCut, afterBegin}
 use Rattle.powerloss.specs.Machine.{cutAt, doneAt, Image, Run, begin, cut, imageAfter, onCall, onCut, stateAfter, next}
 use Rattle.powerloss.specs.Claim.{LowerTyped}
 use Rattle.powerloss.proofs.Bytes.{bytes-fill}
@@ -206,13 +206,13 @@ inv-cut c i j region (some w) hd rs (some u) im p h = inv-lower-cut region hd rs
 -- ---- a beginning
 
 begin-mode : (c : Bool) (region : List ℕ) (hd : Loaded) (now : ℤ) → length region ≡ regionSize → loaded region ≡ hd
-    → Mode c (started hd c now .stage) region hd (started hd c now .beginning .active) (started hd c now .contents) (started hd c now .tail) (takes [] (opened hd now))
+    → Mode c (started hd c now .stage) region hd (started hd c now .beginning .active) (started hd c now .contents) (started hd c now .tail) (withAppended [] (opened hd now))
 unfolding started opened
 begin-mode true region hd now l e = tt
 begin-mode false region hd now l e = (record { active = refl; other = other-held region hd l e }, inl (record { written = refl; all = refl }))
 
 begin-open : (region : List ℕ) (hd : Loaded) (c : Bool) (now : ℤ) → SFits w64 now → length region ≡ regionSize → loaded region ≡ hd → activeOk hd ≡ true
-    → Open region hd (started hd c now) (takes [] (opened hd now))
+    → Open region hd (started hd c now) (withAppended [] (opened hd now))
 unfolding started opened contentsOk stageOk isDue recordsAfter All
 begin-open region hd c now f l e ok =
     record {
@@ -235,7 +235,7 @@ begin-open region hd c now f l e ok =
 
 -- the new state, if the beginning is answered
 pub begun-open : (region : List ℕ) (hd : Loaded) (rs : List Source) (im : Image) (c : Bool) (now : ℤ) → SFits w64 now → Kept region hd rs im → answerOf hd ≡ Done
-    → Open region hd (started hd c now) (takes [] (opened hd now))
+    → Open region hd (started hd c now) (withAppended [] (opened hd now))
 begun-open region hd rs im c now f k d = begin-open region hd c now f (k .size) (k .loads) (active-ok region hd (k .size) (k .loads))
 
 begin-by : (c : Bool) (now : ℤ) (region : List ℕ) (s : Option Writer) (hd : Loaded) (rs : List Source) (v : Option Update) (im : Image) → SFits w64 now → Inv (mk region s hd rs v im) → (x : Answer) → answerOf hd ≡ x

@@ -19,7 +19,7 @@ use Rattle.lower.specs.Lower.{started}
 use Rattle.run.specs.Run.{bytes, lowerStep, lowerRegion, ranWriter}
 use Rattle.run.specs.Appends.{appends}
 use Rattle.upper.specs.Upper.{beginRefusal, keyBytes, beginRun, beganWith, beginStep}
-use Rattle.powerloss.specs.History.{Update, opened, takes, updateAfter, isDone}
+use Rattle.powerloss.specs.History.{Update, opened, withAppended, updateAfter, isDone}
 use Rattle.powerloss.specs.Machine.{Image, found, nextAll}
 use Rattle.powerloss.proofs.Bytes.{bytes-nil, bytes-cons}
 use Rattle.powerloss.proofs.Inv.{Kept}
@@ -60,7 +60,7 @@ begin-at region hd rs im k comparing now identity texts lengths f bi bt =
     let o = begun-open region hd rs im comparing now f k (done-by region hd (k .size) (k .loads)) in
     answered-still (beginRefusal region identity texts lengths) _ comparing now
     (λ e. rw (e, k .loads)
-    (appends-still hd rs im (keyBytes identity texts lengths) region (started hd comparing now) (takes [] (opened hd now)) (record { kept = k; open· = o }) (first-still hd comparing now) (bytes-key identity texts lengths bi bt)))
+    (appends-still hd rs im (keyBytes identity texts lengths) region (started hd comparing now) (withAppended [] (opened hd now)) (record { kept = k; open· = o }) (first-still hd comparing now) (bytes-key identity texts lengths bi bt)))
 
 pub begin-nothingDue : BeginNothingDue
 begin-nothingDue region events l y p comparing now identity texts lengths f bi bt =

@@ -36,7 +36,7 @@ use Rattle.writer.proofs.Laws.{Ranged, ranged, position-fits, count-fits, open-
 use Rattle.lower.specs.Lower.{mayAppend, mayBegin, emptied, pastEnd, withBlock, blockOf, withSource, sourceStep, withTable, tableStep, withEnd, endStep}
 use Rattle.commit.specs.Unchanged.{unchangedStep, mayAsk, isUnchanged}
 use Rattle.run.specs.Run.{source, table, end, unchanged}
-use Rattle.powerloss.specs.History.{Note, sourceNote, tableNote, endNote, Update, blockBetween, lastWith, recordsAfter, takes, notesOf, updateAfter}
+use Rattle.powerloss.specs.History.{Note, sourceNote, tableNote, endNote, Update, blockBetween, lastWith, recordsAfter, withAppended, notesOf, updateAfter}
 use Rattle.powerloss.proofs.Records.{table-append, from-append, records-source, records-table, records-end, block-is, more-sources, last-source, all-append, all-set, all-at}
 use Rattle.powerloss.proofs.Inv.{Live, Laid, Lies, LiveAt, Mode, Open}
 use Rattle.powerloss.proofs.Range.{range-of, true-false, due-ok, headed-end, committed-end, tables-none, tables-open}
@@ -154,8 +154,8 @@ unfolding stageOf
 mode-stage true region hd active t tail u m h = tt
 mode-stage false region hd active t tail u m h = stage-lies t tail u _ m region hd active (h .0) (h .1) (isDue t)
 
-pub takes-nil : (u : Update) → takes [] u ≡ u
-takes-nil u = ap (λ (l : List ℕ). record { number = u .number; generation = u .generation; now = u .now; data· = l; notes = u .notes; checked = u .checked }) (append-nil (u .data·))
+pub withAppended-nil : (u : Update) → withAppended [] u ≡ u
+withAppended-nil u = ap (λ (l : List ℕ). record { number = u .number; generation = u .generation; now = u .now; data· = l; notes = u .notes; checked = u .checked }) (append-nil (u .data·))
 
 module _ (region : List ℕ) (hd : Loaded) (w : Writer) (u : Update) (o : Open region hd w u) where
   own : Ranged w

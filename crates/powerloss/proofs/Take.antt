@@ -30,11 +30,11 @@ use Rattle.writer.specs.State.{position, isDue, stageOf, isOpen, inRange, table
 use Rattle.writer.proofs.Laws.{Ranged, ranged, fill-fits, open-table}
 use Rattle.lower.specs.Lower.{mayAppend, accepted, moreContents, withBytes, appended, bytesStep, closedContents, withClosed, closeStep}
 use Rattle.run.specs.Run.{bytes, close}
-use Rattle.powerloss.specs.History.{Update, recordsAfter, takes, updateAfter}
+use Rattle.powerloss.specs.History.{Update, recordsAfter, withAppended, updateAfter}
 use Rattle.powerloss.proofs.Bytes.{bytes-take, bytes-sets}
 use Rattle.powerloss.proofs.Inv.{Lies, Mode, Open}
 use Rattle.powerloss.proofs.Range.{range-of, open-aligned, contents-of, aligned-of, stage-ok, close-stage, close-contents, tables-later}
-use Rattle.powerloss.proofs.Quiet.{only-idle, mode-stage, takes-nil}
+use Rattle.powerloss.proofs.Quiet.{only-idle, mode-stage, withAppended-nil}
 
 -- the tail once bytes are appended to what it holds
 tail-more : (tail : List ℕ) (n : ℕ) (ys : List ℕ) → n + length ys ≤ length tail → take (n + length ys) (sets tail n ys) ≡ take n tail ++ ys
@@ -43,7 +43,7 @@ tail-more tail n ys h =
     ap (take (n + length ys)) (sets-eq ys tail n h)
     ∙ take-at (take n tail ++ ys) (drop (n + length ys) tail) (n + length ys) l
 
-idle-more : (t : Contents) (tail : List ℕ) (u : Update) (b ys : List ℕ) → t .fill + length ys ≤ length tail → Lies Idle t tail u b → Lies Idle (moreContents t ys) (sets tail (t .fill) ys) (takes ys u) b
+idle-more : (t : Contents) (tail : List ℕ) (u : Update) (b ys : List ℕ) → t .fill + length ys ≤ length tail → Lies Idle t tail u b → Lies Idle (moreContents t ys) (sets tail (t .fill) ys) (withAppended ys u) b
 idle-more t tail u b ys l (inl f) =
     inl (record { written = f .written; all = ap (λ (x : List ℕ). x ++ ys) (f .all) ∙ sym (tail-more tail (t .fill) ys l) })
 idle-more t tail u b ys l (inr h) =
@@ -67,7 +67,7 @@ idle-more t tail u b ys l (inr h) =
     )
 
 mode-more : (c : Bool) (st : Stage) (region : List ℕ) (hd active : Loaded) (t : Contents) (tail : List ℕ) (u : Update) (ys : List ℕ) → st ≡ Idle → t .fill + length ys ≤ length tail
-    → Mode c st region hd active t tail u → Mode c Idle region hd active (moreContents t ys) (sets tail (t .fill) ys) (takes ys u)
+    → Mode c st region hd active t tail u → Mode c Idle region hd active (moreContents t ys) (sets tail (t .fill) ys) (withAppended ys u)
 mode-more true st region hd active t tail u ys e l h = tt
 mode-more false st region hd active t tail u ys e l h =
     let g = subst (λ (s : Stage). Mode false s region hd active t tail u) e h in
@@ -100,7 +100,7 @@ module _ (region : List ℕ) (hd : Loaded) (w : Writer) (u : Update) (o : Open r
   -- ---- bytes
 
   pub with-bytes : (ys : List ℕ) → Bytes ys → w .contents .closed ≡ false → isDue (w .contents) ≡ false → w .contents .fill + length ys ≤ tailSize → position (w .contents) + length ys ≤ capacity
-      → Open region hd (withBytes w ys) (takes ys u)
+      → Open region hd (withBytes w ys) (withAppended ys u)
   unfolding withBytes
   with-bytes ys b e d f p =
       let t = w .contents in
@@ -145,12 +145,12 @@ module _ (region : List ℕ) (hd : Loaded) (w : Writer) (u : Update) (o : Open r
                   };
             };
         mode =
-            mode-stage (w .beginning .comparing) region hd (w .beginning .active) (moreContents t ys) (sets (w .tail) (t .fill) ys) (takes ys u) al
+            mode-stage (w .beginning .comparing) region hd (w .beginning .active) (moreContents t ys) (sets (w .tail) (t .fill) ys) (withAppended ys u) al
             (mode-more (w .beginning .comparing) (w .stage) region hd (w .beginning .active) t (w .tail) u ys st (omega (arith, o .tied .tailed .length·)) (o .mode));
       }
 
-  none-appended : Open region hd w (takes [] u)
-  none-appended = subst (Open region hd w) (sym (takes-nil u)) o
+  none-appended : Open region hd w (withAppended [] u)
+  none-appended = subst (Open region hd w) (sym (withAppended-nil u)) o
 
   appended-by : (xs : List ℕ) → Bytes xs → w .contents .closed ≡ false → position (w .contents) + length xs ≤ capacity → (n : ℕ) → n ≡ accepted (w .contents) (length xs) → (d : Bool) → isDue (w .contents) ≡ d
       → Open region hd (pick {A = Step} d (record { answer = Appended 0; writer = w }) (record { answer = Appended n; writer = withBytes w (take n xs) }) .writer)

@@ -37,13 +37,13 @@ use Rattle.lower.proofs.Laws.{source-done, table-done, end-done, close-done}
 use Rattle.run.specs.Run.{Lower, source, table, end, close, lowerStep, lowerOps, ranWriter, ranRegion, ranOps}
 use Rattle.run.specs.Appends.{dues, appends}
 use Rattle.upper.specs.Upper.{Upper, sourceWithDates, tableWithNames, row, tableEnd, closing, appendedBytes, lowerOf, runOf, argumentOk, orderOk, rowOk, sourceFits, allFits, refusalOf, runIf, upperRun, answered, upperStep, upperRegion, upperOps, beginRefusal, keyBytes, beginRun, beganWith, beginStep, beginRegion, beginOps}
-use Rattle.powerloss.specs.History.{Update, sourceNote, tableNote, endNote, opened, takes, notesOf, updateAfter, upperNoted, upperAfter, afterUpper, afterBegin}
+use Rattle.powerloss.specs.History.{Update, sourceNote, tableNote, endNote, opened, withAppended, notesOf, updateAfter, upperNoted, upperAfter, afterUpper, afterBegin}
 use Rattle.powerloss.specs.Machine.{cutAt, Image, Run, Event, begin, beginCut, call, cut, beginKey, beginKeyCut, upper, upperCut, onUpper, onUpperCut, stateAfter, next, nextAll, found}
 use Rattle.powerloss.specs.Claim.{UpperTyped, Typed, AllTyped, Demand3}
 use Rattle.powerloss.proofs.Bytes.{bytes-nil, bytes-cons, bytes-take, bytes-drop}
 use Rattle.powerloss.proofs.Load.{load-own, load-read, valid-generation}
 use Rattle.powerloss.proofs.Inv.{Small, Kept, Open, State}
-use Rattle.powerloss.proofs.Quiet.{takes-nil, with-source, with-table, with-end}
+use Rattle.powerloss.proofs.Quiet.{withAppended-nil, with-source, with-table, with-end}
 use Rattle.powerloss.proofs.Lowers.{Inv, mk, inv-call, inv-cut, inv-begin, begun-open}
 use Rattle.powerloss.proofs.Texts.{bytes-dates, bytes-names, bytes-row, bytes-key}
 use Rattle.powerloss.proofs.Runs.{ranUpdate, AllPlain, Ran, ran}
@@ -109,21 +109,21 @@ module _ (hd : Loaded) (rs : List Source) (im : Image) (region : List ℕ) (w : 
     may = may-append hd region w u (h .open·) e
 
     source-run : (s : Source) (xs : List ℕ) → Proper s → not (isOpen (w .tables)) ≡ true → w .tables .count < maxSources → position (w .contents) + length xs ≤ capacity → Bytes xs
-        → ranUpdate region w (source s ∷ (dues ++ appends xs)) u ≡ takes xs (notesOf (sourceNote s) u)
+        → ranUpdate region w (source s ∷ (dues ++ appends xs)) u ≡ withAppended xs (notesOf (sourceNote s) u)
     unfolding withSource
     source-run s xs p n c f b =
         source-update s (dues ++ appends xs) (source-done w s (rw may n) c)
         ∙ dues-appends hd rs im xs region (withSource w s) (notesOf (sourceNote s) u) (record { kept = h .kept; open· = with-source region hd w u (h .open·) s p e c }) e f b
 
     table-run : (t : ℕ) (xs : List ℕ) → t ≤ 7 → mayBegin (w .tables) t ≡ true → position (w .contents) + length xs ≤ capacity → Bytes xs
-        → ranUpdate region w (table t ∷ (dues ++ appends xs)) u ≡ takes xs (notesOf (tableNote t (length (u .data·))) u)
+        → ranUpdate region w (table t ∷ (dues ++ appends xs)) u ≡ withAppended xs (notesOf (tableNote t (length (u .data·))) u)
     unfolding withTable
     table-run t xs l m f b =
         let c = leb-true 1 (w .tables .count) (and-left (leb 1 (w .tables .count)) _ (and-right (not (isOpen (w .tables))) _ m)) in
         table-update t (dues ++ appends xs) (table-done w t l (rw may m))
         ∙ dues-appends hd rs im xs region (withTable w t) (notesOf (tableNote t (length (u .data·))) u) (record { kept = h .kept; open· = with-table region hd w u (h .open·) t e l c }) e f b
 
-    end-run : isOpen (w .tables) ≡ true → ranUpdate region w (end ∷ (dues ++ appends [])) u ≡ takes [] (notesOf (endNote (length (u .data·))) u)
+    end-run : isOpen (w .tables) ≡ true → ranUpdate region w (end ∷ (dues ++ appends [])) u ≡ withAppended [] (notesOf (endNote (length (u .data·))) u)
     unfolding withEnd
     end-run m =
         end-update (dues ++ appends []) (end-done w (rw may m))
@@ -133,12 +133,12 @@ module _ (hd : Loaded) (rs : List Source) (im : Image) (region : List ℕ) (w : 
         position-most : position (w .contents) ≤ capacity
         position-most = position-fits (w .contents) (ranged w (h .open· .tied .range) .contents)
 
-    close-run : not (isOpen (w .tables)) ≡ true → ranUpdate region w (close ∷ (dues ++ appends [])) u ≡ takes [] u
+    close-run : not (isOpen (w .tables)) ≡ true → ranUpdate region w (close ∷ (dues ++ appends [])) u ≡ withAppended [] u
     unfolding appends
     close-run m =
         close-update (dues ++ appends []) (close-done w (rw may m))
         ∙ dues-update region (withClosed w) [] u
-        ∙ unfold ranUpdate in (sym (takes-nil u))
+        ∙ unfold ranUpdate in (sym (withAppended-nil u))
 
 -- ---- the run of an accepted call appends all of its bytes and has the call's own note
 
@@ -180,7 +180,7 @@ module _ (hd : Loaded) (rs : List Source) (im : Image) (region : List ℕ) (w : 
   fits-of : (c : Upper) → allFits w c ≡ true → position (writerThree region w .contents) + length (appendedBytes c) ≤ capacity
   fits-of c e = omega (arith, t3 .position·, leb-true (position (w .contents) + length (appendedBytes c)) capacity (and-right (sourceFits w c) (leb (position (w .contents) + length (appendedBytes c)) capacity) e))
 
-  run-update : (c : Upper) → UpperTyped c → Accepted w c → ranUpdate region w (runOf c) u ≡ takes (appendedBytes c) (upperNoted c u)
+  run-update : (c : Upper) → UpperTyped c → Accepted w c → ranUpdate region w (runOf c) u ≡ withAppended (appendedBytes c) (upperNoted c u)
   unfolding runOf
   run-update (sourceWithDates s) p a =
       let m = and-left (mayAppend w) (not (isOpen (w .tables))) (a .order) in
@@ -284,12 +284,12 @@ module _ (comparing : Bool) (now : ℤ) (identity texts lengths : List ℕ) (f :
 
   module _ (region : List ℕ) (hd : Loaded) (rs : List Source) (im : Image) (k : Kept region hd rs im) where
     first-open : Open region hd (started hd comparing now) (opened hd now)
-    first-open = subst (Open region hd (started hd comparing now)) (takes-nil (opened hd now)) (begun-open region hd rs im comparing now f k (done-by region hd (k .size) (k .loads)))
+    first-open = subst (Open region hd (started hd comparing now)) (withAppended-nil (opened hd now)) (begun-open region hd rs im comparing now f k (done-by region hd (k .size) (k .loads)))
 
     key-run : Ran (appends key) region hd rs im (started hd comparing now) (opened hd now)
     key-run = ran (appends key) region hd rs im (started hd comparing now) (opened hd now) (plain-appends key bytes-of-key) k first-open
 
-    key-update : beginRefusal region identity texts lengths ≡ none → ranUpdate region (started hd comparing now) (appends key) (opened hd now) ≡ takes key (opened hd now)
+    key-update : beginRefusal region identity texts lengths ≡ none → ranUpdate region (started hd comparing now) (appends key) (opened hd now) ≡ withAppended key (opened hd now)
     unfolding started isDue
     key-update e = appends-update hd rs im key region (started hd comparing now) (opened hd now) (record { kept = k; open· = first-open }) refl refl (omega (arith, key-fits region e)) bytes-of-key
 

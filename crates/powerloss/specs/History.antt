@@ -79,8 +79,8 @@ bankOf u =
       checked = u .checked;
     }
 
-abbrev pub takes : List ℕ → Update → Update
-takes xs u = record { number = u .number; generation = u .generation; now = u .now; data· = u .data· ++ xs; notes = u .notes; checked = u .checked }
+abbrev pub withAppended : List ℕ → Update → Update
+withAppended xs u = record { number = u .number; generation = u .generation; now = u .now; data· = u .data· ++ xs; notes = u .notes; checked = u .checked }
 
 abbrev pub notesOf : Note → Update → Update
 notesOf n u = record { number = u .number; generation = u .generation; now = u .now; data· = u .data·; notes = u .notes ++ (n ∷ []); checked = u .checked }
@@ -102,7 +102,7 @@ noted unchanged u = u
 noted word u = u
 
 abbrev pub appendedSome : Lower → ℕ → Update → Update
-appendedSome (bytes xs) n u = takes (take n xs) u
+appendedSome (bytes xs) n u = withAppended (take n xs) u
 appendedSome (source s) n u = u
 appendedSome (table t) n u = u
 appendedSome end n u = u
@@ -172,7 +172,7 @@ upperNoted tableEnd u = notesOf (endNote (length (u .data·))) u
 upperNoted closing u = u
 
 unfoldable pub upperAfter : Upper → Answer → Update → Update
-upperAfter c Done u = takes (appendedBytes c) (upperNoted c u)
+upperAfter c Done u = withAppended (appendedBytes c) (upperNoted c u)
 upperAfter c (Appended n) u = u
 upperAfter c NoneDue u = u
 upperAfter c Same u = u
@@ -185,7 +185,7 @@ afterUpper c a h (some u) = withOpen (some (upperAfter c a u)) h
 
 -- an answered beginning opens an update; a refused one leaves what is open
 unfoldable pub afterBegin : ℤ → List ℕ → Answer → History → History
-afterBegin now key Done h = withOpen (some (takes key (opened (h .held) now))) h
+afterBegin now key Done h = withOpen (some (withAppended key (opened (h .held) now))) h
 afterBegin now key (Appended n) h = h
 afterBegin now key NoneDue h = h
 afterBegin now key Same h = h
