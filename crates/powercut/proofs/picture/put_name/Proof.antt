@@ -2,8 +2,8 @@
 use borrow.Author.Needs.{needs}
 use Prim.Native.Nat.{_≤_, _-_}
 use lib.ListN.{length}
-use Rattle.powercut.proofs.picture.say_name.Statement.{statement}
-use Rattle.powercut.proofs.picture.say_name.Tie as tie
+use Rattle.powercut.proofs.picture.put_name.Statement.{statement}
+use Rattle.powercut.proofs.picture.put_name.Tie as tie
 
 abbrev Inv-loop : tie.InvT-loop
 Inv-loop fd name i₀ i = i ≤ length name
@@ -14,8 +14,8 @@ abbrev μ-loop : tie.MeasureT-loop
 loop-holds : tie.Need-loop-holds Inv-loop μ-loop
 loop-holds c = search needs
 
-say-byte-requires : tie.Need-say-byte-requires Inv-loop μ-loop
-say-byte-requires c κs = search needs
+put-byte-requires : tie.Need-put-byte-requires Inv-loop μ-loop
+put-byte-requires c κs = search needs
 
 add-i : tie.Need-add-i Inv-loop μ-loop
 add-i c = search needs
@@ -29,15 +29,7 @@ loop-again c = search needs
 returns : tie.Need-returns Inv-loop μ-loop
 returns c = search needs
 
-pub say-name-spec : {M : Type 1} → statement M
-say-name-spec =
+pub put-name-spec : {M : Type 1} → statement M
+put-name-spec =
     tie.close
-    (tie.spec
-    Inv-loop
-    μ-loop
-    loop-holds
-    say-byte-requires
-    add-i
-    loop-less
-    loop-again
-    returns)
+    (tie.spec Inv-loop μ-loop loop-holds put-byte-requires add-i loop-less loop-again returns)
