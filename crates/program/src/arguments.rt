@@ -10,9 +10,9 @@ use crate::bytes::copy;
 pub const ARGUMENT_SIZE: usize = 131072;
 
 // The image if none is named.
-const DEFAULT_IMAGE: [u8; 20] = *b"samples/two-good.img";
-
 const DEFAULT_IMAGE_SIZE: usize = 20;
+
+const DEFAULT_IMAGE: [u8; DEFAULT_IMAGE_SIZE] = *b"samples/two-good.img";
 
 // A buffer of zeros for an argument.
 pub fn buffer() -> [u8; ARGUMENT_SIZE]

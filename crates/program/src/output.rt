@@ -1,5 +1,4 @@
-// Pieces of a line on a file, standard output or standard error. These functions give nothing and lend nothing, and no contract can say what is
-// written.
+// Pieces of a line on a file, standard output or standard error. No contract can say what is written.
 use base::number::wider;
 use libc::STDERR_FILENO;
 use libc::STDOUT_FILENO;
