@@ -1,21 +1,26 @@
 // The lines on a region.
 use crate::listing;
 use crate::options::Options;
+use crate::out::BYTES_IN_LINE;
 use crate::out::field;
 use crate::out::hex_field;
 use crate::out::hex_line;
-use crate::out::place_field;
+use crate::out::offset_field;
 use crate::out::refused;
-use crate::out::say;
 use crate::out::signed_field;
-use crate::out::table;
 use crate::out::time_field;
+use crate::tables::say_table;
 use bank::Loaded;
 use base::slice::part;
+use base::table::LAST_TABLE;
+use base::table::TABLES;
 use header::Bank;
 use header::Validated;
 use key::SameKey;
+use program::lengths;
+use program::output::say;
 use record::Block;
+use record::ORIGINAL_WORDS;
 use record::Source;
 use region::BANK_SIZE;
 use region::CAPACITY;
@@ -44,17 +49,17 @@ fn bank_line(region: &[u8], number: u32) {
     }
 }
 
-// A bank's key, 32 bytes a line.
+// A bank's key.
 fn key_lines(key: &[u8]) {
     let mut at = 0;
     while at < key.len() {
-        place_field(b"key ", at);
+        offset_field(b"key ", at);
         say(b":");
-        hex_line(part(key, at, 32));
-        if key.len() - at <= 32 {
+        hex_line(part(key, at, BYTES_IN_LINE));
+        if key.len() - at <= BYTES_IN_LINE {
             return;
         }
-        at += 32;
+        at += BYTES_IN_LINE;
     }
 }
 
@@ -67,28 +72,35 @@ fn keys(region: &[u8], b: Bank) {
     key_lines(part(data, 0, b.key as usize));
 }
 
+// One more than the bits of all tables.
+const ALL_PRESENT: u32 = 256;
+// A table's bit, and its two original numbers.
+const BIT: u32 = 2;
+
+const ORIGINAL: usize = 2;
+
 // The tables whose present bits are set, each after a space.
 fn present(bits: u32) {
-    if bits % 256 == 0 {
+    if bits % ALL_PRESENT == 0 {
         say(b" none");
     }
     let mut rest = bits;
-    let mut t = 0;
-    while t < 8 {
-        if rest % 2 == 1 {
-            table(t);
+    let mut t: u32 = 0;
+    while t <= LAST_TABLE {
+        if rest % BIT == 1 {
+            say_table(t);
         }
-        rest /= 2;
+        rest /= BIT;
         t += 1;
     }
 }
 
-fn table_line(i: u32, t: usize, b: Block, crc: u32, length: u32) {
+fn table_line(i: u32, t: u32, b: Block, crc: u32, length: u32) {
     if (b.length == 0) & ((crc == 0) & (length == 0)) {
         return;
     }
     field(b"source ", i);
-    table(t);
+    say_table(t);
     field(b": offset ", b.offset);
     field(b", length ", b.length);
     hex_field(b", crc ", b.crc);
@@ -97,12 +109,13 @@ fn table_line(i: u32, t: usize, b: Block, crc: u32, length: u32) {
     say(b"\n");
 }
 
-fn table_lines(i: u32, tables: [Block; 8], original: [u32; 16]) {
-    let mut t = 0;
-    while t < 8 {
-        let b = tables[t];
-        let crc = original[2 * t];
-        let length = original[2 * t + 1];
+fn table_lines(i: u32, tables: [Block; TABLES], original: [u32; ORIGINAL_WORDS]) {
+    let mut t: u32 = 0;
+    while t <= LAST_TABLE {
+        let k = t as usize;
+        let b = tables[k];
+        let crc = original[ORIGINAL * k];
+        let length = original[ORIGINAL * k + 1];
         table_line(i, t, b, crc, length);
         t += 1;
     }
@@ -148,14 +161,6 @@ fn fresh(region: &[u8], number: u32, o: Options) {
     }
 }
 
-// The first n lengths, or all.
-fn first(lengths: &[u32], n: usize) -> &[u32] {
-    if n < lengths.len() {
-        return &lengths[..n];
-    }
-    lengths
-}
-
 fn same_key(
     region: &[u8],
     number: u32,
@@ -169,8 +174,8 @@ fn same_key(
         region,
         number,
         identity,
-        part(texts, 0, o.used),
-        first(lengths, o.lengths),
+        part(texts, 0, o.texts),
+        lengths::first(lengths, o.lengths),
     );
     match k {
         SameKey::Same => say(b"yes\n"),

@@ -1,26 +1,20 @@
-// The help, and the one line on standard error that says what is wrong.
+// The help, and what is wrong with the arguments.
+use crate::PROGRAM;
 use crate::options::End;
 use crate::options::Options;
-use crate::out::say;
 use base::slice::part;
-use libc::STDERR_FILENO;
+use program::message;
+use program::output::say;
 
-fn complain(text: &[u8]) {
-    io::write_all(STDERR_FILENO, text);
-}
-
-// Says what is wrong with the arguments.
 fn wrong(text: &[u8]) {
-    complain(b"inspect: ");
-    complain(text);
-    complain(b"; see inspect --help\n");
+    let program = PROGRAM;
+    message::wrong(&program, text);
 }
 
-fn no_option(at: usize, space: &mut [u8]) {
-    let n = os::arg(at, space);
-    complain(b"inspect: there is no option ");
-    complain(part(space, 0, n));
-    complain(b"; see inspect --help\n");
+fn no_option(at: usize, buffer: &mut [u8]) {
+    let n = os::arg(at, buffer);
+    let program = PROGRAM;
+    message::no_option(&program, part(buffer, 0, n));
 }
 
 fn help_start() {
@@ -73,13 +67,13 @@ fn help() {
     help_end();
 }
 
-// Writes the help or what is wrong with the arguments; whether there was either.
-pub fn said(o: Options, space: &mut [u8]) -> bool {
+// Writes the help, or what is wrong with the arguments.
+pub fn report(o: Options, buffer: &mut [u8]) {
     let end = o.end;
     match end {
-        End::More => return false,
+        End::More => return,
         End::Help => help(),
-        End::NoOption => no_option(o.at, space),
+        End::NoOption => no_option(o.next, buffer),
         End::Images => wrong(b"one image at a time"),
         End::Now => wrong(b"--now needs a number of seconds"),
         End::Days => wrong(b"--days needs three numbers as D1,D2,D3"),
@@ -89,25 +83,4 @@ pub fn said(o: Options, space: &mut [u8]) -> bool {
         End::Pick => wrong(b"--pick needs five texts: line, route, stop code, stop, stop name"),
         End::Rows => wrong(b"--rows needs a source (0, 1, 2 or all) and a table's name or all"),
     }
-    true
-}
-
-// Says that an image can't be read, and why.
-pub fn unread(name: &[u8]) {
-    complain(b"inspect: ");
-    complain(name);
-    os::fail(b" can't be read");
-}
-
-// Says that an image has a wrong size.
-pub fn wrong_size(name: &[u8], n: usize) {
-    complain(b"inspect: ");
-    complain(name);
-    complain(b" has ");
-    if 4194304 < n {
-        complain(b"more than 4194304");
-    } else {
-        io::print_decimal(STDERR_FILENO, n as u64);
-    }
-    complain(b" bytes; expected a region of 983040 bytes or a whole flash dump of 4194304 bytes\n");
 }

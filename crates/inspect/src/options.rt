@@ -1,18 +1,84 @@
 // The arguments.
-use crate::text::Number;
-use crate::text::after;
-use crate::text::between;
-use crate::text::copy;
-use crate::text::digits;
-use crate::text::find;
-use crate::text::same;
-use crate::text::set;
-use crate::text::signed;
+use crate::tables::Choice;
+use crate::tables::table_named;
 use base::slice::part;
+use base::slice::same_bytes;
+use key::FIELDS;
+use key::MAX_PICKS;
 use leaf::bytes::get8;
+use program::arguments::follow;
+use program::bytes::copy;
+use program::lengths;
+use program::number::NUMBERS_32;
+use program::number::SIGN_BIT;
+use program::number::low32;
+use program::number::signed;
+use program::text::Number;
+use program::text::after;
+use program::text::between;
+use program::text::digits;
+use program::text::find;
 use snapshot::freshness::Day;
 use snapshot::freshness::Days;
 use std::num::wrapping_add_usize;
+
+// One pick more than a key can have, and its lengths.
+const PICKS: usize = MAX_PICKS + 1;
+
+pub const LENGTHS: usize = FIELDS * PICKS;
+// With these, another pick still fits.
+const LENGTHS_BEFORE: usize = LENGTHS - FIELDS;
+// A field that is longer is cut: one of 255 bytes is over every size already.
+const MOST_LENGTH: usize = 255;
+
+const MOST_LENGTH_32: u32 = MOST_LENGTH as u32;
+
+pub const TEXTS_SIZE: usize = LENGTHS * MOST_LENGTH;
+
+// The second argument of an option.
+const SECOND: usize = 2;
+
+// How many arguments an option has, itself included.
+const ALONE: usize = 1;
+
+const WITH_ONE: usize = 2;
+
+const WITH_TWO: usize = 3;
+
+const WITH_PICK: usize = FIELDS + 1;
+
+// The three flags of --wanted, with commas between them.
+const FIRST_FLAG: usize = 0;
+
+const FIRST_COMMA: usize = 1;
+
+const SECOND_FLAG: usize = 2;
+
+const SECOND_COMMA: usize = 3;
+
+const THIRD_FLAG: usize = 4;
+
+const FLAGS_SIZE: usize = 5;
+
+const FIRST_SOURCE: u32 = 0;
+
+const SECOND_SOURCE: u32 = 1;
+
+const THIRD_SOURCE: u32 = 2;
+
+// What an argument is.
+enum Argument {
+    Image,
+    Help,
+    Now,
+    Days,
+    Wanted,
+    Identity,
+    Pick,
+    Match,
+    Rows,
+    Unknown,
+}
 
 // The outcome of the arguments so far: continue, help, or what is wrong.
 pub enum End {
@@ -29,11 +95,11 @@ pub enum End {
     Rows,
 }
 
-// What the arguments ask for. The image and the identity are indices of arguments, 0 for none. Of the picks the lengths and the bytes are
-// counted; at most 17 picks are kept, one more than a key can have. Source 3 and table 8 are all.
+// What the arguments ask for, and the index of the one that is read next. The image and the identity are indices of arguments, 0 for none. Of
+// the picks the lengths and the bytes are counted.
 pub struct Options {
     pub end: End,
-    pub at: usize,
+    pub next: usize,
     pub image: usize,
     pub timed: bool,
     pub now: i64,
@@ -42,10 +108,10 @@ pub struct Options {
     pub selected: bool,
     pub identity: usize,
     pub lengths: usize,
-    pub used: usize,
+    pub texts: usize,
     pub listed: bool,
-    pub source: u32,
-    pub table: u32,
+    pub source: Choice,
+    pub table: Choice,
 }
 
 fn none() -> Options {
@@ -60,7 +126,7 @@ fn none() -> Options {
     };
     Options {
         end: End::More,
-        at: 1,
+        next: 1,
         image: 0,
         timed: false,
         now: 0,
@@ -69,10 +135,10 @@ fn none() -> Options {
         selected: false,
         identity: 0,
         lengths: 0,
-        used: 0,
+        texts: 0,
         listed: false,
-        source: 0,
-        table: 0,
+        source: Choice::All,
+        table: Choice::All,
     }
 }
 
@@ -80,20 +146,25 @@ fn ended(o: Options, end: End) -> Options {
     Options { end, ..o }
 }
 
-// Whether n arguments follow the one at an index.
-fn follow(at: usize, n: usize) -> bool {
-    wrapping_add_usize(at, n) < os::arg_count()
+// Passes over n arguments.
+fn after_arguments(o: Options, n: usize) -> Options {
+    Options {
+        next: wrapping_add_usize(o.next, n),
+        ..o
+    }
 }
 
-fn take_image(o: Options) -> Options {
+// Writes argument k of an option to the start of a buffer; gives its length.
+fn text_of(o: Options, k: usize, buffer: &mut [u8]) -> usize {
+    os::arg(wrapping_add_usize(o.next, k), buffer)
+}
+
+fn with_image(o: Options) -> Options {
     if o.image != 0 {
         return ended(o, End::Images);
     }
-    Options {
-        image: o.at,
-        at: wrapping_add_usize(o.at, 1),
-        ..o
-    }
+    let p = after_arguments(o, ALONE);
+    Options { image: o.next, ..p }
 }
 
 // Whether a number starts with a minus sign.
@@ -101,7 +172,8 @@ fn negative(s: &[u8]) -> bool {
     get8(s, 0) == b'-'
 }
 
-fn size(s: &[u8]) -> Number {
+// The number without its sign.
+fn magnitude(s: &[u8]) -> Number {
     if negative(s) {
         return digits(after(s, 0));
     }
@@ -111,9 +183,9 @@ fn size(s: &[u8]) -> Number {
 // Whether a number fits 64 bits signed.
 fn fits(minus: bool, n: u64) -> bool {
     if minus {
-        return n <= 9223372036854775808;
+        return n <= SIGN_BIT;
     }
-    n < 9223372036854775808
+    n < SIGN_BIT
 }
 
 fn with_sign(minus: bool, n: u64) -> i64 {
@@ -123,21 +195,21 @@ fn with_sign(minus: bool, n: u64) -> i64 {
     signed(n)
 }
 
-fn take_now(o: Options, space: &mut [u8]) -> Options {
-    let n = os::arg(wrapping_add_usize(o.at, 1), space);
-    let s = part(space, 0, n);
+fn with_now(o: Options, buffer: &mut [u8]) -> Options {
+    let n = text_of(o, 1, buffer);
+    let s = part(buffer, 0, n);
     let minus = negative(s);
-    let Number::Is(v) = size(s) else {
+    let Number::Is(v) = magnitude(s) else {
         return ended(o, End::Now);
     };
     if !fits(minus, v) {
         return ended(o, End::Now);
     }
+    let p = after_arguments(o, WITH_ONE);
     Options {
         timed: true,
         now: with_sign(minus, v),
-        at: wrapping_add_usize(o.at, 2),
-        ..o
+        ..p
     }
 }
 
@@ -146,21 +218,21 @@ fn number32(s: &[u8]) -> Number {
     let Number::Is(v) = digits(s) else {
         return Number::None;
     };
-    if v < 4294967296 {
+    if v < NUMBERS_32 {
         return Number::Is(v);
     }
     Number::None
 }
 
-fn dated(d: Day, v: u64) -> Day {
+fn with_date(d: Day, v: u64) -> Day {
     Day {
-        date: (v % 4294967296) as u32,
+        date: low32(v),
         wanted: d.wanted,
     }
 }
 
 // Reads three numbers with commas between them.
-fn dates(o: Options, s: &[u8]) -> Options {
+fn with_dates(o: Options, s: &[u8]) -> Options {
     let a = find(s, 0, b',');
     let b = find(s, wrapping_add_usize(a, 1), b',');
     let Number::Is(x) = number32(between(s, 0, a)) else {
@@ -174,35 +246,35 @@ fn dates(o: Options, s: &[u8]) -> Options {
     };
     let d = o.days;
     let days = Days {
-        first: dated(d.first, x),
-        second: dated(d.second, y),
-        third: dated(d.third, z),
+        first: with_date(d.first, x),
+        second: with_date(d.second, y),
+        third: with_date(d.third, z),
     };
+    let p = after_arguments(o, WITH_ONE);
     Options {
         dated: true,
         days,
-        at: wrapping_add_usize(o.at, 2),
-        ..o
+        ..p
     }
 }
 
-fn take_days(o: Options, space: &mut [u8]) -> Options {
-    let n = os::arg(wrapping_add_usize(o.at, 1), space);
-    dates(o, part(space, 0, n))
+fn with_days(o: Options, buffer: &mut [u8]) -> Options {
+    let n = text_of(o, 1, buffer);
+    with_dates(o, part(buffer, 0, n))
 }
 
-fn yes_or_no(c: u8) -> bool {
+fn is_flag(c: u8) -> bool {
     (c == b'y') | (c == b'n')
 }
 
-fn flags(s: &[u8]) -> bool {
-    (s.len() == 5)
-        & (yes_or_no(get8(s, 0)) & (get8(s, 1) == b','))
-        & (yes_or_no(get8(s, 2)) & (get8(s, 3) == b','))
-        & yes_or_no(get8(s, 4))
+fn are_flags(s: &[u8]) -> bool {
+    (s.len() == FLAGS_SIZE)
+        & (is_flag(get8(s, FIRST_FLAG)) & (get8(s, FIRST_COMMA) == b','))
+        & (is_flag(get8(s, SECOND_FLAG)) & (get8(s, SECOND_COMMA) == b','))
+        & is_flag(get8(s, THIRD_FLAG))
 }
 
-fn wished(d: Day, c: u8) -> Day {
+fn with_flag(d: Day, c: u8) -> Day {
     Day {
         date: d.date,
         wanted: c == b'y',
@@ -210,215 +282,192 @@ fn wished(d: Day, c: u8) -> Day {
 }
 
 // The three days with their wanted flags.
-fn wishes(d: Days, s: &[u8]) -> Days {
+fn with_flags(d: Days, s: &[u8]) -> Days {
     Days {
-        first: wished(d.first, get8(s, 0)),
-        second: wished(d.second, get8(s, 2)),
-        third: wished(d.third, get8(s, 4)),
+        first: with_flag(d.first, get8(s, FIRST_FLAG)),
+        second: with_flag(d.second, get8(s, SECOND_FLAG)),
+        third: with_flag(d.third, get8(s, THIRD_FLAG)),
     }
 }
 
-fn take_wanted(o: Options, space: &mut [u8]) -> Options {
-    let n = os::arg(wrapping_add_usize(o.at, 1), space);
-    let s = part(space, 0, n);
-    if !flags(s) {
+fn with_wanted(o: Options, buffer: &mut [u8]) -> Options {
+    let n = text_of(o, 1, buffer);
+    let s = part(buffer, 0, n);
+    if !are_flags(s) {
         return ended(o, End::Wanted);
     }
-    let days = wishes(o.days, s);
-    Options {
-        days,
-        at: wrapping_add_usize(o.at, 2),
-        ..o
-    }
+    let days = with_flags(o.days, s);
+    let p = after_arguments(o, WITH_ONE);
+    Options { days, ..p }
 }
 
-fn take_identity(o: Options) -> Options {
-    if !follow(o.at, 1) {
+fn with_identity(o: Options) -> Options {
+    if !follow(o.next, 1, os::arg_count()) {
         return ended(o, End::Identity);
     }
+    let p = after_arguments(o, WITH_ONE);
     Options {
         selected: true,
-        identity: wrapping_add_usize(o.at, 1),
-        at: wrapping_add_usize(o.at, 2),
-        ..o
+        identity: wrapping_add_usize(o.next, 1),
+        ..p
     }
 }
 
-// A field's length, at most 255: a field of 255 bytes is over every size already.
-fn cut(n: usize) -> u32 {
-    if n < 255 { n as u32 } else { 255 }
+// A field's length, as far as it is kept.
+fn kept(n: usize) -> u32 {
+    if n < MOST_LENGTH {
+        n as u32
+    } else {
+        MOST_LENGTH_32
+    }
 }
 
-// Appends the five texts after an argument to those that are there; gives the offset after them.
-fn keep(
-    at: usize,
-    first: usize,
-    used: usize,
-    space: &mut [u8],
-    texts: &mut [u8],
-    lengths: &mut [u32],
-) -> usize {
-    let mut to = used;
+// Appends the texts of a pick to those that are there; gives the offset after them.
+fn append_pick(o: Options, buffer: &mut [u8], texts: &mut [u8], lengths: &mut [u32]) -> usize {
+    let mut to = o.texts;
     let mut k = 0;
-    while k < 5 {
+    while k < FIELDS {
         k += 1;
-        let n = cut(os::arg(wrapping_add_usize(at, k), space));
-        copy(space, n as usize, texts, to);
-        set(lengths, wrapping_add_usize(first, k - 1), n);
+        let n = kept(text_of(o, k, buffer));
+        copy(part(buffer, 0, n as usize), texts, to);
+        lengths::set(lengths, wrapping_add_usize(o.lengths, k - 1), n);
         to = wrapping_add_usize(to, n as usize);
     }
     to
 }
 
-fn take_pick(o: Options, space: &mut [u8], texts: &mut [u8], lengths: &mut [u32]) -> Options {
-    if !follow(o.at, 5) {
+fn with_pick(o: Options, buffer: &mut [u8], texts: &mut [u8], lengths: &mut [u32]) -> Options {
+    if !follow(o.next, FIELDS, os::arg_count()) {
         return ended(o, End::Pick);
     }
-    let at = wrapping_add_usize(o.at, 6);
-    if 80 < o.lengths {
-        return Options { at, ..o };
+    let p = after_arguments(o, WITH_PICK);
+    if LENGTHS_BEFORE < o.lengths {
+        return p;
     }
-    let used = keep(o.at, o.lengths, o.used, space, texts, lengths);
+    let size = append_pick(o, buffer, texts, lengths);
     Options {
         selected: true,
-        lengths: o.lengths + 5,
-        used,
-        at,
-        ..o
+        lengths: wrapping_add_usize(o.lengths, FIELDS),
+        texts: size,
+        ..p
     }
 }
 
-fn take_match(o: Options) -> Options {
+fn with_match(o: Options) -> Options {
+    let p = after_arguments(o, ALONE);
     Options {
         selected: true,
-        at: wrapping_add_usize(o.at, 1),
-        ..o
+        ..p
     }
 }
 
-// A source by its number; 3 is all, 4 none.
-fn source_named(s: &[u8]) -> u32 {
-    if same(s, b"0") {
-        return 0;
+fn source_named(s: &[u8]) -> Choice {
+    if same_bytes(s, b"0") {
+        return Choice::One(FIRST_SOURCE);
     }
-    if same(s, b"1") {
-        return 1;
+    if same_bytes(s, b"1") {
+        return Choice::One(SECOND_SOURCE);
     }
-    if same(s, b"2") {
-        return 2;
+    if same_bytes(s, b"2") {
+        return Choice::One(THIRD_SOURCE);
     }
-    if same(s, b"all") { 3 } else { 4 }
+    if same_bytes(s, b"all") {
+        Choice::All
+    } else {
+        Choice::Unknown
+    }
 }
 
-// A table of the first four by its name; 9 is none.
-fn early_table(s: &[u8]) -> u32 {
-    if same(s, b"routes") {
-        return 0;
+fn is_known(c: Choice) -> bool {
+    match c {
+        Choice::Unknown => false,
+        _ => true,
     }
-    if same(s, b"stops") {
-        return 1;
-    }
-    if same(s, b"trips") {
-        return 2;
-    }
-    if same(s, b"stop_times") { 3 } else { 9 }
 }
 
-// A table of the last four by its name; 8 is all, 9 none.
-fn late_table(s: &[u8]) -> u32 {
-    if same(s, b"calendar") {
-        return 4;
-    }
-    if same(s, b"calendar_dates") {
-        return 5;
-    }
-    if same(s, b"feed_info") {
-        return 6;
-    }
-    if same(s, b"transfers") {
-        return 7;
-    }
-    if same(s, b"all") { 8 } else { 9 }
-}
-
-fn table_named(s: &[u8]) -> u32 {
-    let t = early_table(s);
-    if t < 4 { t } else { late_table(s) }
-}
-
-fn take_rows(o: Options, space: &mut [u8]) -> Options {
-    let n = os::arg(wrapping_add_usize(o.at, 1), space);
-    let source = source_named(part(space, 0, n));
-    let m = os::arg(wrapping_add_usize(o.at, 2), space);
-    let table = table_named(part(space, 0, m));
-    if (source == 4) | (table == 9) {
+fn with_choices(o: Options, source: Choice, table: Choice) -> Options {
+    if !is_known(source) | !is_known(table) {
         return ended(o, End::Rows);
     }
+    let p = after_arguments(o, WITH_TWO);
     Options {
         listed: true,
         source,
         table,
-        at: wrapping_add_usize(o.at, 3),
-        ..o
+        ..p
     }
 }
 
-// The options, by number; 0 is an image and 9 no option.
-fn kind(s: &[u8]) -> u8 {
+fn with_rows(o: Options, buffer: &mut [u8]) -> Options {
+    let n = text_of(o, 1, buffer);
+    let source = source_named(part(buffer, 0, n));
+    let m = text_of(o, SECOND, buffer);
+    with_choices(o, source, table_named(part(buffer, 0, m)))
+}
+
+fn argument_of(s: &[u8]) -> Argument {
     if get8(s, 0) != b'-' {
-        return 0;
+        return Argument::Image;
     }
-    if same(s, b"--help") | same(s, b"-h") {
-        return 1;
+    if same_bytes(s, b"--help") | same_bytes(s, b"-h") {
+        return Argument::Help;
     }
-    if same(s, b"--now") {
-        return 2;
+    if same_bytes(s, b"--now") {
+        return Argument::Now;
     }
-    if same(s, b"--days") {
-        return 3;
+    if same_bytes(s, b"--days") {
+        return Argument::Days;
     }
-    if same(s, b"--wanted") {
-        return 4;
+    if same_bytes(s, b"--wanted") {
+        return Argument::Wanted;
     }
-    if same(s, b"--identity") {
-        return 5;
-    }
-    if same(s, b"--pick") {
-        return 6;
-    }
-    if same(s, b"--match") {
-        return 7;
-    }
-    if same(s, b"--rows") { 8 } else { 9 }
+    selection_argument(s)
 }
 
-// Reads one option with what follows it.
-fn step(o: Options, space: &mut [u8], texts: &mut [u8], lengths: &mut [u32]) -> Options {
-    let n = os::arg(o.at, space);
-    let k = kind(part(space, 0, n));
-    match k {
-        0 => take_image(o),
-        1 => ended(o, End::Help),
-        2 => take_now(o, space),
-        3 => take_days(o, space),
-        4 => take_wanted(o, space),
-        5 => take_identity(o),
-        6 => take_pick(o, space, texts, lengths),
-        7 => take_match(o),
-        8 => take_rows(o, space),
-        _ => ended(o, End::NoOption),
+fn selection_argument(s: &[u8]) -> Argument {
+    if same_bytes(s, b"--identity") {
+        return Argument::Identity;
+    }
+    if same_bytes(s, b"--pick") {
+        return Argument::Pick;
+    }
+    if same_bytes(s, b"--match") {
+        return Argument::Match;
+    }
+    if same_bytes(s, b"--rows") {
+        Argument::Rows
+    } else {
+        Argument::Unknown
     }
 }
 
-fn going(o: Options) -> bool {
+// Reads one option with its arguments.
+fn step(o: Options, buffer: &mut [u8], texts: &mut [u8], lengths: &mut [u32]) -> Options {
+    let n = os::arg(o.next, buffer);
+    let a = argument_of(part(buffer, 0, n));
+    match a {
+        Argument::Image => with_image(o),
+        Argument::Help => ended(o, End::Help),
+        Argument::Now => with_now(o, buffer),
+        Argument::Days => with_days(o, buffer),
+        Argument::Wanted => with_wanted(o, buffer),
+        Argument::Identity => with_identity(o),
+        Argument::Pick => with_pick(o, buffer, texts, lengths),
+        Argument::Match => with_match(o),
+        Argument::Rows => with_rows(o, buffer),
+        Argument::Unknown => ended(o, End::NoOption),
+    }
+}
+
+fn has_more(o: Options) -> bool {
     let end = o.end;
     match end {
-        End::More => o.at < os::arg_count(),
+        End::More => o.next < os::arg_count(),
         _ => false,
     }
 }
 
-fn whole(o: Options) -> Options {
+fn finished(o: Options) -> Options {
     let end = o.end;
     match end {
         End::More => {
@@ -432,15 +481,15 @@ fn whole(o: Options) -> Options {
 }
 
 // Reads all arguments. Each turn reads one or more of them.
-pub fn read(space: &mut [u8], texts: &mut [u8], lengths: &mut [u32]) -> Options {
+pub fn read(buffer: &mut [u8], texts: &mut [u8], lengths: &mut [u32]) -> Options {
     let mut o = none();
     let mut left = os::arg_count();
     while 0 < left {
-        if !going(o) {
-            return whole(o);
+        if !has_more(o) {
+            return finished(o);
         }
-        o = step(o, space, texts, lengths);
+        o = step(o, buffer, texts, lengths);
         left -= 1;
     }
-    whole(o)
+    finished(o)
 }

@@ -1,50 +1,64 @@
 // Pieces of a line on standard output.
-use crate::text::bits;
-use crate::text::put8;
 use base::number::u8_to_u64;
 use base::number::u32_to_u64;
 use base::slice::part;
 use leaf::bytes::get8;
 use libc::STDOUT_FILENO;
+use program::bytes::put8;
+use program::number::SIGN_BIT;
+use program::number::bits;
+use program::output;
+use program::output::long_field;
+use program::output::say;
 use refusal::Refusal;
+use std::num::wrapping_add_usize;
 
-pub fn say(text: &[u8]) {
-    io::write_all(STDOUT_FILENO, text);
-}
+// How many digits a CRC has.
+const CRC_DIGITS: usize = 8;
+
+// How many bytes a line in hexadecimal has at most, and how many it is printed with: a space and two digits for each, and the line's end.
+pub const BYTES_IN_LINE: usize = 32;
+
+const SPELLED: usize = 3;
+
+const LINE_SIZE: usize = SPELLED * BYTES_IN_LINE + 1;
+
+const HEX: u8 = 16;
+
+const TEN: u8 = 10;
+// The digit after 9 is a.
+const BEFORE_LETTERS: u8 = b'a' - TEN;
 
 // A text and a number.
 pub fn field(name: &[u8], n: u32) {
-    say(name);
-    io::print_decimal(STDOUT_FILENO, u32_to_u64(n));
+    output::field(STDOUT_FILENO, name, n);
 }
 
 // A text and an offset.
-pub fn place_field(name: &[u8], n: usize) {
-    say(name);
-    io::print_decimal(STDOUT_FILENO, n as u64);
+pub fn offset_field(name: &[u8], n: usize) {
+    long_field(STDOUT_FILENO, name, n as u64);
 }
 
 // A text and a CRC.
 pub fn hex_field(name: &[u8], crc: u32) {
     say(name);
-    io::print_hex(STDOUT_FILENO, u32_to_u64(crc), 8);
+    io::print_hex(STDOUT_FILENO, u32_to_u64(crc), CRC_DIGITS);
 }
 
 // A text and a signed number.
 pub fn signed_field(name: &[u8], z: i64) {
-    say(name);
     let b = bits(z);
-    if b < 9223372036854775808 {
-        io::print_decimal(STDOUT_FILENO, b);
+    if b < SIGN_BIT {
+        long_field(STDOUT_FILENO, name, b);
         return;
     }
-    say(b"-");
-    io::print_decimal(STDOUT_FILENO, std::num::wrapping_sub_u64(0, b));
+    say(name);
+    long_field(STDOUT_FILENO, b"-", std::num::wrapping_sub_u64(0, b));
 }
 
 // A text and a time, the lowest being unknown.
 pub fn time_field(name: &[u8], z: i64) {
-    if bits(z) == 9223372036854775808 {
+    if bits(z) == SIGN_BIT {
         say(name);
         say(b"unknown");
         return;
@@ -82,55 +96,49 @@ fn word(r: Refusal) {
 
 // A refusal by its number and its word, and the line's end.
 pub fn refused(r: Refusal) {
-    say(b"refusal ");
-    io::print_decimal(STDOUT_FILENO, u8_to_u64(refusal::number(r)));
+    long_field(STDOUT_FILENO, b"refusal ", u8_to_u64(refusal::number(r)));
     word(r);
     say(b"\n");
 }
 
-// A space and a table's name.
-pub fn table(t: usize) {
-    match t {
-        0 => say(b" routes"),
-        1 => say(b" stops"),
-        2 => say(b" trips"),
-        3 => say(b" stop_times"),
-        4 => say(b" calendar"),
-        5 => say(b" calendar_dates"),
-        6 => say(b" feed_info"),
-        _ => say(b" transfers"),
+// A hexadecimal digit.
+fn hex_digit(d: u8) -> u8 {
+    let v = d % HEX;
+    if v < TEN {
+        b'0' + v
+    } else {
+        BEFORE_LETTERS + v
     }
 }
 
-// A hexadecimal digit.
-pub fn hex_digit(d: u8) -> u8 {
-    let v = d % 16;
-    if v < 10 { 48 + v } else { 87 + v }
+// Writes the two hexadecimal digits of a byte.
+pub fn put_hex(line: &mut [u8], at: usize, b: u8) {
+    put8(line, at, hex_digit(b / HEX));
+    put8(line, wrapping_add_usize(at, 1), hex_digit(b));
 }
 
-// Writes each of at most 32 bytes after a space, and the line's end; gives how many bytes that is.
+// Writes each of the first bytes after a space, and the line's end; gives how many bytes that is.
 fn spell(bytes: &[u8], line: &mut [u8]) -> usize {
     let mut at = 0;
     let mut i = 0;
-    while i < 32 {
+    while i < BYTES_IN_LINE {
         if bytes.len() <= i {
             put8(line, at, b'\n');
             return at + 1;
         }
         let b = get8(bytes, i);
         put8(line, at, b' ');
-        put8(line, at + 1, hex_digit(b / 16));
-        put8(line, at + 2, hex_digit(b));
-        at += 3;
+        put_hex(line, at + 1, b);
+        at += SPELLED;
         i += 1;
     }
     put8(line, at, b'\n');
     at + 1
 }
 
-// At most 32 bytes in hexadecimal, and the line's end.
+// The first bytes in hexadecimal, and the line's end.
 pub fn hex_line(bytes: &[u8]) {
-    let mut space = [0u8; 97];
+    let mut space = [0u8; LINE_SIZE];
     let line: &mut [u8] = &mut space;
     let n = spell(bytes, line);
     say(part(line, 0, n));

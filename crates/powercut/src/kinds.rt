@@ -1,116 +1,228 @@
-// The kinds of leftovers and of updates, by number.
-use crate::out::count;
-use crate::out::say;
-use crate::text::same;
-use crate::torn::TRY_ALL;
-use crate::torn::TRY_NONE;
-use crate::torn::TRY_SOME;
-use crate::torn::TRY_UNKNOWN;
+// The kinds of leftovers and of updates.
+use base::slice::same_bytes;
+use program::number::low32;
+use program::output::count;
+use program::output::put;
 use region::CAPACITY;
+use region::CAPACITY_32;
+use region::SECTOR_SIZE_32;
+use writer::TAIL_SIZE;
+use writer::TAIL_SIZE_32;
 
-// A kind of leftover by its name; 6 is all, 7 none.
-pub fn leftover_named(s: &[u8]) -> u32 {
-    if same(s, b"found") {
-        return 0;
-    }
-    if same(s, b"erased") {
-        return 1;
-    }
-    if same(s, b"older") {
-        return 2;
-    }
-    if same(s, b"half") {
-        return 3;
-    }
-    if same(s, b"headed") {
-        return 4;
-    }
-    if same(s, b"random") {
-        return 5;
-    }
-    if same(s, b"all") { 6 } else { 7 }
+// What is in the bank that is written: what the image has, nothing, a bank that is a generation older, an update cut half-way, one with only its
+// commit word missing, pseudorandom bytes.
+pub enum Leftover {
+    Found,
+    Erased,
+    Older,
+    Half,
+    Headed,
+    Random,
 }
 
-pub fn say_leftover(fd: i32, kind: u32) {
-    match kind {
-        0 => say(fd, b"found"),
-        1 => say(fd, b"erased"),
-        2 => say(fd, b"older"),
-        3 => say(fd, b"half"),
-        4 => say(fd, b"headed"),
-        _ => say(fd, b"random"),
-    }
+// An update: one byte less than a tail, one more, all that a bank holds, the same after a comparison with the active bank.
+pub enum Kind {
+    Below,
+    Above,
+    Full,
+    Compared,
 }
 
-// A kind of update by its name; 4 is both short ones, 5 is all, 6 none.
-pub fn update_named(s: &[u8]) -> u32 {
-    if same(s, b"255") {
-        return 0;
-    }
-    if same(s, b"257") {
-        return 1;
-    }
-    if same(s, b"full") {
-        return 2;
-    }
-    if same(s, b"compared") {
-        return 3;
-    }
-    if same(s, b"short") {
-        return 4;
-    }
-    if same(s, b"all") { 5 } else { 6 }
+// Which leftovers are tried.
+pub enum Leftovers {
+    One(Leftover),
+    All,
+    Unknown,
 }
 
-// Which cuts inside operations are tried, by name.
-pub fn torn_named(s: &[u8]) -> u32 {
-    if same(s, b"none") {
-        return TRY_NONE;
+// Which updates are tried. The short ones are one byte less than a tail and one more.
+pub enum Updates {
+    One(Kind),
+    Short,
+    All,
+    Unknown,
+}
+
+pub const LEFTOVERS: u32 = 6;
+
+pub const KINDS: u32 = 4;
+
+// Of each update: the erase of the header's sector, the header's write and the commit word's.
+const HEADER_OPERATIONS: u32 = 3;
+
+const ERASES: u32 = CAPACITY_32 / SECTOR_SIZE_32;
+
+const WRITES: u32 = CAPACITY_32 / TAIL_SIZE_32;
+
+const BELOW_OPERATIONS: u32 = HEADER_OPERATIONS + 1 + 1;
+
+const ABOVE_OPERATIONS: u32 = BELOW_OPERATIONS + 1;
+
+pub const FULL_OPERATIONS: u32 = HEADER_OPERATIONS + ERASES + WRITES;
+
+const BELOW_SIZE: usize = TAIL_SIZE - 1;
+
+const ABOVE_SIZE: usize = TAIL_SIZE + 1;
+
+pub fn leftovers_named(s: &[u8]) -> Leftovers {
+    if same_bytes(s, b"found") {
+        return Leftovers::One(Leftover::Found);
     }
-    if same(s, b"some") {
-        return TRY_SOME;
+    if same_bytes(s, b"erased") {
+        return Leftovers::One(Leftover::Erased);
     }
-    if same(s, b"all") {
-        TRY_ALL
+    if same_bytes(s, b"older") {
+        return Leftovers::One(Leftover::Older);
+    }
+    if same_bytes(s, b"half") {
+        return Leftovers::One(Leftover::Half);
+    }
+    if same_bytes(s, b"headed") {
+        return Leftovers::One(Leftover::Headed);
+    }
+    if same_bytes(s, b"random") {
+        return Leftovers::One(Leftover::Random);
+    }
+    if same_bytes(s, b"all") {
+        Leftovers::All
     } else {
-        TRY_UNKNOWN
+        Leftovers::Unknown
+    }
+}
+
+pub fn put_leftover(fd: i32, l: Leftover) {
+    match l {
+        Leftover::Found => put(fd, b"found"),
+        Leftover::Erased => put(fd, b"erased"),
+        Leftover::Older => put(fd, b"older"),
+        Leftover::Half => put(fd, b"half"),
+        Leftover::Headed => put(fd, b"headed"),
+        Leftover::Random => put(fd, b"random"),
+    }
+}
+
+pub fn updates_named(s: &[u8]) -> Updates {
+    if same_bytes(s, b"255") {
+        return Updates::One(Kind::Below);
+    }
+    if same_bytes(s, b"257") {
+        return Updates::One(Kind::Above);
+    }
+    if same_bytes(s, b"full") {
+        return Updates::One(Kind::Full);
+    }
+    if same_bytes(s, b"compared") {
+        return Updates::One(Kind::Compared);
+    }
+    if same_bytes(s, b"short") {
+        return Updates::Short;
+    }
+    if same_bytes(s, b"all") {
+        Updates::All
+    } else {
+        Updates::Unknown
+    }
+}
+
+// The kinds by index, and their indices.
+pub fn leftover_at(i: u32) -> Leftover {
+    match i {
+        0 => Leftover::Found,
+        1 => Leftover::Erased,
+        2 => Leftover::Older,
+        3 => Leftover::Half,
+        4 => Leftover::Headed,
+        _ => Leftover::Random,
+    }
+}
+
+fn leftover_index(l: Leftover) -> u32 {
+    match l {
+        Leftover::Found => 0,
+        Leftover::Erased => 1,
+        Leftover::Older => 2,
+        Leftover::Half => 3,
+        Leftover::Headed => 4,
+        Leftover::Random => 5,
+    }
+}
+
+pub fn kind_at(i: u32) -> Kind {
+    match i {
+        0 => Kind::Below,
+        1 => Kind::Above,
+        2 => Kind::Full,
+        _ => Kind::Compared,
+    }
+}
+
+fn kind_index(k: Kind) -> u32 {
+    match k {
+        Kind::Below => 0,
+        Kind::Above => 1,
+        Kind::Full => 2,
+        Kind::Compared => 3,
+    }
+}
+
+fn is_short(k: Kind) -> bool {
+    match k {
+        Kind::Below => true,
+        Kind::Above => true,
+        _ => false,
+    }
+}
+
+pub fn is_compared(k: Kind) -> bool {
+    match k {
+        Kind::Compared => true,
+        _ => false,
     }
 }
 
 // Whether a choice of updates includes a kind.
-pub fn has_update(choice: u32, kind: u32) -> bool {
-    (choice == 5) | ((choice == kind) | ((choice == 4) & (kind < 2)))
+pub fn has_update(choice: Updates, k: Kind) -> bool {
+    match choice {
+        Updates::One(x) => kind_index(x) == kind_index(k),
+        Updates::Short => is_short(k),
+        Updates::All => true,
+        Updates::Unknown => false,
+    }
 }
 
 // Whether a choice of leftovers includes a kind.
-pub fn has_leftover(choice: u32, kind: u32) -> bool {
-    (choice == 6) | (choice == kind)
+pub fn has_leftover(choice: Leftovers, l: Leftover) -> bool {
+    match choice {
+        Leftovers::One(x) => leftover_index(x) == leftover_index(l),
+        Leftovers::All => true,
+        Leftovers::Unknown => false,
+    }
 }
 
 // How many bytes a kind of update has.
-pub fn size(kind: u32) -> usize {
-    match kind {
-        0 => 255,
-        1 => 257,
+pub fn size(k: Kind) -> usize {
+    match k {
+        Kind::Below => BELOW_SIZE,
+        Kind::Above => ABOVE_SIZE,
         _ => CAPACITY,
     }
 }
 
-// How many flash operations a kind of update makes: erases of the header's sector and of the data's, writes, header and commit word.
-pub fn operations(kind: u32) -> u32 {
-    match kind {
-        0 => 5,
-        1 => 6,
-        _ => 2026,
+// How many flash operations a kind of update makes.
+pub fn operations(k: Kind) -> u32 {
+    match k {
+        Kind::Below => BELOW_OPERATIONS,
+        Kind::Above => ABOVE_OPERATIONS,
+        _ => FULL_OPERATIONS,
     }
 }
 
-pub fn say_kinds(fd: i32, leftover: u32, update: u32) {
-    say(fd, b"leftover ");
-    say_leftover(fd, leftover);
-    count(fd, b", update of ", (size(update) % 4294967296) as u32);
-    say(fd, b" bytes");
-    if update == 3 {
-        say(fd, b", compared first");
+pub fn put_kinds(fd: i32, l: Leftover, k: Kind) {
+    put(fd, b"leftover ");
+    put_leftover(fd, l);
+    count(fd, b", update of ", low32(size(k) as u64));
+    put(fd, b" bytes");
+    if is_compared(k) {
+        put(fd, b", compared first");
     }
 }

@@ -1,30 +1,30 @@
 // The lines on standard output.
 use crate::kinds;
-use crate::out::count;
-use crate::out::field;
-use crate::out::say;
 use crate::trial::Count;
 use crate::trial::Plan;
 use bank::Loaded;
 use header::Bank;
 use libc::STDOUT_FILENO;
+use program::output::count;
+use program::output::field;
+use program::output::put;
 use std::num::wrapping_sub_u32;
 
-fn say_bank(fd: i32, b: Bank) {
+fn put_bank(fd: i32, b: Bank) {
     field(fd, b"bank ", b.number);
     field(fd, b" of generation ", b.generation);
 }
 
-fn say_loaded(fd: i32, l: Loaded) {
+fn put_loaded(fd: i32, l: Loaded) {
     match l {
-        Loaded::Found(b) => say_bank(fd, b),
-        _ => say(fd, b"no bank"),
+        Loaded::Found(b) => put_bank(fd, b),
+        _ => put(fd, b"no bank"),
     }
 }
 
-fn say_verdict(fd: i32, c: Count) {
+fn put_verdict(fd: i32, c: Count) {
     if c.wrong == 0 {
-        say(fd, b"; right");
+        put(fd, b"; right");
         return;
     }
     count(fd, b"; ", c.wrong);
@@ -37,46 +37,49 @@ fn say_verdict(fd: i32, c: Count) {
 }
 
 // The result of an update's cuts.
-pub fn say_counts(fd: i32, p: Plan, c: Count) {
+pub fn put_counts(fd: i32, p: Plan, c: Count) {
     let l = p.found;
     let b = p.fresh;
     count(fd, b"", wrapping_sub_u32(c.cuts, 1));
     count(fd, b" operations, ", c.cuts);
     count(fd, b" cuts between operations, ", c.inside);
     count(fd, b" inside: ", c.old);
-    say(fd, b" gave ");
-    say_loaded(fd, l);
+    put(fd, b" gave ");
+    put_loaded(fd, l);
     count(fd, b", ", c.new);
-    say(fd, b" gave ");
-    say_bank(fd, b);
+    put(fd, b" gave ");
+    put_bank(fd, b);
     count(fd, b"; ", c.again);
-    say(fd, b" begun again");
-    say_verdict(fd, c);
+    put(fd, b" begun again");
+    put_verdict(fd, c);
 }
 
 pub fn update_line(p: Plan, c: Count) {
-    kinds::say_kinds(STDOUT_FILENO, p.leftover, p.update);
-    say(STDOUT_FILENO, b": ");
-    say_counts(STDOUT_FILENO, p, c);
-    say(STDOUT_FILENO, b"\n");
+    let s = p.setting;
+    let l = s.leftover;
+    let k = s.update;
+    kinds::put_kinds(STDOUT_FILENO, l, k);
+    put(STDOUT_FILENO, b": ");
+    put_counts(STDOUT_FILENO, p, c);
+    put(STDOUT_FILENO, b"\n");
 }
 
 // The result of all updates.
-pub fn say_total(fd: i32, updates: u32, all: Count) {
+pub fn put_total(fd: i32, updates: u32, all: Count) {
     count(fd, b"", updates);
     if updates == 1 {
-        say(fd, b" update, ");
+        put(fd, b" update, ");
     } else {
-        say(fd, b" updates, ");
+        put(fd, b" updates, ");
     }
     count(fd, b"", all.cuts);
     count(fd, b" cuts between operations, ", all.inside);
     count(fd, b" inside, ", all.again);
     count(fd, b" begun again, ", all.wrong);
-    say(fd, b" wrong");
+    put(fd, b" wrong");
 }
 
 pub fn last_line(updates: u32, all: Count) {
-    say_total(STDOUT_FILENO, updates, all);
-    say(STDOUT_FILENO, b"\n");
+    put_total(STDOUT_FILENO, updates, all);
+    put(STDOUT_FILENO, b"\n");
 }

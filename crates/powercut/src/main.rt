@@ -1,37 +1,46 @@
 // Tries updates with the power cut between their flash operations and inside them: docs/POWERCUT.md has the options and the lines.
 mod data;
-mod image;
 mod kinds;
 mod leftover;
 mod lines;
 mod message;
 mod options;
-mod out;
 mod picture;
+mod scratch;
 mod strips;
-mod text;
 mod torn;
 mod trial;
 mod update;
 
-ghost use mathlib.Core.Path.{_≡_};
-ghost use lib.ListN.{length};
-use crate::image::Size;
+use crate::kinds::KINDS;
+use crate::kinds::LEFTOVERS;
+use crate::options::End;
 use crate::options::Options;
+use crate::scratch::MARKS;
+use crate::scratch::MARKS_SIZE;
+use crate::scratch::SCRATCH_SIZE;
 use crate::trial::Count;
+use crate::trial::Plan;
+use crate::trial::Setting;
 use base::slice::part;
 use libc::STDERR_FILENO;
+use program::arguments;
+use program::bytes::copy;
+use program::image;
+use program::image::Image;
+use program::message::unwritten;
+use program::output::complain;
 use region::CAPACITY;
 use region::REGION_SIZE;
-use region::SECTOR_SIZE;
 use std::num::wrapping_add_u32;
 
-// A buffer of zeros for an argument: Linux passes no longer one.
-fn argument_room() -> [u8; 131072]
-    ensures { λ r. ⌜ 131072 ≡ length r ⌝ }
-{
-    [0; 131072]
-}
+pub const PROGRAM: [u8; 8] = *b"powercut";
+
+// Each kind of update with each leftover.
+const COMBINATIONS: u32 = LEFTOVERS * KINDS;
+
+// No file.
+const NO_FILE: i32 = -1;
 
 // How many updates were tried, their cuts together, the picture's file (below 0: none) and where its next part starts.
 struct Tally {
@@ -39,6 +48,12 @@ struct Tally {
     all: Count,
     fd: i32,
     y: u32,
+}
+
+// An update that is tried, or one that isn't asked for.
+enum Combination {
+    Asked(Setting),
+    Skipped,
 }
 
 fn added(t: Tally, c: Count, y: u32) -> Tally {
@@ -64,33 +79,21 @@ fn added(t: Tally, c: Count, y: u32) -> Tally {
 // Clears the progress line.
 fn clear(progress: bool) {
     if progress {
-        out::say(STDERR_FILENO, &[13, 27, 91, 75]);
+        complain(b"\r\x1b[K");
     }
 }
 
 // Prepares the image with a leftover, and the update's bytes.
-fn prepare(image: &[u8], region: &mut [u8], data: &mut [u8], leftover: u32, update: u32) {
-    text::copy(image, region);
-    leftover::leave(region, data, leftover);
-    data::make(data, kinds::size(update), 0);
+fn prepare(image: &[u8], region: &mut [u8], data: &mut [u8], s: Setting) {
+    copy(image, region, 0);
+    let l = s.leftover;
+    let k = s.update;
+    leftover::leave(region, data, l);
+    data::make(data, kinds::size(k), 0);
 }
 
-// Tries an update on a prepared region.
-fn tried(
-    image: &[u8],
-    region: &mut [u8],
-    again: &mut [u8],
-    data: &mut [u8],
-    o: Options,
-    leftover: u32,
-    update: u32,
-    t: Tally,
-) -> Tally {
-    let p = trial::planned(region, data, leftover, update, o.torn, o.progress);
-    let mut space = [strips::UNTRIED; SECTOR_SIZE];
-    let marks: &mut [u8] = &mut space;
-    let c = trial::trial(region, image, again, data, marks, p);
-    clear(o.progress);
+// Writes an update's line and draws its part, and adds it to the others.
+fn reported(t: Tally, p: Plan, c: Count, marks: &[u8]) -> Tally {
     lines::update_line(p, c);
     let mut y = t.y;
     if 0 <= t.fd {
@@ -99,87 +102,110 @@ fn tried(
     added(t, c, y)
 }
 
+// Tries an update on a prepared region.
+fn tried(
+    image: &[u8],
+    region: &mut [u8],
+    data: &[u8],
+    scratch: &mut [u8],
+    s: Setting,
+    t: Tally,
+) -> Tally {
+    let p = trial::planned(region, data, s);
+    strips::clear(scratch);
+    let c = trial::trial(p, region, image, data, scratch);
+    clear(s.progress);
+    reported(t, p, c, part(scratch, MARKS, MARKS_SIZE))
+}
+
 // Tries an update on the image with a leftover.
 fn one(
     image: &[u8],
     region: &mut [u8],
-    again: &mut [u8],
     data: &mut [u8],
-    o: Options,
-    leftover: u32,
-    update: u32,
+    scratch: &mut [u8],
+    s: Setting,
     t: Tally,
 ) -> Tally {
-    prepare(image, region, data, leftover, update);
-    tried(image, region, again, data, o, leftover, update, t)
+    prepare(image, region, data, s);
+    tried(image, region, data, scratch, s, t)
 }
 
-// Tries the update, if it is chosen.
-fn if_chosen(
+fn combination_at(o: Options, k: u32) -> Combination {
+    let leftovers = o.leftovers;
+    let updates = o.updates;
+    let leftover = kinds::leftover_at(k / KINDS);
+    let update = kinds::kind_at(k % KINDS);
+    if kinds::has_leftover(leftovers, leftover) & kinds::has_update(updates, update) {
+        let cuts = o.cuts;
+        return Combination::Asked(Setting {
+            leftover,
+            update,
+            cuts,
+            progress: o.progress,
+        });
+    }
+    Combination::Skipped
+}
+
+// Tries the update, if it is asked for.
+fn if_asked(
     image: &[u8],
     region: &mut [u8],
-    again: &mut [u8],
     data: &mut [u8],
-    o: Options,
-    leftover: u32,
-    update: u32,
+    scratch: &mut [u8],
+    c: Combination,
     t: Tally,
 ) -> Tally {
-    if kinds::has_leftover(o.leftovers, leftover) & kinds::has_update(o.updates, update) {
-        return one(image, region, again, data, o, leftover, update, t);
+    match c {
+        Combination::Asked(s) => one(image, region, data, scratch, s, t),
+        Combination::Skipped => t,
     }
-    t
 }
 
-// Tries all updates: each of four kinds with each of six leftovers.
+// Tries all updates that are asked for.
 fn updates(
     image: &[u8],
     region: &mut [u8],
-    again: &mut [u8],
     data: &mut [u8],
+    scratch: &mut [u8],
     o: Options,
     begun: Tally,
 ) -> Tally {
     let mut t = begun;
     let mut k: u32 = 0;
-    while k < 24 {
-        t = if_chosen(image, region, again, data, o, k / 4, k % 4, t);
+    while k < COMBINATIONS {
+        t = if_asked(image, region, data, scratch, combination_at(o, k), t);
         k += 1;
     }
     t
 }
 
-// Opens the picture's file; below 0 if none is asked for or it can't be written. `space` is for its name.
-fn picture_file(o: Options, space: &mut [u8]) -> i32 {
+// Opens the picture's file; below 0 if none is asked for or it can't be written. The buffer is for its name.
+fn picture_file(o: Options, buffer: &mut [u8]) -> i32 {
     if o.picture == 0 {
-        return -1;
+        return NO_FILE;
     }
-    let n = os::arg(o.picture, space);
-    let fd = os::open_overwrite(part(space, 0, n));
+    let n = os::arg(o.picture, buffer);
+    let fd = os::open_overwrite(part(buffer, 0, n));
     if fd < 0 {
-        message::unwritten(part(space, 0, n));
+        let program = PROGRAM;
+        unwritten(&program, part(buffer, 0, n));
     }
     fd
 }
 
 fn start(o: Options, fd: i32) -> Tally {
+    let leftovers = o.leftovers;
+    let updates = o.updates;
+    let cuts = o.cuts;
     let mut y: u32 = 0;
     if 0 <= fd {
-        y = picture::start(fd, o.leftovers, o.updates, o.torn);
+        y = picture::start(fd, leftovers, updates, cuts);
     }
-    let all = Count {
-        cuts: 0,
-        inside: 0,
-        old: 0,
-        new: 0,
-        again: 0,
-        wrong: 0,
-        first: 0,
-        byte: 0,
-    };
     Tally {
         updates: 0,
-        all,
+        all: trial::none(),
         fd,
         y,
     }
@@ -197,65 +223,41 @@ fn finish(t: Tally, name: &[u8]) {
 fn trials(
     image: &[u8],
     region: &mut [u8; REGION_SIZE],
-    again: &mut [u8; REGION_SIZE],
     data: &mut [u8; CAPACITY],
+    scratch: &mut [u8; SCRATCH_SIZE],
     o: Options,
-    fd: i32,
-    name: &[u8],
-) {
-    let begun = start(o, fd);
-    let t = updates(image, region, again, data, o, begun);
-    finish(t, name);
+    begun: Tally,
+) -> Tally {
+    updates(image, region, data, scratch, o, begun)
 }
 
-fn with_rooms(image: &[u8], o: Options, fd: i32, name: &[u8]) {
-    let mut region = image::room();
-    let mut again = image::room();
-    let mut data = data::room();
-    trials(image, &mut region, &mut again, &mut data, o, fd, name);
+fn with_buffers(image: &[u8], o: Options, begun: Tally) -> Tally {
+    let mut region = image::buffer();
+    let mut data = data::buffer();
+    let mut scratch = scratch::buffer();
+    trials(image, &mut region, &mut data, &mut scratch, o, begun)
 }
 
-// Writes the image's name to the start of space; gives its length.
-fn name(image: usize, space: &mut [u8]) -> usize {
-    if image != 0 {
-        return os::arg(image, space);
-    }
-    text::copy(b"samples/two-good.img", space);
-    20
-}
-
-// Tries all updates on an image, or says that its size is wrong. Its name is the first n bytes of space.
-fn tell(image: &[u8], size: usize, o: Options, space: &mut [u8], n: usize) {
-    if (size != REGION_SIZE) & (size != 4194304) {
-        message::wrong_size(part(space, 0, n), size);
-        return;
-    }
-    let fd = picture_file(o, space);
+// Tries the updates on an image, and draws them if that is asked for.
+fn try_updates(image: &[u8; REGION_SIZE], o: Options, buffer: &mut [u8]) {
+    let fd = picture_file(o, buffer);
     if (o.picture != 0) & (fd < 0) {
         return;
     }
-    let m = name(o.image, space);
-    with_rooms(image, o, fd, part(space, 0, m));
+    let t = with_buffers(image, o, start(o, fd));
+    let n = arguments::image_name(o.image, buffer);
+    finish(t, part(buffer, 0, n));
 }
 
-fn opened(fd: i32, image: &mut [u8; REGION_SIZE], o: Options, space: &mut [u8], n: usize) {
-    let r = image::read(fd, image);
-    libc::close(fd);
-    match r {
-        Size::Bytes(size) => tell(image, size, o, space, n),
-        Size::Unread => message::unread(part(space, 0, n)),
+fn try_image(o: Options, buffer: &mut [u8]) {
+    let n = arguments::image_name(o.image, buffer);
+    let program = PROGRAM;
+    let mut image = image::buffer();
+    let i = image::read(&program, part(buffer, 0, n), &mut image);
+    match i {
+        Image::Unusable => return,
+        _ => try_updates(&image, o, buffer),
     }
-}
-
-fn try_image(o: Options, space: &mut [u8]) {
-    let n = name(o.image, space);
-    let fd = os::open_read(part(space, 0, n));
-    if fd < 0 {
-        message::unread(part(space, 0, n));
-        return;
-    }
-    let mut image = image::room();
-    opened(fd, &mut image, o, space, n);
 }
 
 // Whether progress is shown: if standard error is a terminal, or if it is asked for.
@@ -267,11 +269,11 @@ fn with_progress(o: Options) -> Options {
 }
 
 fn main() {
-    let mut space = argument_room();
-    let o = options::read(&mut space);
-    if message::said(o, &mut space) {
-        return;
+    let mut buffer = arguments::buffer();
+    let o = options::read(&mut buffer);
+    let end = o.end;
+    match end {
+        End::More => try_image(with_progress(o), &mut buffer),
+        _ => message::report(o, &mut buffer),
     }
-    let p = with_progress(o);
-    try_image(p, &mut space);
 }

@@ -1,13 +1,32 @@
 // The arguments.
-use crate::kinds::leftover_named;
-use crate::kinds::torn_named;
-use crate::kinds::update_named;
-use crate::text::same;
-use crate::torn::TRY_SOME;
-use crate::torn::TRY_UNKNOWN;
+use crate::kinds::Leftovers;
+use crate::kinds::Updates;
+use crate::kinds::leftovers_named;
+use crate::kinds::updates_named;
+use crate::torn::Cuts;
+use crate::torn::cuts_named;
 use base::slice::part;
+use base::slice::same_bytes;
 use leaf::bytes::get8;
+use program::arguments::follow;
 use std::num::wrapping_add_usize;
+
+// How many arguments an option has, itself included.
+const ALONE: usize = 1;
+
+const WITH_ONE: usize = 2;
+
+// What an argument is.
+enum Argument {
+    Image,
+    Help,
+    Leftover,
+    Update,
+    Picture,
+    Progress,
+    Torn,
+    Unknown,
+}
 
 // The outcome of the arguments so far: continue, help, or what is wrong.
 pub enum End {
@@ -21,27 +40,27 @@ pub enum End {
     Picture,
 }
 
-// What the arguments ask for. The image and the picture are indices of arguments, 0 for none.
+// What the arguments ask for, and the index of the one that is read next. The image and the picture are indices of arguments, 0 for none.
 pub struct Options {
     pub end: End,
-    pub at: usize,
+    pub next: usize,
     pub image: usize,
     pub picture: usize,
-    pub leftovers: u32,
-    pub updates: u32,
-    pub torn: u32,
+    pub leftovers: Leftovers,
+    pub updates: Updates,
+    pub cuts: Cuts,
     pub progress: bool,
 }
 
 fn none() -> Options {
     Options {
         end: End::More,
-        at: 1,
+        next: 1,
         image: 0,
         picture: 0,
-        leftovers: 6,
-        updates: 4,
-        torn: TRY_SOME,
+        leftovers: Leftovers::All,
+        updates: Updates::Short,
+        cuts: Cuts::Some,
         progress: false,
     }
 }
@@ -50,132 +69,141 @@ fn ended(o: Options, end: End) -> Options {
     Options { end, ..o }
 }
 
-fn take_image(o: Options) -> Options {
+// Passes over n arguments.
+fn after_arguments(o: Options, n: usize) -> Options {
+    Options {
+        next: wrapping_add_usize(o.next, n),
+        ..o
+    }
+}
+
+// Writes the argument of an option to the start of a buffer; gives its length.
+fn text_of(o: Options, buffer: &mut [u8]) -> usize {
+    os::arg(wrapping_add_usize(o.next, 1), buffer)
+}
+
+fn with_image(o: Options) -> Options {
     if o.image != 0 {
         return ended(o, End::Images);
     }
+    let p = after_arguments(o, ALONE);
+    Options { image: o.next, ..p }
+}
+
+fn with_leftovers(o: Options, buffer: &mut [u8]) -> Options {
+    let n = text_of(o, buffer);
+    let leftovers = leftovers_named(part(buffer, 0, n));
+    match leftovers {
+        Leftovers::Unknown => ended(o, End::Leftover),
+        _ => {
+            let p = after_arguments(o, WITH_ONE);
+            Options { leftovers, ..p }
+        }
+    }
+}
+
+fn with_updates(o: Options, buffer: &mut [u8]) -> Options {
+    let n = text_of(o, buffer);
+    let updates = updates_named(part(buffer, 0, n));
+    match updates {
+        Updates::Unknown => ended(o, End::Kind),
+        _ => {
+            let p = after_arguments(o, WITH_ONE);
+            Options { updates, ..p }
+        }
+    }
+}
+
+fn with_cuts(o: Options, buffer: &mut [u8]) -> Options {
+    let n = text_of(o, buffer);
+    let cuts = cuts_named(part(buffer, 0, n));
+    match cuts {
+        Cuts::Unknown => ended(o, End::Torn),
+        _ => {
+            let p = after_arguments(o, WITH_ONE);
+            Options { cuts, ..p }
+        }
+    }
+}
+
+fn with_picture(o: Options) -> Options {
+    if !follow(o.next, 1, os::arg_count()) {
+        return ended(o, End::Picture);
+    }
+    let p = after_arguments(o, WITH_ONE);
     Options {
-        image: o.at,
-        at: wrapping_add_usize(o.at, 1),
-        ..o
+        picture: wrapping_add_usize(o.next, 1),
+        ..p
     }
 }
 
-fn take_leftover(o: Options, space: &mut [u8]) -> Options {
-    let n = os::arg(wrapping_add_usize(o.at, 1), space);
-    let leftovers = leftover_named(part(space, 0, n));
-    if leftovers == 7 {
-        return ended(o, End::Leftover);
-    }
-    Options {
-        leftovers,
-        at: wrapping_add_usize(o.at, 2),
-        ..o
-    }
-}
-
-fn take_update(o: Options, space: &mut [u8]) -> Options {
-    let n = os::arg(wrapping_add_usize(o.at, 1), space);
-    let updates = update_named(part(space, 0, n));
-    if updates == 6 {
-        return ended(o, End::Kind);
-    }
-    Options {
-        updates,
-        at: wrapping_add_usize(o.at, 2),
-        ..o
-    }
-}
-
-fn take_torn(o: Options, space: &mut [u8]) -> Options {
-    let n = os::arg(wrapping_add_usize(o.at, 1), space);
-    let torn = torn_named(part(space, 0, n));
-    if torn == TRY_UNKNOWN {
-        return ended(o, End::Torn);
-    }
-    Options {
-        torn,
-        at: wrapping_add_usize(o.at, 2),
-        ..o
-    }
-}
-
-fn take_picture(o: Options) -> Options {
-    let picture = wrapping_add_usize(o.at, 1);
-    if picture < os::arg_count() {
-        return Options {
-            picture,
-            at: wrapping_add_usize(o.at, 2),
-            ..o
-        };
-    }
-    ended(o, End::Picture)
-}
-
-fn take_progress(o: Options) -> Options {
+fn with_progress(o: Options) -> Options {
+    let p = after_arguments(o, ALONE);
     Options {
         progress: true,
-        at: wrapping_add_usize(o.at, 1),
-        ..o
+        ..p
     }
 }
 
-// The options, by number; 0 is an image and 7 no option.
-fn kind(s: &[u8]) -> u8 {
+fn argument_of(s: &[u8]) -> Argument {
     if get8(s, 0) != b'-' {
-        return 0;
+        return Argument::Image;
     }
-    if same(s, b"--help") | same(s, b"-h") {
-        return 1;
+    if same_bytes(s, b"--help") | same_bytes(s, b"-h") {
+        return Argument::Help;
     }
-    if same(s, b"--leftover") {
-        return 2;
+    if same_bytes(s, b"--leftover") {
+        return Argument::Leftover;
     }
-    if same(s, b"--update") {
-        return 3;
+    if same_bytes(s, b"--update") {
+        return Argument::Update;
     }
-    if same(s, b"--svg") {
-        return 4;
+    if same_bytes(s, b"--svg") {
+        return Argument::Picture;
     }
-    if same(s, b"--progress") {
-        return 5;
+    if same_bytes(s, b"--progress") {
+        return Argument::Progress;
     }
-    if same(s, b"--torn") { 6 } else { 7 }
-}
-
-// Reads one option with what follows it.
-fn step(o: Options, space: &mut [u8]) -> Options {
-    let n = os::arg(o.at, space);
-    let k = kind(part(space, 0, n));
-    match k {
-        0 => take_image(o),
-        1 => ended(o, End::Help),
-        2 => take_leftover(o, space),
-        3 => take_update(o, space),
-        4 => take_picture(o),
-        5 => take_progress(o),
-        6 => take_torn(o, space),
-        _ => ended(o, End::NoOption),
+    if same_bytes(s, b"--torn") {
+        Argument::Torn
+    } else {
+        Argument::Unknown
     }
 }
 
-fn going(o: Options) -> bool {
+// Reads one option with its argument.
+fn step(o: Options, buffer: &mut [u8]) -> Options {
+    let n = os::arg(o.next, buffer);
+    let a = argument_of(part(buffer, 0, n));
+    match a {
+        Argument::Image => with_image(o),
+        Argument::Help => ended(o, End::Help),
+        Argument::Leftover => with_leftovers(o, buffer),
+        Argument::Update => with_updates(o, buffer),
+        Argument::Picture => with_picture(o),
+        Argument::Progress => with_progress(o),
+        Argument::Torn => with_cuts(o, buffer),
+        Argument::Unknown => ended(o, End::NoOption),
+    }
+}
+
+fn has_more(o: Options) -> bool {
     let end = o.end;
     match end {
-        End::More => o.at < os::arg_count(),
+        End::More => o.next < os::arg_count(),
         _ => false,
     }
 }
 
 // Reads all arguments. Each turn reads one or more of them.
-pub fn read(space: &mut [u8]) -> Options {
+pub fn read(buffer: &mut [u8]) -> Options {
     let mut o = none();
     let mut left = os::arg_count();
     while 0 < left {
-        if !going(o) {
+        if !has_more(o) {
             return o;
         }
-        o = step(o, space);
+        o = step(o, buffer);
         left -= 1;
     }
     o

@@ -1,60 +1,94 @@
-// What the picture shows of the cuts inside the header's erase, the header's write and the commit word: a strip of cells for each.
-use crate::text::put8;
-use crate::torn::COMMIT_WORD;
-use crate::torn::DATA;
-use crate::torn::HEADER_ERASE;
-use crate::torn::NONE;
+// The marks of the cuts, for the picture: those between operations come first, then a strip of cells for each of the header's erase, the header's
+// write and the commit word.
+use crate::scratch::MARKS;
+use crate::scratch::MARKS_SIZE;
 use crate::torn::Span;
-use crate::torn::WORD;
+use crate::torn::Target;
+use crate::torn::WORD_SIZE_32;
 use header::HEADER_SIZE;
 use leaf::bytes::get8;
-use region::SECTOR_SIZE;
+use program::bytes::fill;
+use program::bytes::put8;
+use region::SECTOR_SIZE_32;
 use std::num::wrapping_add_u32;
+use std::num::wrapping_add_usize;
+use std::num::wrapping_sub_u32;
 
-// A cell that no cut was tried for.
-pub const UNTRIED: u8 = 3;
+// What load gave: what was found, the new bank, something wrong. A cell that no cut was tried for is a mark too.
+pub const OLD: u8 = 0;
+
+pub const NEW: u8 = 1;
+
+pub const WRONG: u8 = 2;
+
+const UNTRIED: u8 = 3;
 // Added to a mark if the update was begun again.
 pub const AGAIN: u8 = 4;
 
-// The marks of the cuts between operations come first, then those of each strip: where the first strip starts, and how many each has.
-const FIRST: u32 = 2048;
+// Where the strips start, and how many cells each has at most.
+const STRIPS: u32 = 2048;
 
-const ROOM: u32 = 256;
+const STRIP_SIZE: u32 = 256;
+
+const HEADER_WRITE: u32 = STRIPS + STRIP_SIZE;
+
+const COMMIT_WORD: u32 = HEADER_WRITE + STRIP_SIZE;
 // How many bytes make one cell; in the commit word each byte is one.
-const GROUP: usize = 32;
+const GROUP: u32 = 32;
+
+const HEADER_SIZE_32: u32 = HEADER_SIZE as u32;
 
 // Where the marks of a strip start.
-pub fn start(kind: u32) -> u32 {
-    FIRST + kind % 4 * ROOM
+pub fn start(t: Target) -> u32 {
+    match t {
+        Target::CommitWord => COMMIT_WORD,
+        Target::HeaderWrite => HEADER_WRITE,
+        _ => STRIPS,
+    }
 }
 
 // How many bytes the operation of a strip has.
-pub fn bytes(kind: u32) -> u32 {
-    if kind == COMMIT_WORD {
-        return WORD as u32;
-    }
-    if kind == HEADER_ERASE {
-        SECTOR_SIZE as u32
-    } else {
-        HEADER_SIZE as u32
+pub fn bytes(t: Target) -> u32 {
+    match t {
+        Target::CommitWord => WORD_SIZE_32,
+        Target::HeaderErase => SECTOR_SIZE_32,
+        _ => HEADER_SIZE_32,
     }
 }
 
-// The cell of a cut after j bytes.
-fn cell(kind: u32, j: usize) -> u32 {
-    if j == 0 {
-        return 0;
+// The cell of the byte at an index.
+fn cell(t: Target, index: u32) -> u32 {
+    match t {
+        Target::CommitWord => index % STRIP_SIZE,
+        _ => index / GROUP % STRIP_SIZE,
     }
-    let byte = j - 1;
-    if kind == COMMIT_WORD {
-        return (byte % 256) as u32;
-    }
-    (byte / GROUP % 256) as u32
 }
 
 // How many cells a strip has.
-pub fn cells(kind: u32) -> u32 {
-    wrapping_add_u32(cell(kind, bytes(kind) as usize), 1)
+pub fn cells(t: Target) -> u32 {
+    wrapping_add_u32(cell(t, wrapping_sub_u32(bytes(t), 1)), 1)
+}
+
+fn has_strip(t: Target) -> bool {
+    match t {
+        Target::Nothing => false,
+        Target::Data => false,
+        _ => true,
+    }
+}
+
+// Marks every cell as untried.
+pub fn clear(scratch: &mut [u8]) {
+    fill(scratch, MARKS, MARKS_SIZE, UNTRIED);
+}
+
+// The mark of a cut between operations, or of a strip's cell.
+pub fn mark_at(scratch: &[u8], index: u32) -> u8 {
+    get8(scratch, wrapping_add_usize(MARKS, index as usize))
+}
+
+pub fn put_mark(scratch: &mut [u8], index: u32, mark: u8) {
+    put8(scratch, wrapping_add_usize(MARKS, index as usize), mark);
 }
 
 // Joins two marks of a cell: the worse result, and whether the update was begun again.
@@ -69,12 +103,13 @@ fn joined(old: u8, new: u8) -> u8 {
     if again { AGAIN + gave % AGAIN } else { gave }
 }
 
-// Notes the result of the cut after the first j bytes of an operation, if the operation has a strip.
-pub fn put(marks: &mut [u8], s: Span, j: usize, mark: u8) {
-    if (s.kind == NONE) | (s.kind == DATA) {
+// Notes the result of the cut after the first n bytes of an operation, if the operation has a strip.
+pub fn put_inside(scratch: &mut [u8], s: Span, n: u32, mark: u8) {
+    let t = s.target;
+    if !has_strip(t) {
         return;
     }
-    let at = wrapping_add_u32(start(s.kind), cell(s.kind, j)) as usize;
-    let old = get8(marks, at);
-    put8(marks, at, joined(old, mark));
+    let index = wrapping_add_u32(start(t), cell(t, wrapping_sub_u32(n, 1)));
+    let old = mark_at(scratch, index);
+    put_mark(scratch, index, joined(old, mark));
 }

@@ -1,47 +1,72 @@
 // One update, cut between its flash operations and inside them.
 use crate::data::key_length;
 use crate::kinds;
+use crate::kinds::Kind;
+use crate::kinds::Leftover;
 use crate::leftover::number_after;
 use crate::leftover::start;
-use crate::out::count;
-use crate::out::say;
+use crate::scratch::AFTER;
+use crate::scratch::BEFORE;
 use crate::strips;
-use crate::text::copy;
-use crate::text::paste;
-use crate::text::put8;
-use crate::text::same_bytes;
-use crate::torn::NONE;
+use crate::strips::mark_at;
+use crate::strips::put_mark;
+use crate::torn::Cut;
+use crate::torn::Cuts;
 use crate::torn::Span;
-use crate::torn::TRY_NONE;
+use crate::torn::are_tried;
+use crate::torn::is_operation;
 use crate::torn::is_sampled as is_sampled_inside;
 use crate::torn::is_tried;
+use crate::update::EVERY_OPERATION;
+use crate::update::MOST_CALLS;
+use crate::update::STAMP;
 use crate::update::Update;
 use crate::update::begin;
 use crate::update::is_over;
 use crate::update::next_operation;
 use crate::update::run;
-use crate::update::stamp;
 use crate::update::step;
 use bank::Loaded;
 use bank::load;
 use base::slice::part;
+use base::slice::same_bytes;
 use header::Bank;
 use header::Validated;
 use leaf::bytes::get8;
 use leaf::crc::crc32;
 use libc::STDERR_FILENO;
+use program::bytes::copy;
+use program::bytes::put8;
+use program::number::low32;
+use program::output::count;
+use program::output::put;
+use record::VERSION;
+use region::REGION_SIZE;
 use region::SECTOR_SIZE;
 use region::bank_of;
 use std::num::wrapping_add_u32;
 use std::num::wrapping_add_usize;
 use std::num::wrapping_sub_u32;
 
+// The update is begun again after every 97th cut, and after the last ones.
+const AGAIN: u32 = 97;
+
+const LAST_CUTS: u32 = 6;
+// Progress is shown at every 16th cut.
+const SHOWN: u32 = 16;
+
+// What is tried.
+pub struct Setting {
+    pub leftover: Leftover,
+    pub update: Kind,
+    pub cuts: Cuts,
+    pub progress: bool,
+}
+
 // What is tried, what load gave on the region found, and the bank that the update commits.
 pub struct Plan {
-    pub leftover: u32,
-    pub update: u32,
-    pub torn: u32,
-    pub progress: bool,
+    pub setting: Setting,
+    pub update: Kind,
     pub found: Loaded,
     pub fresh: Bank,
 }
@@ -59,6 +84,40 @@ pub struct Count {
     pub byte: u32,
 }
 
+// No cuts yet.
+pub fn none() -> Count {
+    Count {
+        cuts: 0,
+        inside: 0,
+        old: 0,
+        new: 0,
+        again: 0,
+        wrong: 0,
+        first: 0,
+        byte: 0,
+    }
+}
+
+// An update so far, and the count of its cuts.
+struct Tried {
+    update: Update,
+    count: Count,
+}
+
+// A step that was made: the operation that it did, the update after it, and the count before.
+struct Step {
+    span: Span,
+    update: Update,
+    count: Count,
+}
+
+// The result of a cut: whether it is right, whether the update is over, whether it was begun again.
+struct Outcome {
+    right: bool,
+    over: bool,
+    again: bool,
+}
+
 fn generation_after(l: Loaded) -> u32 {
     match l {
         Loaded::Found(b) => wrapping_add_u32(b.generation, 1),
@@ -70,31 +129,23 @@ fn generation_after(l: Loaded) -> u32 {
 fn bank_after(l: Loaded, data: &[u8], n: usize) -> Bank {
     Bank {
         number: number_after(l),
-        version: 3,
+        version: VERSION,
         generation: generation_after(l),
-        length: (n % 4294967296) as u32,
+        length: low32(n as u64),
         crc: crc32(0, part(data, 0, n)),
         count: 1,
-        key: (key_length(n) % 4294967296) as u32,
-        checked: stamp(),
+        key: low32(key_length(n) as u64),
+        checked: STAMP,
     }
 }
 
-pub fn planned(
-    region: &[u8],
-    data: &[u8],
-    leftover: u32,
-    update: u32,
-    torn: u32,
-    progress: bool,
-) -> Plan {
+pub fn planned(region: &[u8], data: &[u8], setting: Setting) -> Plan {
     let found = load(region);
+    let update = setting.update;
     let fresh = bank_after(found, data, kinds::size(update));
     Plan {
-        leftover,
+        setting,
         update,
-        torn,
-        progress,
         found,
         fresh,
     }
@@ -154,40 +205,50 @@ fn is_kept(region: &[u8], before: &[u8], p: Plan) -> bool {
 fn is_right(region: &[u8], before: &[u8], data: &[u8], p: Plan, over: bool) -> bool {
     let l = load(region);
     let b = p.fresh;
+    let k = p.update;
     if over {
         return is_found(l, b)
-            & (is_whole(region, data, b, kinds::size(p.update)) & is_kept(region, before, p));
+            & (is_whole(region, data, b, kinds::size(k)) & is_kept(region, before, p));
     }
     let e = p.found;
     same_loaded(l, e) & is_kept(region, before, p)
 }
 
 // Begins again on a region, and says whether the whole update commits.
-fn commits(region: &mut [u8], data: &[u8], update: u32) -> bool {
+fn commits(region: &mut [u8], data: &[u8], update: Kind) -> bool {
     let n = kinds::size(update);
     let l = load(region);
     let b = bank_after(l, data, n);
     let begun = begin(region, n, false, false);
-    let u = run(begun, region, data, 4294967295);
+    let u = run(begun, region, data, EVERY_OPERATION);
     let after = load(region);
     (is_over(u) & (u.right & (u.operations == kinds::operations(update))))
         & (is_found(after, b) & is_whole(region, data, b, n))
 }
 
-// Whether the update is begun again after this cut: every 97th, and the last few.
-fn is_sampled(update: u32, cut: u32) -> bool {
-    (cut % 97 == 0) | (kinds::operations(update) <= wrapping_add_u32(cut, 6))
+// Whether the update is begun again after this cut.
+fn is_sampled(update: Kind, cut: u32) -> bool {
+    (cut % AGAIN == 0) | (kinds::operations(update) <= wrapping_add_u32(cut, LAST_CUTS))
 }
 
-fn begun_again(region: &[u8], again: &mut [u8], data: &[u8], update: u32) -> bool {
-    copy(region, again);
-    commits(again, data, update)
+// The same in the first n bytes of the scratch buffer, where the copy is.
+fn commits_in(scratch: &mut [u8], n: usize, data: &[u8], update: Kind) -> bool {
+    if n < scratch.len() {
+        return commits(&mut scratch[..n], data, update);
+    }
+    false
+}
+
+// Begins again on a copy of the region, and says whether the whole update commits.
+fn begun_again(region: &[u8], scratch: &mut [u8], data: &[u8], update: Kind) -> bool {
+    copy(region, scratch, 0);
+    commits_in(scratch, REGION_SIZE, data, update)
 }
 
 // Whether the update commits again, if that is tried.
-fn goes_on(region: &[u8], again: &mut [u8], data: &[u8], update: u32, sampled: bool) -> bool {
+fn goes_on(region: &[u8], scratch: &mut [u8], data: &[u8], update: Kind, sampled: bool) -> bool {
     if sampled {
-        return begun_again(region, again, data, update);
+        return begun_again(region, scratch, data, update);
     }
     true
 }
@@ -207,8 +268,8 @@ fn with_wrong(c: Count, byte: u32) -> Count {
 }
 
 // Counts one more update that was begun again, if it was.
-fn with_again(c: Count, sampled: bool) -> Count {
-    if sampled {
+fn with_again(c: Count, again: bool) -> Count {
+    if again {
         return Count {
             again: wrapping_add_u32(c.again, 1),
             ..c
@@ -218,11 +279,11 @@ fn with_again(c: Count, sampled: bool) -> Count {
 }
 
 // Counts the result of one more cut.
-fn with_cut(c: Count, right: bool, over: bool, byte: u32) -> Count {
-    if !right {
+fn with_cut(c: Count, o: Outcome, byte: u32) -> Count {
+    if !o.right {
         return with_wrong(c, byte);
     }
-    if over {
+    if o.over {
         return Count {
             new: wrapping_add_u32(c.new, 1),
             ..c
@@ -235,115 +296,92 @@ fn with_cut(c: Count, right: bool, over: bool, byte: u32) -> Count {
 }
 
 // Counts a cut between operations. Its number is how many there were before it.
-fn counted(c: Count, right: bool, over: bool, sampled: bool) -> Count {
-    let a = with_again(c, sampled);
-    let b = with_cut(a, right, over, 0);
+fn counted(c: Count, o: Outcome) -> Count {
+    let a = with_again(c, o.again);
+    let b = with_cut(a, o, 0);
     Count {
         cuts: wrapping_add_u32(b.cuts, 1),
         ..b
     }
 }
 
-// Counts a cut inside an operation, after its first j bytes. The cut before the operation is counted already, so `cuts` is the number
+// Counts a cut inside an operation, after its first n bytes. The cut before the operation is counted already, so `cuts` is the number
 // of the operation.
-fn counted_inside(c: Count, right: bool, sampled: bool, j: usize) -> Count {
-    let a = with_again(c, sampled);
-    let b = with_cut(a, right, false, (j % 4294967296) as u32);
+fn counted_inside(c: Count, o: Outcome, n: u32) -> Count {
+    let a = with_again(c, o.again);
+    let b = with_cut(a, o, n);
     Count {
         inside: wrapping_add_u32(b.inside, 1),
         ..b
     }
 }
 
-// The result of a cut: 0 what was found, 1 the new bank, 2 wrong.
-fn gave(right: bool, over: bool) -> u8 {
-    if !right {
-        return 2;
+fn gave(o: Outcome) -> u8 {
+    if !o.right {
+        return strips::WRONG;
     }
-    if over { 1 } else { 0 }
+    if o.over { strips::NEW } else { strips::OLD }
 }
 
-// A cut's mark in the picture: its result, and 4 more if the update was begun again.
-fn mark(right: bool, over: bool, sampled: bool) -> u8 {
-    let g = gave(right, over) % strips::AGAIN;
-    if sampled { strips::AGAIN + g } else { g }
+// A cut's mark in the picture.
+fn mark(o: Outcome) -> u8 {
+    let g = gave(o) % strips::AGAIN;
+    if o.again { strips::AGAIN + g } else { g }
 }
 
-fn tell(p: Plan, cut: u32) {
-    if p.progress & (cut % 16 == 0) {
-        say(STDERR_FILENO, b"\r");
-        kinds::say_kinds(STDERR_FILENO, p.leftover, p.update);
+fn show_progress(p: Plan, cut: u32) {
+    let s = p.setting;
+    let l = s.leftover;
+    let k = s.update;
+    if s.progress & (cut % SHOWN == 0) {
+        put(STDERR_FILENO, b"\r");
+        kinds::put_kinds(STDERR_FILENO, l, k);
         count(STDERR_FILENO, b": cut ", cut);
-        count(STDERR_FILENO, b" of ", kinds::operations(p.update));
-        say(STDERR_FILENO, b"   ");
+        count(STDERR_FILENO, b" of ", kinds::operations(k));
+        put(STDERR_FILENO, b"   ");
     }
 }
 
 // Tests the region after a cut.
-fn look(
-    u: Update,
-    region: &[u8],
-    before: &[u8],
-    again: &mut [u8],
-    data: &[u8],
-    marks: &mut [u8],
-    p: Plan,
-    c: Count,
-) -> Count {
+fn look(t: Tried, p: Plan, region: &[u8], before: &[u8], data: &[u8], scratch: &mut [u8]) -> Count {
+    let u = t.update;
+    let c = t.count;
+    let k = p.update;
     let over = is_over(u);
-    let sampled = is_sampled(p.update, c.cuts);
+    let again = is_sampled(k, c.cuts);
     let good = u.right & is_right(region, before, data, p, over);
-    let right = goes_on(region, again, data, p.update, sampled) & good;
-    put8(marks, c.cuts as usize, mark(right, over, sampled));
-    tell(p, c.cuts);
-    counted(c, right, over, sampled)
-}
-
-fn none() -> Count {
-    Count {
-        cuts: 0,
-        inside: 0,
-        old: 0,
-        new: 0,
-        again: 0,
-        wrong: 0,
-        first: 0,
-        byte: 0,
-    }
+    let right = goes_on(region, scratch, data, k, again) & good;
+    let o = Outcome { right, over, again };
+    put_mark(scratch, c.cuts, mark(o));
+    show_progress(p, c.cuts);
+    counted(c, o)
 }
 
 // Tests the region after a cut inside an operation. Its bytes are in the bank that is written, so the other bank isn't compared here.
-fn look_inside(
-    s: Span,
-    j: usize,
-    region: &[u8],
-    again: &mut [u8],
-    data: &[u8],
-    marks: &mut [u8],
-    p: Plan,
-    c: Count,
-) -> Count {
-    let sampled = is_sampled_inside(s, j, c.inside);
+fn look_inside(x: Cut, c: Count, p: Plan, region: &[u8], data: &[u8], scratch: &mut [u8]) -> Count {
+    let s = x.span;
+    let n = low32(x.done as u64);
+    let again = is_sampled_inside(x);
     let l = load(region);
     let e = p.found;
-    let right = goes_on(region, again, data, p.update, sampled) & same_loaded(l, e);
-    strips::put(marks, s, j, mark(right, false, sampled));
-    counted_inside(c, right, sampled, j)
+    let k = p.update;
+    let right = goes_on(region, scratch, data, k, again) & same_loaded(l, e);
+    let o = Outcome {
+        right,
+        over: false,
+        again,
+    };
+    strips::put_inside(scratch, s, n, mark(o));
+    counted_inside(c, o, n)
 }
 
 // The same, if this cut is tried.
-fn at_byte(
-    s: Span,
-    j: usize,
-    region: &[u8],
-    again: &mut [u8],
-    data: &[u8],
-    marks: &mut [u8],
-    p: Plan,
-    c: Count,
-) -> Count {
-    if is_tried(p.torn, s, j, c.cuts) {
-        return look_inside(s, j, region, again, data, marks, p, c);
+fn after_byte(x: Cut, c: Count, p: Plan, region: &[u8], data: &[u8], scratch: &mut [u8]) -> Count {
+    let t = p.setting;
+    let cuts = t.cuts;
+    let s = x.span;
+    if is_tried(cuts, s, x.done, c.cuts) {
+        return look_inside(x, c, p, region, data, scratch);
     }
     c
 }
@@ -351,140 +389,125 @@ fn at_byte(
 // All cuts inside an operation: byte by byte the region becomes what the operation left.
 fn bytes(
     s: Span,
-    region: &mut [u8],
-    left: &[u8],
-    again: &mut [u8],
-    data: &[u8],
-    marks: &mut [u8],
-    p: Plan,
     so_far: Count,
+    p: Plan,
+    region: &mut [u8],
+    data: &[u8],
+    scratch: &mut [u8],
 ) -> Count {
     let mut c = so_far;
-    let mut j: usize = 0;
-    while j < s.size {
-        put8(region, wrapping_add_usize(s.at, j), get8(left, j));
-        j += 1;
-        c = at_byte(s, j, region, again, data, marks, p, c);
+    let mut done: usize = 0;
+    while done < s.size {
+        let b = get8(scratch, wrapping_add_usize(AFTER, done));
+        put8(region, wrapping_add_usize(s.at, done), b);
+        done += 1;
+        let x = Cut {
+            span: s,
+            done,
+            before: c.inside,
+        };
+        c = after_byte(x, c, p, region, data, scratch);
     }
     c
 }
 
 // The cuts inside an operation that is done: the bytes from before it are put back first.
-fn inside(
-    s: Span,
-    region: &mut [u8],
-    was: &[u8],
-    again: &mut [u8],
-    data: &[u8],
-    marks: &mut [u8],
-    p: Plan,
-    c: Count,
-) -> Count {
-    let mut space = [0u8; SECTOR_SIZE];
-    let left: &mut [u8] = &mut space;
-    copy(part(region, s.at, s.size), left);
-    paste(was, s.size, region, s.at);
-    bytes(s, region, left, again, data, marks, p, c)
+fn inside(s: Span, c: Count, p: Plan, region: &mut [u8], data: &[u8], scratch: &mut [u8]) -> Count {
+    copy(part(region, s.at, s.size), scratch, AFTER);
+    copy(part(scratch, BEFORE, s.size), region, s.at);
+    bytes(s, c, p, region, data, scratch)
 }
 
 fn inside_if_tried(
     s: Span,
-    region: &mut [u8],
-    was: &[u8],
-    again: &mut [u8],
-    data: &[u8],
-    marks: &mut [u8],
-    p: Plan,
     c: Count,
+    p: Plan,
+    region: &mut [u8],
+    data: &[u8],
+    scratch: &mut [u8],
 ) -> Count {
-    if p.torn == TRY_NONE {
-        return c;
+    let t = p.setting;
+    let cuts = t.cuts;
+    if are_tried(cuts) {
+        return inside(s, c, p, region, data, scratch);
     }
-    inside(s, region, was, again, data, marks, p, c)
+    c
 }
 
 // Marks the cut after an operation in its strip too: all its bytes are done.
-fn show_whole(s: Span, marks: &mut [u8], c: Count) {
-    let m = get8(marks, wrapping_sub_u32(c.cuts, 1) as usize);
-    strips::put(marks, s, s.size, m);
+fn mark_whole(s: Span, c: Count, scratch: &mut [u8]) {
+    let m = mark_at(scratch, wrapping_sub_u32(c.cuts, 1));
+    strips::put_inside(scratch, s, low32(s.size as u64), m);
 }
 
 // If a cut inside an operation was wrong, marks the cell of the cut after it too: most operations have no strip.
-fn show_wrong(before: Count, inside: Count, marks: &mut [u8], c: Count) {
+fn mark_wrong(before: Count, inside: Count, c: Count, scratch: &mut [u8]) {
     if before.wrong != inside.wrong {
-        put8(
-            marks,
-            wrapping_sub_u32(c.cuts, 1) as usize,
-            gave(false, false),
-        );
+        put_mark(scratch, wrapping_sub_u32(c.cuts, 1), strips::WRONG);
     }
 }
 
 // Tries the cuts inside the flash operation of a step, and the one after it.
 fn operate(
-    s: Span,
-    u: Update,
-    region: &mut [u8],
-    was: &[u8],
-    before: &[u8],
-    again: &mut [u8],
-    data: &[u8],
-    marks: &mut [u8],
+    x: Step,
     p: Plan,
-    c: Count,
+    region: &mut [u8],
+    before: &[u8],
+    data: &[u8],
+    scratch: &mut [u8],
 ) -> Count {
-    let d = inside_if_tried(s, region, was, again, data, marks, p, c);
-    let e = look(u, region, before, again, data, marks, p, d);
-    show_whole(s, marks, e);
-    show_wrong(c, d, marks, e);
+    let s = x.span;
+    let c = x.count;
+    let update = x.update;
+    let d = inside_if_tried(s, c, p, region, data, scratch);
+    let t = Tried { update, count: d };
+    let e = look(t, p, region, before, data, scratch);
+    mark_whole(s, e, scratch);
+    mark_wrong(c, d, e, scratch);
     e
 }
 
 // Tries the cuts of a step that did a flash operation. One that `next_operation` did not give is wrong: it could not be cut inside.
-fn next(
-    s: Span,
-    u: Update,
-    region: &mut [u8],
-    was: &[u8],
-    before: &[u8],
-    again: &mut [u8],
-    data: &[u8],
-    marks: &mut [u8],
+fn after_step(
+    x: Step,
     p: Plan,
-    c: Count,
+    region: &mut [u8],
+    before: &[u8],
+    data: &[u8],
+    scratch: &mut [u8],
 ) -> Count {
+    let u = x.update;
+    let s = x.span;
+    let target = s.target;
+    let c = x.count;
     if u.flash {
-        let d = operate(s, u, region, was, before, again, data, marks, p, c);
-        return with_whole(d, s.kind != NONE);
+        let d = operate(x, p, region, before, data, scratch);
+        return with_whole(d, is_operation(target));
     }
     c
-}
-
-// An update so far, and the count of its cuts.
-struct Tried {
-    update: Update,
-    count: Count,
 }
 
 // A step, with its cuts. The bytes that it changes are kept from before.
 fn turn(
     t: Tried,
+    p: Plan,
     region: &mut [u8],
     before: &[u8],
-    again: &mut [u8],
     data: &[u8],
-    marks: &mut [u8],
-    p: Plan,
+    scratch: &mut [u8],
 ) -> Tried {
-    let mut space = [0u8; SECTOR_SIZE];
-    let was: &mut [u8] = &mut space;
     let u = t.update;
     let c = t.count;
     let found = p.found;
-    let s = next_operation(u, start(found));
-    copy(part(region, s.at, s.size), was);
+    let span = next_operation(u, start(found));
+    copy(part(region, span.at, span.size), scratch, BEFORE);
     let update = step(u, region, data);
-    let count = next(s, update, region, was, before, again, data, marks, p, c);
+    let x = Step {
+        span,
+        update,
+        count: c,
+    };
+    let count = after_step(x, p, region, before, data, scratch);
     Tried { update, count }
 }
 
@@ -494,45 +517,36 @@ fn ended(t: Tried) -> bool {
 }
 
 // The beginning, and the cut before any operation.
-fn begun(
-    region: &[u8],
-    before: &[u8],
-    again: &mut [u8],
-    data: &[u8],
-    marks: &mut [u8],
-    p: Plan,
-) -> Tried {
-    let update = begin(region, kinds::size(p.update), false, false);
-    let count = look(update, region, before, again, data, marks, p, none());
+fn begun(p: Plan, region: &[u8], before: &[u8], data: &[u8], scratch: &mut [u8]) -> Tried {
+    let k = p.update;
+    let update = begin(region, kinds::size(k), false, false);
+    let t = Tried {
+        update,
+        count: none(),
+    };
+    let count = look(t, p, region, before, data, scratch);
     Tried { update, count }
 }
 
 // All cuts of an update.
-fn cuts(
-    region: &mut [u8],
-    before: &[u8],
-    again: &mut [u8],
-    data: &[u8],
-    marks: &mut [u8],
-    p: Plan,
-) -> Count {
-    let mut t = begun(region, before, again, data, marks, p);
-    let mut turns: u32 = 8000;
-    while 0 < turns {
+fn cuts(p: Plan, region: &mut [u8], before: &[u8], data: &[u8], scratch: &mut [u8]) -> Count {
+    let mut t = begun(p, region, before, data, scratch);
+    let mut calls = MOST_CALLS;
+    while 0 < calls {
         if ended(t) {
             return t.count;
         }
-        t = turn(t, region, before, again, data, marks, p);
-        turns -= 1;
+        t = turn(t, p, region, before, data, scratch);
+        calls -= 1;
     }
     t.count
 }
 
 // Whether the comparison of an update with the active bank answers as it must, and changes nothing.
-fn compares(region: &mut [u8], data: &[u8], update: u32, same: bool) -> bool {
+fn compares(region: &mut [u8], data: &[u8], update: Kind, same: bool) -> bool {
     let before = crc32(0, region);
     let begun = begin(region, kinds::size(update), true, same);
-    let u = run(begun, region, data, 4294967295);
+    let u = run(begun, region, data, EVERY_OPERATION);
     is_over(u) & (u.right & (crc32(0, region) == before))
 }
 
@@ -546,34 +560,28 @@ fn with_whole(c: Count, right: bool) -> Count {
 
 // All cuts, and whether there are as many operations as there must be.
 fn counted_cuts(
+    p: Plan,
     region: &mut [u8],
     before: &[u8],
-    again: &mut [u8],
     data: &[u8],
-    marks: &mut [u8],
-    p: Plan,
+    scratch: &mut [u8],
 ) -> Count {
-    let c = cuts(region, before, again, data, marks, p);
+    let k = p.update;
+    let c = cuts(p, region, before, data, scratch);
     with_whole(
         c,
-        (c.cuts == wrapping_add_u32(kinds::operations(p.update), 1)) & (c.new <= 1),
+        (c.cuts == wrapping_add_u32(kinds::operations(k), 1)) & (c.new <= 1),
     )
 }
 
 // Tries one update; one that is compared before it is compared after it too.
-pub fn trial(
-    region: &mut [u8],
-    before: &[u8],
-    again: &mut [u8],
-    data: &[u8],
-    marks: &mut [u8],
-    p: Plan,
-) -> Count {
-    if p.update != 3 {
-        return counted_cuts(region, before, again, data, marks, p);
+pub fn trial(p: Plan, region: &mut [u8], before: &[u8], data: &[u8], scratch: &mut [u8]) -> Count {
+    let k = p.update;
+    if !kinds::is_compared(k) {
+        return counted_cuts(p, region, before, data, scratch);
     }
-    let first = compares(region, data, 3, false);
-    let c = counted_cuts(region, before, again, data, marks, p);
-    let second = compares(region, data, 3, true);
+    let first = compares(region, data, k, false);
+    let c = counted_cuts(p, region, before, data, scratch);
+    let second = compares(region, data, k, true);
     with_whole(c, first & second)
 }

@@ -1,12 +1,14 @@
 // An update by the lower layer's calls, one call a step.
+use crate::data::FIRST_DAY;
+use crate::data::LAST_DAY;
 use crate::data::table_start;
-use crate::text::between;
 use crate::torn;
 use crate::torn::Span;
 use crate::torn::erase;
 use crate::torn::no_operation;
 use crate::torn::write;
 use commit::Stamp;
+use program::text::between;
 use record::Source;
 use record::no_source;
 use std::num::wrapping_add_u32;
@@ -39,22 +41,31 @@ pub struct Update {
     pub right: bool,
 }
 
-// The time of the beginning, and the host's stamp.
-fn now() -> i64 {
-    1791000000
-}
+// When the source was updated, the time of the beginning, and the host's stamp.
+const UPDATED: i64 = 1790900000;
 
-pub fn stamp() -> i64 {
-    1791000060
-}
+const NOW: i64 = 1791000000;
+
+pub const STAMP: i64 = 1791000060;
+
+// The table that is written, and its bit.
+const TABLE: u32 = 0;
+
+const PRESENT: u32 = 1;
+
+// The longest update needs fewer calls.
+pub const MOST_CALLS: u32 = 8000;
+
+// More operations than any update makes.
+pub const EVERY_OPERATION: u32 = 4294967295;
 
 fn the_source() -> Source {
     let z = no_source();
     Source {
-        start: 20260101,
-        end: 20261231,
-        present: 1,
-        updated: 1790900000,
+        start: FIRST_DAY,
+        end: LAST_DAY,
+        present: PRESENT,
+        updated: UPDATED,
         ..z
     }
 }
@@ -68,7 +79,7 @@ fn done(a: Answer) -> bool {
 
 // Begins an update and its one source. `same` is the answer that a comparison must give.
 pub fn begin(region: &[u8], n: usize, comparing: bool, same: bool) -> Update {
-    let s = lower::begin::begin(region, comparing, now());
+    let s = lower::begin::begin(region, comparing, NOW);
     let begun = s.writer;
     let a = s.answer;
     let source = the_source();
@@ -124,19 +135,19 @@ fn operate(u: Update, region: &mut [u8]) -> Update {
 }
 
 // How many bytes were appended; 0 for any other answer.
-fn taken(a: Answer) -> usize {
+fn appended(a: Answer) -> usize {
     match a {
         Answer::Appended(k) => k as usize,
         _ => 0,
     }
 }
 
-fn take(u: Update, bytes: &[u8]) -> Update {
+fn append(u: Update, bytes: &[u8]) -> Update {
     let w = u.writer;
     let s = lower::append::bytes(w, bytes);
     let writer = s.writer;
     let a = s.answer;
-    let k = taken(a);
+    let k = appended(a);
     Update {
         writer,
         at: wrapping_add_usize(u.at, k),
@@ -148,7 +159,7 @@ fn take(u: Update, bytes: &[u8]) -> Update {
 
 fn start_table(u: Update) -> Update {
     let w = u.writer;
-    let s = lower::table::table(w, 0);
+    let s = lower::table::table(w, TABLE);
     let writer = s.writer;
     let a = s.answer;
     Update {
@@ -179,7 +190,7 @@ fn close(u: Update) -> Update {
 
 fn header(u: Update, region: &mut [u8]) -> Update {
     let w = u.writer;
-    let s = commit::commit(w, region, Stamp::Given(stamp()), true);
+    let s = commit::commit(w, region, Stamp::Given(STAMP), true);
     let writer = s.writer;
     let a = s.answer;
     Update {
@@ -208,7 +219,7 @@ fn word(u: Update, region: &mut [u8]) -> Update {
 }
 
 // Whether an answer is that the update is the same, or that it is not.
-fn says(a: Answer, same: bool) -> bool {
+fn is_answer(a: Answer, same: bool) -> bool {
     match a {
         Answer::Same => same,
         Answer::Different => !same,
@@ -225,7 +236,7 @@ fn ask(u: Update, region: &[u8]) -> Update {
         writer,
         phase: Phase::Over,
         flash: false,
-        right: u.right & says(a, u.same),
+        right: u.right & is_answer(a, u.same),
         ..u
     }
 }
@@ -233,14 +244,14 @@ fn ask(u: Update, region: &[u8]) -> Update {
 fn in_key(u: Update, data: &[u8]) -> Update {
     let to = table_start(u.n);
     if u.at < to {
-        return take(u, between(data, u.at, to));
+        return append(u, between(data, u.at, to));
     }
     start_table(u)
 }
 
 fn in_table(u: Update, data: &[u8]) -> Update {
     if u.at < u.n {
-        return take(u, between(data, u.at, u.n));
+        return append(u, between(data, u.at, u.n));
     }
     close(u)
 }
@@ -306,16 +317,16 @@ pub fn next_operation(u: Update, bank: usize) -> Span {
     }
 }
 
-// Makes calls until the first n operations are done or the update is over; the longest update needs fewer than 8,000 calls.
+// Makes calls until the first n operations are done or the update is over.
 pub fn run(begun: Update, region: &mut [u8], data: &[u8], operations: u32) -> Update {
     let mut u = begun;
-    let mut turns: u32 = 8000;
-    while 0 < turns {
+    let mut calls = MOST_CALLS;
+    while 0 < calls {
         if is_over(u) | (u.operations == operations) {
             return u;
         }
         u = step(u, region, data);
-        turns -= 1;
+        calls -= 1;
     }
     u
 }

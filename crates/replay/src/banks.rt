@@ -1,7 +1,6 @@
 // The lines on the region's banks: whether the core's answers about the region, as the lines before built it, are the line's.
-use crate::keys::first_lengths;
-use crate::keys::lengths;
-use crate::text::first;
+use crate::keys::LENGTHS;
+use crate::keys::lengths_of;
 use crate::text::is_word;
 use crate::text::number;
 use crate::text::number32;
@@ -15,9 +14,13 @@ use bank::turns::Checking;
 use bank::turns::Progress;
 use bank::turns::Turn;
 use base::number::u8_to_u32;
+use base::slice::part;
 use header::Bank;
+use header::SOURCES;
 use header::Validated;
 use key::SameKey;
+use program::lengths;
+use record::RECORD_SIZE;
 use record::Source;
 use refusal::Refusal;
 use snapshot::Outcome;
@@ -25,26 +28,34 @@ use snapshot::freshness::Day;
 use snapshot::freshness::Days;
 use snapshot::freshness::FreshAnswer;
 
+const LAST_SOURCE: usize = SOURCES - 1;
+
+// A day's flag is a bit.
+const FLAG: u64 = 2;
+
+const TWO_FLAGS: u64 = FLAG * FLAG;
+
 // Whether word k is the number n.
-fn is(a: &[u8], k: u8, n: u32) -> bool {
+fn is_number(a: &[u8], k: u8, n: u32) -> bool {
     number32(a, word(a, k)) == n
 }
 
 // Whether an answer is a refusal's number and nothing else.
 fn is_refusal(a: &[u8], r: Refusal) -> bool {
-    is(a, 0, u8_to_u32(refusal::number(r))) & (words(a) == 1)
+    is_number(a, 0, u8_to_u32(refusal::number(r))) & (words(a) == 1)
 }
 
 // Whether an answer starts with these three numbers.
-fn three(a: &[u8], x: u32, y: u32, z: u32) -> bool {
-    is(a, 0, x) & (is(a, 1, y) & is(a, 2, z))
+fn starts_with(a: &[u8], x: u32, y: u32, z: u32) -> bool {
+    is_number(a, 0, x) & (is_number(a, 1, y) & is_number(a, 2, z))
 }
 
 // Whether an answer is a number and a bank's numbers after it.
 fn is_bank(a: &[u8], before: u32, b: Bank) -> bool {
     (words(a) == 9)
-        & (three(a, before, b.number, b.version) & three(rest(a, 3), b.generation, b.length, b.crc))
-        & (is(a, 6, b.count) & is(a, 7, b.key))
+        & (starts_with(a, before, b.number, b.version)
+            & starts_with(rest(a, 3), b.generation, b.length, b.crc))
+        & (is_number(a, 6, b.count) & is_number(a, 7, b.key))
         & (signed(a, word(a, 8)) == b.checked)
 }
 
@@ -68,7 +79,7 @@ pub fn load(l: &[u8], region: &[u8]) -> bool {
     let x = bank::load(region);
     match x {
         Loaded::Found(b) => is_bank(a, 1, b),
-        Loaded::Nothing => is(a, 0, 0) & (words(a) == 1),
+        Loaded::Nothing => is_number(a, 0, 0) & (words(a) == 1),
         Loaded::Refused(_) => false,
     }
 }
@@ -78,7 +89,7 @@ fn is_record(a: &[u8], s: Source) -> bool {
     let mut space = io::buffer();
     let out: &mut [u8] = &mut space;
     record::encode(s, out, 0);
-    is(a, 0, 0) & is_word(a, 1, out, 384)
+    is_number(a, 0, 0) & is_word(a, 1, part(out, 0, RECORD_SIZE))
 }
 
 // The record at an index, of all sources of a bank.
@@ -88,7 +99,7 @@ fn among(region: &[u8], number: u32, i: u32) -> Source {
     match i {
         0 => all[0],
         1 => all[1],
-        _ => all[2],
+        _ => all[LAST_SOURCE],
     }
 }
 
@@ -109,7 +120,7 @@ pub fn source(l: &[u8], region: &[u8]) -> bool {
 fn day(l: &[u8], k: u8, wanted: u64) -> Day {
     Day {
         date: number32(l, word(l, k)),
-        wanted: wanted % 2 == 1,
+        wanted: wanted % FLAG == 1,
     }
 }
 
@@ -118,15 +129,15 @@ fn days(l: &[u8]) -> Days {
     let wanted = number(l, word(l, 5));
     Days {
         first: day(l, 2, wanted),
-        second: day(l, 3, wanted / 2),
-        third: day(l, 4, wanted / 4),
+        second: day(l, 3, wanted / FLAG),
+        third: day(l, 4, wanted / TWO_FLAGS),
     }
 }
 
 // Whether an answer is these two times.
 fn is_times(a: &[u8], checked: i64, updated: i64) -> bool {
     (words(a) == 3)
-        & is(a, 0, 0)
+        & is_number(a, 0, 0)
         & (signed(a, word(a, 1)) == checked)
         & (signed(a, word(a, 2)) == updated)
 }
@@ -148,16 +159,16 @@ pub fn fresh(l: &[u8], region: &[u8]) -> bool {
 // Whether an answer is a turn's refusal, verdict and count.
 fn is_progress(a: &[u8], p: Progress) -> bool {
     match p {
-        Progress::Hashed(n) => three(a, 0, 0, n),
-        Progress::Yes => three(a, 0, 1, 0),
-        Progress::Refused(r) => three(a, u8_to_u32(refusal::number(r)), 0, 0),
+        Progress::Hashed(n) => starts_with(a, 0, 0, n),
+        Progress::Yes => starts_with(a, 0, 1, 0),
+        Progress::Refused(r) => starts_with(a, u8_to_u32(refusal::number(r)), 0, 0),
     }
 }
 
 fn is_turn(a: &[u8], t: Turn) -> bool {
     let p = t.progress;
     let s = t.next;
-    (words(a) == 6) & is_progress(a, p) & three(rest(a, 3), s.bank, s.position, s.crc)
+    (words(a) == 6) & is_progress(a, p) & starts_with(rest(a, 3), s.bank, s.position, s.crc)
 }
 
 pub fn check_start(l: &[u8], region: &[u8]) -> bool {
@@ -181,19 +192,19 @@ pub fn check_turn(l: &[u8], region: &[u8]) -> bool {
 
 // Whether an answer is the verdict of a key match, without a refusal.
 fn is_same(a: &[u8], same: u32) -> bool {
-    (words(a) == 2) & is(a, 0, 0) & is(a, 1, same)
+    (words(a) == 2) & is_number(a, 0, 0) & is_number(a, 1, same)
 }
 
 fn matches(l: &[u8], region: &[u8], identity: &[u8], texts: &[u8]) -> bool {
-    let mut list = [0u32; 256];
-    let n = lengths(l, 4, &mut list);
+    let mut list = [0u32; LENGTHS];
+    let n = lengths_of(l, 4, &mut list);
     let a = rest(l, 5);
     let x = snapshot::keymatch::same_key(
         region,
         number32(l, word(l, 1)),
         identity,
         texts,
-        first_lengths(&list, n),
+        lengths::first(&list, n),
     );
     match x {
         SameKey::Same => is_same(a, 1),
@@ -209,5 +220,5 @@ pub fn same_key(l: &[u8], region: &[u8]) -> bool {
     let mut b = io::buffer();
     let texts: &mut [u8] = &mut b;
     let m = unhex(l, word(l, 3), texts);
-    matches(l, region, first(identity, n), first(texts, m))
+    matches(l, region, part(identity, 0, n), part(texts, 0, m))
 }

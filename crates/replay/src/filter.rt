@@ -1,8 +1,7 @@
 // The lines on the filter, which is at the region's start, and on the bytes there.
-use crate::text::first;
 use crate::text::is_word;
 use crate::text::number32;
-use crate::text::place;
+use crate::text::offset;
 use crate::text::unhex;
 use crate::text::word;
 use base::slice::part;
@@ -31,7 +30,7 @@ pub fn insert(l: &[u8], region: &mut [u8]) -> bool {
     let mut space = io::buffer();
     let id: &mut [u8] = &mut space;
     let n = unhex(l, word(l, 2), id);
-    is_answer(l, insert_in(region, place(l, word(l, 1)), first(id, n)))
+    is_answer(l, insert_in(region, offset(l, word(l, 1)), part(id, 0, n)))
 }
 
 pub fn query(l: &[u8], region: &[u8]) -> bool {
@@ -40,7 +39,7 @@ pub fn query(l: &[u8], region: &[u8]) -> bool {
     let n = unhex(l, word(l, 2), id);
     is_answer(
         l,
-        bloom::query(first(region, place(l, word(l, 1))), first(id, n)),
+        bloom::query(part(region, 0, offset(l, word(l, 1))), part(id, 0, n)),
     )
 }
 
@@ -49,12 +48,12 @@ pub fn holds(l: &[u8], region: &[u8]) -> bool {
     let mut space = io::buffer();
     let want: &mut [u8] = &mut space;
     let n = unhex(l, word(l, 2), want);
-    let bytes = part(region, place(l, word(l, 1)), n);
-    (0 < n) & is_word(l, 2, bytes, bytes.len())
+    let bytes = part(region, offset(l, word(l, 1)), n);
+    (0 < n) & is_word(l, 2, bytes)
 }
 
 // Whether the CRC-32 of the region's bytes at an offset is the line's.
 pub fn sum(l: &[u8], region: &[u8]) -> bool {
-    let bytes = part(region, place(l, word(l, 1)), place(l, word(l, 2)));
+    let bytes = part(region, offset(l, word(l, 1)), offset(l, word(l, 2)));
     leaf::crc::crc32(0, bytes) == number32(l, word(l, 3))
 }

@@ -4,40 +4,51 @@ mod banks;
 mod filter;
 mod image;
 mod keys;
+mod kinds;
 mod line;
 mod rows;
 mod text;
 
-ghost use Prim.Native.Nat.{_<_};
 ghost use mathlib.Core.Path.{_≡_};
 ghost use lib.ListN.{length};
+use crate::kinds::KINDS;
+use crate::kinds::Kind;
 use libc::STDOUT_FILENO;
+use program::output::long_field;
+use program::output::say;
+use program::text::between;
+use program::text::find;
 use region::REGION_SIZE;
 
-// How many lines of each kind there were, and for how many the answers were the same.
+// The list is shorter.
+const LIST_SIZE: usize = 524288;
+
+// How many lines of each kind there were, and for how many the answers were the same; and of all kinds.
 struct Counts {
-    seen: [u64; 28],
-    same: [u64; 28],
+    seen: [u64; KINDS],
+    same: [u64; KINDS],
+    all_seen: u64,
+    all_same: u64,
 }
 
-fn counted(c: Counts, kind: usize, same: bool) -> Counts
-    requires { ⌜ kind < 28 ⌝ }
-{
+fn counted(c: Counts, k: Kind, same: bool) -> Counts {
     let more: u64 = if same { 1 } else { 0 };
+    let i = kinds::index(k);
     let mut r = c;
-    r.seen[kind] = std::num::wrapping_add_u64(c.seen[kind], 1);
-    r.same[kind] = std::num::wrapping_add_u64(c.same[kind], more);
+    r.seen[i] = std::num::wrapping_add_u64(c.seen[i], 1);
+    r.same[i] = std::num::wrapping_add_u64(c.same[i], more);
+    r.all_seen = std::num::wrapping_add_u64(c.all_seen, 1);
+    r.all_same = std::num::wrapping_add_u64(c.all_same, more);
     r
 }
 
 // Says which line differs.
-fn tell(same: bool, n: u64) {
+fn say_different(same: bool, n: u64) {
     if same {
         return;
     }
-    io::write_all(STDOUT_FILENO, b"line ");
-    io::print_decimal(STDOUT_FILENO, n);
-    io::write_all(STDOUT_FILENO, b" differs\n");
+    long_field(STDOUT_FILENO, b"line ", n);
+    say(b" differs\n");
 }
 
 // Replays line n; comments, empty lines and those that build the region aren't counted.
@@ -46,105 +57,98 @@ fn step(c: Counts, n: u64, l: &[u8], memory: &mut [u8]) -> Counts {
     if a == b'#' || l.len() == 0 {
         return c;
     }
-    if image::built(l, memory) {
+    if image::build(l, memory) {
         return c;
     }
-    let k = line::kind(l);
-    let same = line::alike(k, l, memory);
-    tell(same, n);
+    let k = kinds::kind_of(l);
+    let same = line::is_alike(k, l, memory);
+    say_different(same, n);
     counted(c, k, same)
-}
-
-// The bytes from one offset to another.
-fn between(s: &[u8], from: usize, to: usize) -> &[u8] {
-    if from <= to {
-        if to <= s.len() {
-            return &s[from..to];
-        }
-    }
-    &s[..0]
 }
 
 // Replays all lines.
 fn replayed(s: &[u8], memory: &mut [u8]) -> Counts {
     let mut c = Counts {
-        seen: [0; 28],
-        same: [0; 28],
+        seen: [0; KINDS],
+        same: [0; KINDS],
+        all_seen: 0,
+        all_same: 0,
     };
     let mut n: u64 = 0;
     let mut i = 0;
     while i < s.len() {
-        let end = text::find(s, i, b'\n');
+        let end = find(s, i, b'\n');
         n = std::num::wrapping_add_u64(n, 1);
         c = step(c, n, between(s, i, end), memory);
-        i = text::past(end, i);
+        i = text::index_after(end, i);
     }
     c
 }
 
-fn say(name: &[u8], seen: u64, same: u64) {
-    io::write_all(STDOUT_FILENO, name);
-    io::write_all(STDOUT_FILENO, b": ");
-    io::print_decimal(STDOUT_FILENO, seen);
-    io::write_all(STDOUT_FILENO, b" answers, ");
-    io::print_decimal(STDOUT_FILENO, same);
-    io::write_all(STDOUT_FILENO, b" alike\n");
+fn report_line(name: &[u8], seen: u64, same: u64) {
+    say(name);
+    long_field(STDOUT_FILENO, b": ", seen);
+    long_field(STDOUT_FILENO, b" answers, ", same);
+    say(b" alike\n");
 }
 
-fn name(kind: usize) -> [u8; 11] {
-    match kind {
-        0 => *b"valid_date ",
-        1 => *b"Date::new  ",
-        2 => *b"newer      ",
-        3 => *b"next       ",
-        4 => *b"crc32      ",
-        5 => *b"get        ",
-        6 => *b"put        ",
-        7 => *b"get_time   ",
-        8 => *b"put_time   ",
-        9 => *b"rotate13   ",
-        10 => *b"key        ",
-        11 => *b"same_key   ",
-        12 => *b"validate   ",
-        13 => *b"header     ",
-        14 => *b"load       ",
-        15 => *b"source     ",
-        16 => *b"fresh      ",
-        17 => *b"check_start",
-        18 => *b"check_turn ",
-        19 => *b"bank's key ",
-        20 => *b"names_line ",
-        21 => *b"row        ",
-        22 => *b"read_row   ",
-        23 => *b"insert     ",
-        24 => *b"query      ",
-        25 => *b"bytes      ",
-        26 => *b"their CRC  ",
-        _ => *b"unknown    ",
-    }
+fn report_kind(c: Counts, k: Kind) {
+    let n = kinds::name(k);
+    let i = kinds::index(k);
+    let seen = c.seen[i];
+    let same = c.same[i];
+    report_line(&n, seen, same);
+}
+
+fn report_leaves(c: Counts) {
+    report_kind(c, Kind::ValidDate);
+    report_kind(c, Kind::NewDate);
+    report_kind(c, Kind::Newer);
+    report_kind(c, Kind::Next);
+    report_kind(c, Kind::Crc);
+    report_kind(c, Kind::Get);
+    report_kind(c, Kind::Put);
+    report_kind(c, Kind::GetTime);
+    report_kind(c, Kind::PutTime);
+    report_kind(c, Kind::Rotate);
+    report_kind(c, Kind::Key);
+    report_kind(c, Kind::SameKey);
+}
+
+fn report_banks(c: Counts) {
+    report_kind(c, Kind::Validate);
+    report_kind(c, Kind::Header);
+    report_kind(c, Kind::Load);
+    report_kind(c, Kind::Source);
+    report_kind(c, Kind::Fresh);
+    report_kind(c, Kind::CheckStart);
+    report_kind(c, Kind::CheckTurn);
+    report_kind(c, Kind::BankKey);
+}
+
+fn report_rows(c: Counts) {
+    report_kind(c, Kind::NamesLine);
+    report_kind(c, Kind::Row);
+    report_kind(c, Kind::ReadRow);
+    report_kind(c, Kind::Insert);
+    report_kind(c, Kind::Query);
+    report_kind(c, Kind::Bytes);
+    report_kind(c, Kind::Sum);
+    report_kind(c, Kind::Unknown);
 }
 
 fn report(c: Counts) {
-    let mut seen: u64 = 0;
-    let mut same: u64 = 0;
-    let mut k = 0;
-    while k < 28 {
-        let n = name(k);
-        let a = c.seen[k];
-        let b = c.same[k];
-        say(&n, a, b);
-        seen = std::num::wrapping_add_u64(seen, a);
-        same = std::num::wrapping_add_u64(same, b);
-        k += 1;
-    }
-    say(b"all        ", seen, same);
+    report_leaves(c);
+    report_banks(c);
+    report_rows(c);
+    report_line(b"all        ", c.all_seen, c.all_same);
 }
 
-// A buffer of zeros for the list, which is shorter.
-fn room() -> [u8; 524288]
+// A buffer of zeros for the list.
+fn list_buffer() -> [u8; LIST_SIZE]
     ensures { λ r. ⌜ 524288 ≡ length r ⌝ }
 {
-    [0; 524288]
+    [0; LIST_SIZE]
 }
 
 fn replay(s: &[u8], memory: &mut [u8; REGION_SIZE]) {
@@ -158,9 +162,9 @@ fn main() {
         os::fail(path);
         return;
     }
-    let mut space = room();
-    let n = io::read_full(fd, &mut space);
+    let mut list = list_buffer();
+    let n = io::read_full(fd, &mut list);
     libc::close(fd);
-    let mut memory = image::room();
-    replay(text::first(&space, n), &mut memory);
+    let mut memory = program::image::buffer();
+    replay(base::slice::part(&list, 0, n), &mut memory);
 }

@@ -1,32 +1,38 @@
 // The lines on rows. Lengths and ends are 16-bit numbers in hexadecimal.
-use crate::keys::first_lengths;
-use crate::text::first;
 use crate::text::is_word;
 use crate::text::number32;
-use crate::text::place;
+use crate::text::offset;
 use crate::text::unhex;
 use crate::text::word;
 use crate::text::words;
 use base::number::u8_to_u32;
 use base::slice::part;
 use leaf::bytes::get8;
+use program::lengths;
 use row::RowAnswer;
 use rowread::ReadAnswer;
 use std::num::wrapping_add_usize;
+
+// More values than a row has.
+const VALUES: usize = 16;
+// A 16-bit number has two bytes.
+const PAIR: usize = 2;
+
+const BYTES: u32 = 256;
 
 pub fn names_line(l: &[u8]) -> bool {
     let mut space = io::buffer();
     let out: &mut [u8] = &mut space;
     let a = row::names_line(number32(l, word(l, 1)), out);
     match a {
-        RowAnswer::Written(n) => is_word(l, 2, out, n),
+        RowAnswer::Written(n) => is_word(l, 2, part(out, 0, n)),
         RowAnswer::Refused(_) => false,
     }
 }
 
 // The 16-bit number at an offset.
 fn pair(bytes: &[u8], at: usize) -> u32 {
-    u8_to_u32(get8(bytes, at)) + u8_to_u32(get8(bytes, wrapping_add_usize(at, 1))) * 256
+    u8_to_u32(get8(bytes, at)) + u8_to_u32(get8(bytes, wrapping_add_usize(at, 1))) * BYTES
 }
 
 // The 16-bit numbers of bytes, 0 past the end.
@@ -43,18 +49,23 @@ fn numbers(l: &[u8], k: u8, out: &mut [u32]) -> usize {
     let mut space = io::buffer();
     let bytes: &mut [u8] = &mut space;
     let n = unhex(l, word(l, k), bytes);
-    pairs(first(bytes, n), out);
-    n / 2
+    pairs(part(bytes, 0, n), out);
+    n / PAIR
 }
 
 fn row_of(l: &[u8], texts: &[u8]) -> bool {
-    let mut list = [0u32; 16];
+    let mut list = [0u32; VALUES];
     let n = numbers(l, 3, &mut list);
     let mut space = io::large_buffer();
     let out: &mut [u8] = &mut space;
-    let a = row::row(number32(l, word(l, 1)), texts, first_lengths(&list, n), out);
+    let a = row::row(
+        number32(l, word(l, 1)),
+        texts,
+        lengths::first(&list, n),
+        out,
+    );
     match a {
-        RowAnswer::Written(m) => is_word(l, 4, out, m),
+        RowAnswer::Written(m) => is_word(l, 4, part(out, 0, m)),
         RowAnswer::Refused(_) => false,
     }
 }
@@ -63,7 +74,7 @@ pub fn row(l: &[u8]) -> bool {
     let mut space = io::large_buffer();
     let texts: &mut [u8] = &mut space;
     let n = unhex(l, word(l, 2), texts);
-    row_of(l, first(texts, n))
+    row_of(l, part(texts, 0, n))
 }
 
 // Whether the first n ends are the 16-bit numbers of bytes.
@@ -86,22 +97,28 @@ fn is_ends(l: &[u8], ends: &[usize]) -> bool {
     let mut space = io::buffer();
     let bytes: &mut [u8] = &mut space;
     let n = unhex(l, word(l, 6), bytes);
-    (n / 2 == place(l, word(l, 3))) & same_ends(ends, bytes, n / 2)
+    (n / PAIR == offset(l, word(l, 3))) & same_ends(ends, bytes, n / PAIR)
 }
 
 // Reads a row of a table.
 fn read_in(l: &[u8], table: &[u8]) -> bool {
     let mut space = io::large_buffer();
     let out: &mut [u8] = &mut space;
-    let mut list = [0usize; 16];
+    let mut list = [0usize; VALUES];
     let ends: &mut [usize] = &mut list;
-    let a = rowread::read_row(table, place(l, word(l, 3)), place(l, word(l, 4)), out, ends);
+    let a = rowread::read_row(
+        table,
+        offset(l, word(l, 3)),
+        offset(l, word(l, 4)),
+        out,
+        ends,
+    );
     match a {
         ReadAnswer::Stored { next, size } => {
             (words(l) == 8)
-                & (next == place(l, word(l, 5)))
+                & (next == offset(l, word(l, 5)))
                 & is_ends(l, ends)
-                & is_word(l, 7, out, size)
+                & is_word(l, 7, part(out, 0, size))
         }
         ReadAnswer::End => (words(l) == 6) & (get8(l, word(l, 5)) == b'-'),
         ReadAnswer::Refused(_) => false,
@@ -110,5 +127,8 @@ fn read_in(l: &[u8], table: &[u8]) -> bool {
 
 // Reads a row of a table that is in the region.
 pub fn read_row(l: &[u8], region: &[u8]) -> bool {
-    read_in(l, part(region, place(l, word(l, 1)), place(l, word(l, 2))))
+    read_in(
+        l,
+        part(region, offset(l, word(l, 1)), offset(l, word(l, 2))),
+    )
 }

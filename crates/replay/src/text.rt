@@ -1,22 +1,29 @@
 // The words of a line, and the numbers and bytes in them.
 ghost use Prim.Native.Nat.{_<_};
 use base::slice::part;
+use base::slice::same_bytes;
 use leaf::bytes::get8;
+use program::number::low32;
+use program::number::signed as signed_of;
+use program::text::digit;
+use program::text::find;
 
-// The index of the first byte b from an index on, or the end.
-pub fn find(s: &[u8], from: usize, b: u8) -> usize {
-    let mut i = from;
-    while i < s.len() {
-        if s[i] == b {
-            return i;
-        }
-        i += 1;
-    }
-    s.len()
-}
+const TEN: u64 = 10;
+
+const LAST_DECIMAL: u64 = 9;
+// A tenth of what 64 bits hold.
+const MOST_BEFORE: u64 = 1844674407370955161;
+
+const HEX: u64 = 16;
+
+const LAST_HEX: u64 = 15;
+// A byte has two digits.
+const DIGITS: usize = 2;
+
+const HIGHEST: usize = 18446744073709551615;
 
 // Where the next word starts.
-pub fn after(s: &[u8], from: usize) -> usize {
+fn next_word(s: &[u8], from: usize) -> usize {
     let at = find(s, from, b' ');
     if at < s.len() { at + 1 } else { s.len() }
 }
@@ -26,7 +33,7 @@ pub fn word(s: &[u8], k: u8) -> usize {
     let mut at = 0;
     let mut j: u8 = 0;
     while j < k {
-        at = after(s, at);
+        at = next_word(s, at);
         j += 1;
     }
     at
@@ -43,7 +50,7 @@ pub fn words(s: &[u8]) -> usize {
     let mut at = 0;
     while at < s.len() {
         n = std::num::wrapping_add_usize(n, 1);
-        at = past(find(s, at, b' '), at);
+        at = index_after(find(s, at, b' '), at);
     }
     n
 }
@@ -60,33 +67,16 @@ pub fn starts(s: &[u8], word: &[u8]) -> bool {
     get8(s, word.len()) == b' '
 }
 
-fn digit(c: u8) -> u64 {
-    if c < b'0' {
-        return 255;
-    }
-    if c <= b'9' {
-        return (c - b'0') as u64;
-    }
-    if c < b'a' {
-        return 255;
-    }
-    if c <= b'f' {
-        (c - b'a') as u64 + 10
-    } else {
-        255
-    }
-}
-
 // The decimal number at an index.
 pub fn number(s: &[u8], from: usize) -> u64 {
     let mut v: u64 = 0;
     let mut i = from;
     while i < s.len() {
         let d = digit(s[i]);
-        if 9 < d {
+        if LAST_DECIMAL < d {
             return v;
         }
-        v = v % 1844674407370955161 * 10 + d;
+        v = v % MOST_BEFORE * TEN + d;
         i += 1;
     }
     v
@@ -94,40 +84,23 @@ pub fn number(s: &[u8], from: usize) -> u64 {
 
 // The decimal number at an index, in 32 bits.
 pub fn number32(s: &[u8], from: usize) -> u32 {
-    (number(s, from) % 4294967296) as u32
+    low32(number(s, from))
 }
 
 // The decimal number at an index, as an offset or a length.
-pub fn place(s: &[u8], from: usize) -> usize {
+pub fn offset(s: &[u8], from: usize) -> usize {
     number(s, from) as usize
-}
-
-// The first n bytes, or all.
-pub fn first(s: &[u8], n: usize) -> &[u8] {
-    if n < s.len() {
-        return &s[..n];
-    }
-    s
-}
-
-// 64 bits read as a signed number.
-fn from_bits(x: u64) -> i64 {
-    if x < 9223372036854775808 {
-        x as i64
-    } else {
-        -1 - ((18446744073709551615 - x) as i64)
-    }
 }
 
 // The signed number at an index.
 pub fn signed(s: &[u8], from: usize) -> i64 {
     if get8(s, from) == b'-' {
-        return from_bits(std::num::wrapping_sub_u64(
+        return signed_of(std::num::wrapping_sub_u64(
             0,
             number(s, std::num::wrapping_add_usize(from, 1)),
         ));
     }
-    from_bits(number(s, from))
+    signed_of(number(s, from))
 }
 
 // The hexadecimal bytes at an index, into out; gives how many they are.
@@ -137,47 +110,32 @@ pub fn unhex(s: &[u8], from: usize, out: &mut [u8]) -> usize {
     while n < out.len() {
         let high = digit(get8(s, at));
         let low = digit(get8(s, std::num::wrapping_add_usize(at, 1)));
-        if 15 < high || 15 < low {
+        if LAST_HEX < high || LAST_HEX < low {
             return n;
         }
-        out[n] = (high % 16 * 16 + low % 16) as u8;
+        out[n] = (high % HEX * HEX + low % HEX) as u8;
         n += 1;
-        at = std::num::wrapping_add_usize(at, 2);
+        at = std::num::wrapping_add_usize(at, DIGITS);
     }
     n
 }
 
-// Whether the first n bytes of a are the first m of b, and n is m.
-pub fn same(a: &[u8], n: usize, b: &[u8], m: usize) -> bool {
-    if n != m {
-        return false;
-    }
-    let mut i = 0;
-    while i < n {
-        if get8(a, i) != get8(b, i) {
-            return false;
-        }
-        i += 1;
-    }
-    true
-}
-
-// Whether word k is the first n of these bytes in hexadecimal.
-pub fn is_word(l: &[u8], k: u8, bytes: &[u8], n: usize) -> bool {
+// Whether word k is these bytes in hexadecimal.
+pub fn is_word(l: &[u8], k: u8, bytes: &[u8]) -> bool {
     let mut space = io::large_buffer();
     let want: &mut [u8] = &mut space;
     let m = unhex(l, word(l, k), want);
-    same(bytes, n, want, m)
+    same_bytes(bytes, part(want, 0, m))
 }
 
 // The index after an end, and in any case after i.
-pub fn past(end: usize, i: usize) -> usize
+pub fn index_after(end: usize, i: usize) -> usize
     ensures { λ r. ⌜ (i < 18446744073709551615 → i < r) ⌝ }
 {
     if i <= end {
-        if end < 18446744073709551615 {
+        if end < HIGHEST {
             return end + 1;
         }
     }
-    if i < 18446744073709551615 { i + 1 } else { i }
+    if i < HIGHEST { i + 1 } else { i }
 }

@@ -1,4 +1,4 @@
--- Only safety: region, copy and data keep their lengths; each turn leaves one update fewer.
+-- Only safety: region, data and scratch keep their lengths, and each turn leaves one update fewer.
 use borrow.Author.Needs.{needs}
 use mathlib.Core.Path.{_≡_}
 use Prim.Native.Nat.{_-_}
@@ -7,16 +7,19 @@ use Rattle.powercut.proofs.updates.Statement.{statement}
 use Rattle.powercut.proofs.updates.Tie as tie
 
 abbrev Inv-loop : tie.InvT-loop
-Inv-loop image region₀ again₀ data₀ o t₀ k₀ region again «data» t k = (length region ≡ length region₀) × (length again ≡ length again₀) × (length «data» ≡ length data₀)
+Inv-loop image region₀ data₀ scratch₀ o t₀ k₀ region «data» scratch t k = (length region ≡ length region₀) × (length «data» ≡ length data₀) × (length scratch ≡ length scratch₀)
 
 abbrev μ-loop : tie.MeasureT-loop
-μ-loop image region₀ again₀ data₀ o t₀ k₀ region again «data» t k = 24 - k
+μ-loop image region₀ data₀ scratch₀ o t₀ k₀ region «data» scratch t k = 24 - k
 
 loop-holds : tie.Need-loop-holds Inv-loop μ-loop
 loop-holds c = search needs
 
-if-chosen-requires : tie.Need-if-chosen-requires Inv-loop μ-loop
-if-chosen-requires c κs = search needs
+combination-at-requires : tie.Need-combination-at-requires Inv-loop μ-loop
+combination-at-requires c κs = search needs
+
+if-asked-requires : tie.Need-if-asked-requires Inv-loop μ-loop
+if-asked-requires c κs = search needs
 
 add-k : tie.Need-add-k Inv-loop μ-loop
 add-k c = search needs
@@ -46,7 +49,8 @@ updates-spec =
     Inv-loop
     μ-loop
     loop-holds
-    if-chosen-requires
+    combination-at-requires
+    if-asked-requires
     add-k
     loop-less
     loop-again

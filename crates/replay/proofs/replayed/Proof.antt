@@ -28,11 +28,11 @@ between-requires c κs = search needs
 step-requires : tie.Need-step-requires Inv-loop μ-loop
 step-requires c κs = search needs
 
-past-requires : tie.Need-past-requires Inv-loop μ-loop
-past-requires c κs = search needs
+index-after-requires : tie.Need-index-after-requires Inv-loop μ-loop
+index-after-requires c κs = search needs
 
 loop-less : tie.Need-loop-less Inv-loop μ-loop
-loop-less c = omega (arith, c .past .ensures (omega arith))
+loop-less c = omega (arith, c .index-after .ensures (omega arith))
 
 loop-again : tie.Need-loop-again Inv-loop μ-loop
 loop-again c = search needs
@@ -54,7 +54,7 @@ replayed-spec =
     wrapping-add-u64-requires
     between-requires
     step-requires
-    past-requires
+    index-after-requires
     loop-less
     loop-again
     same-length

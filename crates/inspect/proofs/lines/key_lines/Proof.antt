@@ -15,11 +15,11 @@ abbrev μ-loop : tie.MeasureT-loop
 loop-holds : tie.Need-loop-holds Inv-loop μ-loop
 loop-holds c = search needs
 
-slice-aggregate-place-field : tie.Need-slice-aggregate-place-field Inv-loop μ-loop
-slice-aggregate-place-field c = search needs
+slice-aggregate-offset-field : tie.Need-slice-aggregate-offset-field Inv-loop μ-loop
+slice-aggregate-offset-field c = search needs
 
-place-field-requires : tie.Need-place-field-requires Inv-loop μ-loop
-place-field-requires c κs = search needs
+offset-field-requires : tie.Need-offset-field-requires Inv-loop μ-loop
+offset-field-requires c κs = search needs
 
 slice-aggregate-say : tie.Need-slice-aggregate-say Inv-loop μ-loop
 slice-aggregate-say c = search needs
@@ -58,8 +58,8 @@ key-lines-spec =
     Inv-loop
     μ-loop
     loop-holds
-    slice-aggregate-place-field
-    place-field-requires
+    slice-aggregate-offset-field
+    offset-field-requires
     slice-aggregate-say
     say-requires
     part-requires

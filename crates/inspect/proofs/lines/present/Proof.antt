@@ -19,8 +19,8 @@ say-requires c κs = search needs
 loop-holds : tie.Need-loop-holds Inv-loop μ-loop
 loop-holds c = search needs
 
-table-requires : tie.Need-table-requires Inv-loop μ-loop
-table-requires c κs = search needs
+say-table-requires : tie.Need-say-table-requires Inv-loop μ-loop
+say-table-requires c κs = search needs
 
 add-t : tie.Need-add-t Inv-loop μ-loop
 add-t c = search needs
@@ -43,7 +43,7 @@ present-spec =
     slice-aggregate-say
     say-requires
     loop-holds
-    table-requires
+    say-table-requires
     add-t
     loop-less
     loop-again

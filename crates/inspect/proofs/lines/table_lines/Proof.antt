@@ -13,6 +13,9 @@ abbrev μ-loop : tie.MeasureT-loop
 loop-holds : tie.Need-loop-holds Inv-loop μ-loop
 loop-holds c = search needs
 
+cast-k : tie.Need-cast-k Inv-loop μ-loop
+cast-k c = search needs
+
 mul-b : tie.Need-mul-b Inv-loop μ-loop
 mul-b c = search needs
 
@@ -62,6 +65,7 @@ table-lines-spec =
     Inv-loop
     μ-loop
     loop-holds
+    cast-k
     mul-b
     array-copy-out-b
     mul-crc

@@ -6,19 +6,13 @@ use Rattle.inspect.proofs.listing.row_lines.Statement.{statement}
 use Rattle.inspect.proofs.listing.row_lines.Tie as tie
 
 abbrev Inv-loop : tie.InvT-loop
-Inv-loop region number source t values₀ line₀ place₀ turns₀ values line place turns = (length values ≡ length values₀) × (length line ≡ length line₀)
+Inv-loop region bank source table values₀ line₀ offset₀ rows₀ values line offset rows = (length values ≡ length values₀) × (length line ≡ length line₀)
 
 abbrev μ-loop : tie.MeasureT-loop
-μ-loop region number source t values₀ line₀ place₀ turns₀ values line place turns = turns
-
-value-room-requires : tie.Need-value-room-requires Inv-loop μ-loop
-value-room-requires c κs = search needs
+μ-loop region bank source table values₀ line₀ offset₀ rows₀ values line offset rows = rows
 
 slice-aggregate-values : tie.Need-slice-aggregate-values Inv-loop μ-loop
 slice-aggregate-values c = search needs
-
-line-room-requires : tie.Need-line-room-requires Inv-loop μ-loop
-line-room-requires c κs = search needs
 
 slice-aggregate-line : tie.Need-slice-aggregate-line Inv-loop μ-loop
 slice-aggregate-line c = search needs
@@ -32,8 +26,8 @@ row-line-requires c κs = search needs
 returns : tie.Need-returns Inv-loop μ-loop
 returns c = search needs
 
-sub-turns : tie.Need-sub-turns Inv-loop μ-loop
-sub-turns c = search needs
+sub-rows : tie.Need-sub-rows Inv-loop μ-loop
+sub-rows c = search needs
 
 loop-less : tie.Need-loop-less Inv-loop μ-loop
 loop-less c = search needs
@@ -50,14 +44,12 @@ row-lines-spec =
     (tie.spec
     Inv-loop
     μ-loop
-    value-room-requires
     slice-aggregate-values
-    line-room-requires
     slice-aggregate-line
     loop-holds
     row-line-requires
     returns
-    sub-turns
+    sub-rows
     loop-less
     loop-again
     returns-2)

@@ -27,8 +27,8 @@ spell-value-requires c κs = search needs
 add-k : tie.Need-add-k Inv-loop μ-loop
 add-k c = search needs
 
-behind-requires : tie.Need-behind-requires Inv-loop μ-loop
-behind-requires c κs = search needs
+delimiter-requires : tie.Need-delimiter-requires Inv-loop μ-loop
+delimiter-requires c κs = search needs
 
 put8-requires : tie.Need-put8-requires Inv-loop μ-loop
 put8-requires c κs = search needs
@@ -59,7 +59,7 @@ spell-row-spec =
     between-requires
     spell-value-requires
     add-k
-    behind-requires
+    delimiter-requires
     put8-requires
     wrapping-add-usize-requires
     loop-less

@@ -6,10 +6,10 @@ use Rattle.inspect.proofs.options.read.Statement.{statement}
 use Rattle.inspect.proofs.options.read.Tie as tie
 
 abbrev Inv-loop : tie.InvT-loop
-Inv-loop space₀ texts₀ lengths₀ o₀ left₀ space texts lengths o left = (length space ≡ length space₀) × (length texts ≡ length texts₀) × (length lengths ≡ length lengths₀)
+Inv-loop buffer₀ texts₀ lengths₀ o₀ left₀ buffer texts lengths o left = (length buffer ≡ length buffer₀) × (length texts ≡ length texts₀) × (length lengths ≡ length lengths₀)
 
 abbrev μ-loop : tie.MeasureT-loop
-μ-loop space₀ texts₀ lengths₀ o₀ left₀ space texts lengths o left = left
+μ-loop buffer₀ texts₀ lengths₀ o₀ left₀ buffer texts lengths o left = left
 
 none-requires : tie.Need-none-requires Inv-loop μ-loop
 none-requires c κs = search needs
@@ -20,11 +20,11 @@ arg-count-requires c κs = search needs
 loop-holds : tie.Need-loop-holds Inv-loop μ-loop
 loop-holds c = search needs
 
-going-requires : tie.Need-going-requires Inv-loop μ-loop
-going-requires c κs = search needs
+has-more-requires : tie.Need-has-more-requires Inv-loop μ-loop
+has-more-requires c κs = search needs
 
-whole-requires : tie.Need-whole-requires Inv-loop μ-loop
-whole-requires c κs = search needs
+finished-requires : tie.Need-finished-requires Inv-loop μ-loop
+finished-requires c κs = search needs
 
 same-length : tie.Need-same-length Inv-loop μ-loop
 same-length c = search needs
@@ -50,8 +50,8 @@ loop-less c = search needs
 loop-again : tie.Need-loop-again Inv-loop μ-loop
 loop-again c = search needs
 
-whole-requires-2 : tie.Need-whole-requires-2 Inv-loop μ-loop
-whole-requires-2 c κs = search needs
+finished-requires-2 : tie.Need-finished-requires-2 Inv-loop μ-loop
+finished-requires-2 c κs = search needs
 
 same-length-4 : tie.Need-same-length-4 Inv-loop μ-loop
 same-length-4 c = search needs
@@ -74,8 +74,8 @@ read-spec =
     none-requires
     arg-count-requires
     loop-holds
-    going-requires
-    whole-requires
+    has-more-requires
+    finished-requires
     same-length
     same-length-2
     same-length-3
@@ -84,7 +84,7 @@ read-spec =
     sub-left
     loop-less
     loop-again
-    whole-requires-2
+    finished-requires-2
     same-length-4
     same-length-5
     same-length-6

@@ -33,23 +33,11 @@ get8-requires c κs = search needs
 put8-requires-2 : tie.Need-put8-requires-2 Inv-loop μ-loop
 put8-requires-2 c κs = search needs
 
-add-put8 : tie.Need-add-put8 Inv-loop μ-loop
-add-put8 c = search needs
+add-put-hex : tie.Need-add-put-hex Inv-loop μ-loop
+add-put-hex c = search needs
 
-hex-digit-requires : tie.Need-hex-digit-requires Inv-loop μ-loop
-hex-digit-requires c κs = search needs
-
-put8-requires-3 : tie.Need-put8-requires-3 Inv-loop μ-loop
-put8-requires-3 c κs = search needs
-
-add-put8-2 : tie.Need-add-put8-2 Inv-loop μ-loop
-add-put8-2 c = search needs
-
-hex-digit-requires-2 : tie.Need-hex-digit-requires-2 Inv-loop μ-loop
-hex-digit-requires-2 c κs = search needs
-
-put8-requires-4 : tie.Need-put8-requires-4 Inv-loop μ-loop
-put8-requires-4 c κs = search needs
+put-hex-requires : tie.Need-put-hex-requires Inv-loop μ-loop
+put-hex-requires c κs = search needs
 
 add-at : tie.Need-add-at Inv-loop μ-loop
 add-at c = search needs
@@ -63,8 +51,8 @@ loop-less c = search needs
 loop-again : tie.Need-loop-again Inv-loop μ-loop
 loop-again c = search needs
 
-put8-requires-5 : tie.Need-put8-requires-5 Inv-loop μ-loop
-put8-requires-5 c κs = search needs
+put8-requires-3 : tie.Need-put8-requires-3 Inv-loop μ-loop
+put8-requires-3 c κs = search needs
 
 add-result-2 : tie.Need-add-result-2 Inv-loop μ-loop
 add-result-2 c = search needs
@@ -88,17 +76,13 @@ spell-spec =
     returns
     get8-requires
     put8-requires-2
-    add-put8
-    hex-digit-requires
-    put8-requires-3
-    add-put8-2
-    hex-digit-requires-2
-    put8-requires-4
+    add-put-hex
+    put-hex-requires
     add-at
     add-i
     loop-less
     loop-again
-    put8-requires-5
+    put8-requires-3
     add-result-2
     same-length-2
     returns-2)

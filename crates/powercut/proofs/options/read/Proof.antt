@@ -6,10 +6,10 @@ use Rattle.powercut.proofs.options.read.Statement.{statement}
 use Rattle.powercut.proofs.options.read.Tie as tie
 
 abbrev Inv-loop : tie.InvT-loop
-Inv-loop space₀ o₀ left₀ space o left = length space ≡ length space₀
+Inv-loop buffer₀ o₀ left₀ buffer o left = length buffer ≡ length buffer₀
 
 abbrev μ-loop : tie.MeasureT-loop
-μ-loop space₀ o₀ left₀ space o left = left
+μ-loop buffer₀ o₀ left₀ buffer o left = left
 
 none-requires : tie.Need-none-requires Inv-loop μ-loop
 none-requires c κs = search needs
@@ -20,8 +20,8 @@ arg-count-requires c κs = search needs
 loop-holds : tie.Need-loop-holds Inv-loop μ-loop
 loop-holds c = search needs
 
-going-requires : tie.Need-going-requires Inv-loop μ-loop
-going-requires c κs = search needs
+has-more-requires : tie.Need-has-more-requires Inv-loop μ-loop
+has-more-requires c κs = search needs
 
 same-length : tie.Need-same-length Inv-loop μ-loop
 same-length c = search needs
@@ -56,7 +56,7 @@ read-spec =
     none-requires
     arg-count-requires
     loop-holds
-    going-requires
+    has-more-requires
     same-length
     returns
     step-requires

@@ -1,4 +1,4 @@
--- Only safety: region, copy and marks keep their lengths; each turn leaves one byte of the operation fewer.
+-- Only safety and an end: region and scratch keep their lengths, and each turn does one byte more.
 use borrow.Author.Needs.{needs}
 use mathlib.Core.Path.{_≡_}
 use Prim.Native.Nat.{_-_}
@@ -7,10 +7,10 @@ use Rattle.powercut.proofs.trial.bytes.Statement.{statement}
 use Rattle.powercut.proofs.trial.bytes.Tie as tie
 
 abbrev Inv-loop : tie.InvT-loop
-Inv-loop s region₀ left again₀ «data» marks₀ p c₀ j₀ region again marks c j = (length region ≡ length region₀) × (length again ≡ length again₀) × (length marks ≡ length marks₀)
+Inv-loop s p region₀ «data» scratch₀ c₀ done₀ region scratch c done = (length region ≡ length region₀) × (length scratch ≡ length scratch₀)
 
 abbrev μ-loop : tie.MeasureT-loop
-μ-loop s region₀ left again₀ «data» marks₀ p c₀ j₀ region again marks c j = s .size - j
+μ-loop s p region₀ «data» scratch₀ c₀ done₀ region scratch c done = s .size - done
 
 loop-holds : tie.Need-loop-holds Inv-loop μ-loop
 loop-holds c = search needs
@@ -21,14 +21,17 @@ wrapping-add-usize-requires c κs = search needs
 get8-requires : tie.Need-get8-requires Inv-loop μ-loop
 get8-requires c κs = search needs
 
+wrapping-add-usize-requires-2 : tie.Need-wrapping-add-usize-requires-2 Inv-loop μ-loop
+wrapping-add-usize-requires-2 c κs = search needs
+
 put8-requires : tie.Need-put8-requires Inv-loop μ-loop
 put8-requires c κs = search needs
 
-add-j : tie.Need-add-j Inv-loop μ-loop
-add-j c = search needs
+add-done : tie.Need-add-done Inv-loop μ-loop
+add-done c = search needs
 
-at-byte-requires : tie.Need-at-byte-requires Inv-loop μ-loop
-at-byte-requires c κs = search needs
+after-byte-requires : tie.Need-after-byte-requires Inv-loop μ-loop
+after-byte-requires c κs = search needs
 
 loop-less : tie.Need-loop-less Inv-loop μ-loop
 loop-less c = search needs
@@ -42,9 +45,6 @@ same-length c = search needs
 same-length-2 : tie.Need-same-length-2 Inv-loop μ-loop
 same-length-2 c = search needs
 
-same-length-3 : tie.Need-same-length-3 Inv-loop μ-loop
-same-length-3 c = search needs
-
 returns : tie.Need-returns Inv-loop μ-loop
 returns c = search needs
 
@@ -57,12 +57,12 @@ bytes-spec =
     loop-holds
     wrapping-add-usize-requires
     get8-requires
+    wrapping-add-usize-requires-2
     put8-requires
-    add-j
-    at-byte-requires
+    add-done
+    after-byte-requires
     loop-less
     loop-again
     same-length
     same-length-2
-    same-length-3
     returns)

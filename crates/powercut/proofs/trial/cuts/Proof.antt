@@ -1,4 +1,4 @@
--- Only safety and an end: region, copy and marks keep their lengths, and the number of turns goes down.
+-- Only safety and an end: region and scratch keep their lengths, and the number of calls goes down.
 use borrow.Author.Needs.{needs}
 use mathlib.Core.Path.{_≡_}
 use lib.ListN.{length}
@@ -6,10 +6,10 @@ use Rattle.powercut.proofs.trial.cuts.Statement.{statement}
 use Rattle.powercut.proofs.trial.cuts.Tie as tie
 
 abbrev Inv-loop : tie.InvT-loop
-Inv-loop region₀ before again₀ «data» marks₀ p t₀ turns₀ region again marks t turns = (length region ≡ length region₀) × (length again ≡ length again₀) × (length marks ≡ length marks₀)
+Inv-loop p region₀ before «data» scratch₀ t₀ calls₀ region scratch t calls = (length region ≡ length region₀) × (length scratch ≡ length scratch₀)
 
 abbrev μ-loop : tie.MeasureT-loop
-μ-loop region₀ before again₀ «data» marks₀ p t₀ turns₀ region again marks t turns = turns
+μ-loop p region₀ before «data» scratch₀ t₀ calls₀ region scratch t calls = calls
 
 begun-requires : tie.Need-begun-requires Inv-loop μ-loop
 begun-requires c κs = search needs
@@ -26,17 +26,14 @@ same-length c = search needs
 same-length-2 : tie.Need-same-length-2 Inv-loop μ-loop
 same-length-2 c = search needs
 
-same-length-3 : tie.Need-same-length-3 Inv-loop μ-loop
-same-length-3 c = search needs
-
 returns : tie.Need-returns Inv-loop μ-loop
 returns c = search needs
 
 turn-requires : tie.Need-turn-requires Inv-loop μ-loop
 turn-requires c κs = search needs
 
-sub-turns : tie.Need-sub-turns Inv-loop μ-loop
-sub-turns c = search needs
+sub-calls : tie.Need-sub-calls Inv-loop μ-loop
+sub-calls c = search needs
 
 loop-less : tie.Need-loop-less Inv-loop μ-loop
 loop-less c = search needs
@@ -44,14 +41,11 @@ loop-less c = search needs
 loop-again : tie.Need-loop-again Inv-loop μ-loop
 loop-again c = search needs
 
+same-length-3 : tie.Need-same-length-3 Inv-loop μ-loop
+same-length-3 c = search needs
+
 same-length-4 : tie.Need-same-length-4 Inv-loop μ-loop
 same-length-4 c = search needs
-
-same-length-5 : tie.Need-same-length-5 Inv-loop μ-loop
-same-length-5 c = search needs
-
-same-length-6 : tie.Need-same-length-6 Inv-loop μ-loop
-same-length-6 c = search needs
 
 returns-2 : tie.Need-returns-2 Inv-loop μ-loop
 returns-2 c = search needs
@@ -67,13 +61,11 @@ cuts-spec =
     ended-requires
     same-length
     same-length-2
-    same-length-3
     returns
     turn-requires
-    sub-turns
+    sub-calls
     loop-less
     loop-again
+    same-length-3
     same-length-4
-    same-length-5
-    same-length-6
     returns-2)

@@ -6,10 +6,10 @@ use Rattle.powercut.proofs.update.run.Statement.{statement}
 use Rattle.powercut.proofs.update.run.Tie as tie
 
 abbrev Inv-loop : tie.InvT-loop
-Inv-loop region₀ «data» operations u₀ turns₀ region u turns = length region ≡ length region₀
+Inv-loop region₀ «data» operations u₀ calls₀ region u calls = length region ≡ length region₀
 
 abbrev μ-loop : tie.MeasureT-loop
-μ-loop region₀ «data» operations u₀ turns₀ region u turns = turns
+μ-loop region₀ «data» operations u₀ calls₀ region u calls = calls
 
 loop-holds : tie.Need-loop-holds Inv-loop μ-loop
 loop-holds c = search needs
@@ -26,8 +26,8 @@ returns c = search needs
 step-requires : tie.Need-step-requires Inv-loop μ-loop
 step-requires c κs = search needs
 
-sub-turns : tie.Need-sub-turns Inv-loop μ-loop
-sub-turns c = search needs
+sub-calls : tie.Need-sub-calls Inv-loop μ-loop
+sub-calls c = search needs
 
 loop-less : tie.Need-loop-less Inv-loop μ-loop
 loop-less c = search needs
@@ -52,7 +52,7 @@ run-spec =
     same-length
     returns
     step-requires
-    sub-turns
+    sub-calls
     loop-less
     loop-again
     same-length-2

@@ -22,11 +22,11 @@ wrapping-add-usize-requires c κs = search needs
 find-requires : tie.Need-find-requires Inv-loop μ-loop
 find-requires c κs = search needs
 
-past-requires : tie.Need-past-requires Inv-loop μ-loop
-past-requires c κs = search needs
+index-after-requires : tie.Need-index-after-requires Inv-loop μ-loop
+index-after-requires c κs = search needs
 
 loop-less : tie.Need-loop-less Inv-loop μ-loop
-loop-less c = omega (arith, c .past .ensures (omega arith))
+loop-less c = omega (arith, c .index-after .ensures (omega arith))
 
 loop-again : tie.Need-loop-again Inv-loop μ-loop
 loop-again c = search needs
@@ -43,7 +43,7 @@ words-spec =
     loop-holds
     wrapping-add-usize-requires
     find-requires
-    past-requires
+    index-after-requires
     loop-less
     loop-again
     returns)
