@@ -4,7 +4,7 @@ ghost use Prim.Native.Nat.{_*_, _≤_, min};
 ghost use lib.ListN.{length, take};
 ghost use lib.Seq.{sets};
 ghost use Rattle.record.specs.Types.{Sized};
-ghost use Rattle.record.specs.Record.{recordSize, originalWords, sourceBytes, stampSize, idSize, validatorSize};
+ghost use Rattle.record.specs.Record.{recordSize, tableWords, sourceBytes, stampSize, idSize, validatorSize};
 ghost use Rattle.base.specs.Lists.{puts, fill};
 ghost use Rattle.header.specs.Header.{headerSize, maxSources, dataCrcOffset, recordsOffset};
 ghost use Rattle.header.specs.WriteHeader.{
@@ -99,7 +99,7 @@ fn have_lengths(
     id: [u8; ID_SIZE],
     validator: [u8; VALIDATOR_SIZE],
 )
-    ensures { λ _. ⌜ (length original ≡ maxTables * originalWords) × (length tables ≡ maxTables) × (length stamp ≡ stampSize) × (length id ≡ idSize) × (length validator ≡ validatorSize) ⌝ }
+    ensures { λ _. ⌜ (length original ≡ maxTables * tableWords) × (length tables ≡ maxTables) × (length stamp ≡ stampSize) × (length id ≡ idSize) × (length validator ≡ validatorSize) ⌝ }
 {}
 
 fn is_sized(s: Source)

@@ -2,7 +2,7 @@
 use mathlib.Core.List.{List, [], _∷_}
 use mathlib.Core.Path.{_≡_}
 use mathlib.Core.Logic.{_⊎_}
-use Prim.Native.Nat.{ℕ, zero, suc, _+_, _*_, _/_, Ordering, Ordering·lt, Ordering·eq, Ordering·gt}
+use Prim.Native.Nat.{ℕ, zero, suc, _+_, _-_, _*_, _/_, Ordering, Ordering·lt, Ordering·eq, Ordering·gt}
 use lib.ListN.{length, take, drop, getD}
 use Rattle.key.specs.Order.{Text, Pick, pickOrder, fieldCount, routeField, codeField, stopField, nameField}
 
@@ -31,7 +31,7 @@ pickAt bytes lengths i = pickOf (text bytes lengths) i
 
 -- how many picks there are: five lengths to each, the last one perhaps with fewer
 abbrev pub count : List ℕ → ℕ
-count lengths = (length lengths + nameField) / fieldCount
+count lengths = (length lengths + (fieldCount - 1)) / fieldCount
 
 -- f 0, f 1, .., f (n - 1)
 unfoldable pub firsts : {A : Type 0} → ℕ → (ℕ → A) → List A

@@ -9,7 +9,7 @@ use lib.IntN.{pos}
 use lib.ListN.{length, drop}
 use Rattle.leaf.specs.Crc.{crc32}
 use Rattle.record.specs.declared.Source.{Source}
-use Rattle.record.specs.Record.{noBlock, originalWords, stampSize, idSize, validatorSize, currentVersion}
+use Rattle.record.specs.Record.{noBlock, tableWords, stampSize, idSize, validatorSize, currentVersion}
 use Rattle.base.specs.Lists.{fill}
 use Rattle.header.specs.declared.Bank.{Bank}
 use Rattle.region.specs.Region.{regionSize, bankOf, dataOf, sectorSize, erasedByte}
@@ -51,7 +51,7 @@ theSource =
       end = 20241231;
       present = 1;
       updated = pos 0;
-      original = fill 0 (maxTables * originalWords);
+      original = fill 0 (maxTables * tableWords);
       tables = fill noBlock maxTables;
       stamp = fill 0 stampSize;
       idlen = 0;

@@ -73,11 +73,11 @@ abbrev pub blockCrcOffset : ℕ
 blockCrcOffset = 8
 
 -- the original words of a table: how many, and their bytes
-abbrev pub originalWords : ℕ
-originalWords = 2
+abbrev pub tableWords : ℕ
+tableWords = 2
 
 abbrev pub originalSize : ℕ
-originalSize = originalWords * wordSize
+originalSize = tableWords * wordSize
 
 -- the bytes that a table adds to a record: its original words and its block
 abbrev pub tableSize : ℕ
@@ -129,7 +129,7 @@ noSource =
       end = 0;
       present = 0;
       updated = pos 0;
-      original = fill 0 (maxTables * originalWords);
+      original = fill 0 (maxTables * tableWords);
       tables = fill noBlock maxTables;
       stamp = fill 0 stampSize;
       idlen = 0;
@@ -145,7 +145,7 @@ sourceOf n l =
       end = word l endOffset;
       present = word l presentOffset;
       updated = time l updatedOffset;
-      original = many word wordSize l tablesOffset (n * originalWords) ++ fill 0 (maxTables * originalWords - n * originalWords);
+      original = many word wordSize l tablesOffset (n * tableWords) ++ fill 0 (maxTables * tableWords - n * tableWords);
       tables = many blockAt blockSize l (n * originalSize + tablesOffset) n ++ fill noBlock (maxTables - n);
       stamp = many byte 1 l (n * tableSize + stampOffset) stampSize;
       idlen = byte l (n * tableSize + idlenOffset);

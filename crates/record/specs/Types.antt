@@ -9,7 +9,7 @@ use Rattle.record.specs.declared.Block.{Block}
 use Rattle.record.specs.declared.Source.{Source}
 use Rattle.base.specs.Number.{wordValues}
 use Rattle.base.specs.Table.{maxTables}
-use Rattle.record.specs.Record.{originalWords, stampSize, idSize, validatorSize}
+use Rattle.record.specs.Record.{tableWords, stampSize, idSize, validatorSize}
 
 -- P holds of every element
 unfoldable pub All : {A : Type 0} → (A → Type 0) → List A → Type 0
@@ -26,7 +26,7 @@ pub record Block32 (b : Block) : Type 0 where
 
 -- its arrays have their lengths
 pub record Sized (s : Source) : Type 0 where
-  pub original : length (s .original) ≡ maxTables * originalWords
+  pub original : length (s .original) ≡ maxTables * tableWords
   pub tables : length (s .tables) ≡ maxTables
   pub stamp : length (s .stamp) ≡ stampSize
   pub id : length (s .id) ≡ idSize

@@ -23,10 +23,11 @@ ghost use Rattle.record.specs.Record.{
 ghost use Rattle.record.specs.Record.{
   recordSize,
   blockSize,
-  originalWords,
+  tableWords,
   originalSize,
   tableSize,
   tablesOffset,
+  stampOffset,
   validatorOffset,
   stampSize,
   idSize,
@@ -246,8 +247,8 @@ fn block_at(r: &[u8], at: usize) -> Block
 }
 
 fn words_at(r: &[u8], at: usize, n: usize) -> [u32; ORIGINAL_WORDS]
-    requires { ⌜ (n ≤ maxTables * originalWords) × (at ≤ recordSize) ⌝ }
-    ensures { λ x. ⌜ x ≡ many word wordSize (now (r .entry)) at n ++ fill 0 (maxTables * originalWords - n) ⌝ }
+    requires { ⌜ (n ≤ maxTables * tableWords) × (at ≤ recordSize) ⌝ }
+    ensures { λ x. ⌜ x ≡ many word wordSize (now (r .entry)) at n ++ fill 0 (maxTables * tableWords - n) ⌝ }
 {
     let mut t = [0u32; ORIGINAL_WORDS];
     let mut j = 0;
@@ -400,7 +401,7 @@ fn put_block(out: &mut [u8], at: usize, b: Block)
 
 fn put_words(out: &mut [u8], at: usize, ws: [u32; ORIGINAL_WORDS])
     requires { ⌜ at + maxTables * originalSize ≤ length (now out) ⌝ }
-    ensures { λ _. ⌜ (now (out .exit) ≡ sets (now (out .entry)) at (puts le32 ws)) × (length ws ≡ maxTables * originalWords) ⌝ }
+    ensures { λ _. ⌜ (now (out .exit) ≡ sets (now (out .entry)) at (puts le32 ws)) × (length ws ≡ maxTables * tableWords) ⌝ }
 {
     let mut j = 0;
     while j < ORIGINAL_WORDS {
@@ -432,7 +433,7 @@ fn put_head(out: &mut [u8], at: usize, s: Source)
 
 fn put_tables(out: &mut [u8], at: usize, s: Source)
     requires { ⌜ at + maxTables * tableSize ≤ length (now out) ⌝ }
-    ensures { λ _. ⌜ (now (out .exit) ≡ sets (now (out .entry)) at (tableBytes s)) × (length (s .original) ≡ maxTables * originalWords) × (length (s .tables) ≡ maxTables) ⌝ }
+    ensures { λ _. ⌜ (now (out .exit) ≡ sets (now (out .entry)) at (tableBytes s)) × (length (s .original) ≡ maxTables * tableWords) × (length (s .tables) ≡ maxTables) ⌝ }
 {
     let ws = s.original;
     put_words(out, at, ws);
@@ -462,7 +463,7 @@ fn put_validator(out: &mut [u8], at: usize, x: [u8; VALIDATOR_SIZE])
 }
 
 fn put_tail(out: &mut [u8], at: usize, s: Source)
-    requires { ⌜ at + (validatorOffset + validatorSize - tablesOffset) ≤ length (now out) ⌝ }
+    requires { ⌜ at + (validatorOffset + validatorSize - stampOffset) ≤ length (now out) ⌝ }
     ensures { λ _. ⌜ (now (out .exit) ≡ sets (now (out .entry)) at (tailBytes s)) × (length (s .stamp) ≡ stampSize) × (length (s .id) ≡ idSize) × (length (s .validator) ≡ validatorSize) ⌝ }
 {
     let stamp = s.stamp;
@@ -488,7 +489,7 @@ fn put_source(out: &mut [u8], at: usize, s: Source)
 
 // These do nothing: their contracts say that the arrays of a record have their lengths.
 fn has_words(ws: [u32; ORIGINAL_WORDS])
-    ensures { λ _. ⌜ length ws ≡ maxTables * originalWords ⌝ }
+    ensures { λ _. ⌜ length ws ≡ maxTables * tableWords ⌝ }
 {}
 
 fn has_blocks(bs: [Block; TABLES])
