@@ -6,7 +6,7 @@ use mathlib.Core.List.{List, [], _∷_}
 use Prim.Native.Nat.{ℕ}
 use lib.ListN.{length}
 use Rattle.bloom.specs.Bloom.{isSet, setBit, allSet, seen, setAll}
-use Rattle.bloom.specs.Places.{Within}
+use Rattle.bloom.specs.Positions.{Within}
 use Rattle.bloom.proofs.Bits.{length-bit, bit-here, bit-kept, bit-other}
 
 pub length-all : (ps bits : List ℕ) → length (setAll bits ps) ≡ length bits

@@ -7,7 +7,7 @@ use native.Mathlib.Omega.{arith}
 use native.Mathlib.Nat.{add-mul, one-mul, mod-lt, mod-mod-of-dvd, dvd-mul-right, max-eq-right}
 use Rattle.base.specs.Number.{wrap32, rotateLeft32}
 use Rattle.bloom.specs.Bloom.{stepOf, position, positions}
-use Rattle.bloom.specs.Places.{Within}
+use Rattle.bloom.specs.Positions.{Within}
 use Rattle.bloom.specs.Claims.{Differ}
 use Rattle.bloom.proofs.Bits.{or-low}
 

@@ -1,3 +1,3 @@
 pub mod Bloom
-pub mod Places
+pub mod Positions
 pub mod Claims

@@ -6,7 +6,7 @@ ghost use lib.ListN.{length};
 ghost use Rattle.base.specs.Number.{byteBits};
 ghost use Rattle.bloom.specs.Bloom as Bloom;
 ghost use Rattle.bloom.specs.Bloom.{maxFilter};
-ghost use Rattle.bloom.specs.Places.{four, Within};
+ghost use Rattle.bloom.specs.Positions.{four, Within};
 use base::number::BYTE_BITS;
 use base::number::BYTE_BITS_32;
 use base::number::rotate13;

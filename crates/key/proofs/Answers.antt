@@ -23,7 +23,7 @@ use Rattle.key.specs.declared.KeyAnswer.the-variants.{Written, Refused}
 use Rattle.key.specs.declared.SameKey.the-variants as sameKey
 use Rattle.key.specs.declared.matching.Matched.{Matched}
 use Rattle.key.specs.declared.matching.Matched.the-variants.{To, Differs}
-use Rattle.key.proofs.Taken.{between-is, rising, pick-same, firsts-same}
+use Rattle.key.proofs.TextOffsets.{between-is, rising, pick-same, firsts-same}
 use Rattle.key.proofs.Sizes.{every-same, entry-small}
 use Rattle.key.proofs.Put.{put-put, put-first}
 use Rattle.key.proofs.Stretch.{then-to, then-not, whole-same, whole-other}
@@ -55,14 +55,14 @@ module _ (b : Text) (l : List ℕ) (m : ℕ) where
     abbrev starts : List ℕ
     starts = take (m + 1 - 0) all
 
-    one-behind : m + 1 - 0 ≡ m + 1
-    one-behind = omega arith
+    count-is-all : m + 1 - 0 ≡ m + 1
+    count-is-all = omega arith
 
     pub starts-length : m + 1 ≡ length starts
-    starts-length = sym (rw one-behind (length-take-le (m + 1) all (omega arith)))
+    starts-length = sym (rw count-is-all (length-take-le (m + 1) all (omega arith)))
 
     starts-offsets : Offsets b l m starts
-    starts-offsets k h = rw one-behind (getD-take (m + 1) all k 0 (omega arith) ∙ given k h)
+    starts-offsets k h = rw count-is-all (getD-take (m + 1) all k 0 (omega arith) ∙ given k h)
 
     pub starts-rise : Rising starts (length b)
     starts-rise = rising b l m starts starts-offsets (sym starts-length)

@@ -12,7 +12,7 @@ use Rattle.key.specs.Order.{Pick, pickOrder}
 use Rattle.key.specs.Picks.{insertBy, insert, distinct, firsts}
 use Rattle.key.specs.Steps.{number, Goes, Ordered, Below}
 use Rattle.key.specs.declared.picks.Index.the-variants.{At, There}
-use Rattle.key.proofs.Taken.{firsts-length, firsts-at}
+use Rattle.key.proofs.TextOffsets.{firsts-length, firsts-at}
 
 is-lt : (o : Ordering) → number o ≡ 0 → o ≡ Ordering·lt
 is-lt Ordering·lt h = refl

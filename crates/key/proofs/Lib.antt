@@ -1,7 +1,7 @@
 pub mod Linear
 pub mod Sort
 pub mod Walk
-pub mod Taken
+pub mod TextOffsets
 pub mod Insert
 pub mod Put
 pub mod Sizes

@@ -16,7 +16,7 @@ use Rattle.key.specs.Picks.{pickOf, unlessCode, firsts, insertBy, insert
 use Rattle.key.specs.Layout.{every, sized, sizes, joined, field, entry, longestEntry}
 use Rattle.key.specs.Steps.{Rising, between, Small}
 use Rattle.key.proofs.Sort.{sorts}
-use Rattle.key.proofs.Taken.{split, firsts-length, between-length}
+use Rattle.key.proofs.TextOffsets.{split, firsts-length, between-length}
 
 second-false : (a : Bool) → pick a false false ≡ false
 second-false true = refl

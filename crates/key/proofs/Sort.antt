@@ -82,8 +82,8 @@ head-same p q ps qs hp hq m n =
     ⊎-elim (λ w. w)
     (λ w. ⊎-elim (λ v. sym v) (λ v. not-self p (on-picks .chain p q p (hp .0 q v) (hq .0 p w))) n) m
 
-behind : (p x : Pick) (ps qs : List Pick) → Ascending (p ∷ ps) → In x ps → In x (p ∷ qs) → In x qs
-behind p x ps qs h m n = ⊎-elim (λ w. not-self p (subst (λ (y : Pick). pickOrder p y ≡ Ordering·lt) w (h .0 x m))) (λ w. w) n
+in-rest : (p x : Pick) (ps qs : List Pick) → Ascending (p ∷ ps) → In x ps → In x (p ∷ qs) → In x qs
+in-rest p x ps qs h m n = ⊎-elim (λ w. not-self p (subst (λ (y : Pick). pickOrder p y ≡ Ordering·lt) w (h .0 x m))) (λ w. w) n
 
 only : (s t : List Pick) → Ascending s → Ascending t → ((x : Pick) → In x s → In x t) → ((x : Pick) → In x t → In x s) → s ≡ t
 only [] [] hs ht f g = refl
@@ -94,7 +94,7 @@ only (p ∷ ps) (q ∷ qs) hs ht f g =
     let f′ : (x : Pick) → In x ps → In x (p ∷ qs) = λ x m. rw e (f x (inr m)) in
     let hq : Ascending (p ∷ qs) = rw e ht in
     let g′ : (x : Pick) → In x qs → In x (p ∷ ps) = λ x m. g x (inr m) in
-    let k : ps ≡ qs = only ps qs (hs .1) (ht .1) (λ x m. behind p x ps qs hs m (f′ x m)) (λ x m. behind p x qs ps hq m (g′ x m)) in
+    let k : ps ≡ qs = only ps qs (hs .1) (ht .1) (λ x m. in-rest p x ps qs hs m (f′ x m)) (λ x m. in-rest p x qs ps hq m (g′ x m)) in
     rw (e, k)
 
 pub only-one : OnlyOneSorts

@@ -28,7 +28,7 @@ const STARTS: usize = MAX_TEXTS + 1;
 
 pub const MAX_IDENTITY: usize = 65535;
 
-// The first byte of a key that has an identity, and how many bytes are before it.
+// The first byte of a key that has an identity, and how many bytes are before the identity.
 pub const IDENTITY_MARK: u8 = 255;
 
 pub const PREFIX_SIZE: usize = 3;

@@ -36,7 +36,7 @@ use Rattle.powerloss.proofs.Bytes.{bytes-nil, bytes-cons}
 use Rattle.powerloss.proofs.Inv.{Kept, Open}
 use Rattle.powerloss.proofs.Range.{headed-end, committed-end, idle-due, idle-free}
 use Rattle.powerloss.proofs.Quiet.{withAppended-nil}
-use Rattle.powerloss.proofs.Take.{with-bytes}
+use Rattle.powerloss.proofs.AppendBytes.{with-bytes}
 use Rattle.powerloss.proofs.Dues.{due-is}
 use Rattle.powerloss.proofs.Lowers.{plain-call}
 use Rattle.powerloss.proofs.Runs.{ranUpdate}

@@ -6,7 +6,7 @@ pub mod Inv
 pub mod Laid
 pub mod Range
 pub mod Quiet
-pub mod Take
+pub mod AppendBytes
 pub mod Dues
 pub mod Commits
 pub mod Lowers

@@ -46,7 +46,7 @@ use Rattle.powerloss.proofs.Load.{active-ok, other-held, target-fits}
 use Rattle.powerloss.proofs.Inv.{Kept, Mode, Open, State}
 use Rattle.powerloss.proofs.Range.{range-of, tables-none}
 use Rattle.powerloss.proofs.Quiet.{on-source, on-table, on-end, on-unchanged}
-use Rattle.powerloss.proofs.Take.{on-bytes, on-close}
+use Rattle.powerloss.proofs.AppendBytes.{on-bytes, on-close}
 use Rattle.powerloss.proofs.Dues.{Carried, no-ops, on-due}
 use Rattle.powerloss.proofs.Commits.{is-header-written, on-commit, word-kept, word-torn, word-open}
 use Rattle.header.specs.Header.{maxSources, commitOffset}

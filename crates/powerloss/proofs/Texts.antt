@@ -62,14 +62,14 @@ bytes-field : (v : List ℕ) → Bytes v → Bytes (fieldOf v)
 unfolding fieldOf
 bytes-field v h = field-by v (anySpecial v) h
 
-behind-byte : (vs : List (List ℕ)) → delimiter vs < 256
-behind-byte [] = omega arith
-behind-byte (v ∷ vs) = omega arith
+delimiter-byte : (vs : List (List ℕ)) → delimiter vs < 256
+delimiter-byte [] = omega arith
+delimiter-byte (v ∷ vs) = omega arith
 
 bytes-values : (vs : List (List ℕ)) → All Bytes vs → Bytes (rowOf vs)
 unfolding rowOf All
 bytes-values [] h = bytes-nil
-bytes-values (v ∷ vs) h = bytes-append (fieldOf v) (delimiter vs ∷ rowOf vs) (bytes-field v (h .0)) (bytes-cons (delimiter vs) (rowOf vs) (behind-byte vs) (bytes-values vs (h .1)))
+bytes-values (v ∷ vs) h = bytes-append (fieldOf v) (delimiter vs ∷ rowOf vs) (bytes-field v (h .0)) (bytes-cons (delimiter vs) (rowOf vs) (delimiter-byte vs) (bytes-values vs (h .1)))
 
 pub bytes-row : (texts lengths : List ℕ) → Bytes texts → Bytes (rowOf (passedValues texts lengths))
 bytes-row texts lengths b = bytes-values (cutBy lengths texts) (all-cut lengths texts b)
@@ -103,7 +103,7 @@ unfolding line each
 bytes-line [] e = bytes-nil
 bytes-line (v ∷ vs) e =
     bytes-append v (delimiter vs ∷ line vs) (small-bytes v (and-left (each isSmall v) (each (each isSmall) vs) e))
-    (bytes-cons (delimiter vs) (line vs) (behind-byte vs) (bytes-line vs (and-right (each isSmall v) (each (each isSmall) vs) e)))
+    (bytes-cons (delimiter vs) (line vs) (delimiter-byte vs) (bytes-line vs (and-right (each isSmall v) (each (each isSmall) vs) e)))
 
 pub bytes-names : (t : ℕ) → Bytes (namesLine t)
 bytes-names t = bytes-line (columnsOf t) (columns-small t)

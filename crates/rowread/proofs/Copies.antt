@@ -13,7 +13,7 @@ use Rattle.csv.specs.Csv.{isText, lf, Record, last, more, quote, comma, lineFee
 use Rattle.csv.specs.Read.{plainValue, Got, got, bad, push, inner, fieldAt, Row, row, malformed, values}
 use Rattle.csv.proofs.Grammar.{field-complete, comma-stops, lf-stops, sound}
 use Rattle.csv.proofs.Laws.{sets-append}
-use Rattle.csv.proofs.Places.{field-place}
+use Rattle.csv.proofs.Offsets.{field-offset}
 use Rattle.rowread.specs.Stored.{valuesOf, joined, endsOf}
 use Rattle.base.specs.Number.{pick}
 use Rattle.rowread.specs.Steps.{valueOf, restOf, IsRow, isStop, lineOf}
@@ -143,11 +143,11 @@ starts t r b e = omega (arith, ap length e, length-drop (length t - length (b �
 fields-of : (t : List ℕ) {bs r : List ℕ} {vs : List (List ℕ)} → Record bs vs r → (from : ℕ) → bs ≡ drop from t → from ≤ length t → Fields t from vs
 fields-of t (last {v = v} {r = r} f lf) from b h =
     let q : fieldAt (drop from t) ≡ got v (lineFeed ∷ r) = ap fieldAt (sym b) ∙ field-complete f lf-stops in
-    let p = field-place t from v (lineFeed ∷ r) h q in
+    let p = field-offset t from v (lineFeed ∷ r) h q in
     one h (starts t r lineFeed (p .0)) (q ∙ ap (got v) (p .0)) none
 fields-of t (more {v = v} {w = w} {cs = cs} {ws = ws} f g) from b h =
     let q : fieldAt (drop from t) ≡ got v (comma ∷ cs) = ap fieldAt (sym b) ∙ field-complete f comma-stops in
-    let p = field-place t from v (comma ∷ cs) h q in
+    let p = field-offset t from v (comma ∷ cs) h q in
     let i = starts t cs comma (p .0) in
     let d : cs ≡ drop (length t - length (comma ∷ cs) + 1) t = ap (drop 1) (p .0) ∙ drop-drop 1 (length t - length (comma ∷ cs)) t in
     one h i (q ∙ ap (got v) (p .0)) (fields-of t g (length t - length (comma ∷ cs) + 1) d (omega arith))

@@ -15,7 +15,7 @@ use borrow.Author.Tests.{eq-eqb, ne-eqb, eqb-true}
 use Rattle.base.specs.Number.{pick}
 use Rattle.csv.specs.Csv.{isText, quote, comma, lineFeed}
 use Rattle.csv.specs.Read.{Got, got, bad, push, plainValue, plainRest, inner, closing, fieldAt, Row, row, malformed, front, rowEnd, ended, parted, values}
-use Rattle.csv.proofs.Places.{field-place}
+use Rattle.csv.proofs.Offsets.{field-offset}
 use Rattle.rowread.specs.declared.scan.Piece.{Piece}
 use Rattle.rowread.specs.declared.scan.Piece.the-variants.{Value, Bad}
 use Rattle.rowread.specs.declared.scan.Scan.the-variants.{Whole, Broken}
@@ -162,7 +162,7 @@ is-value t from to size h e = go (fieldAt (drop from t)) refl e
     go : (g : Got) → fieldAt (drop from t) ≡ g → Value to size ≡ pieceOf (length t) g → IsValue t from to size
     go bad q p = absurd (let z : _≡_ {A = ℕ} 0 1 = cc in omega arith)
     go (got v r) q p =
-        let w = field-place t from v r h q in
+        let w = field-offset t from v r h q in
         let a : to ≡ length t - length r = cc in
         let b : length v ≡ size = cc in
         record { value = v; read = rw a (q ∙ ap (got v) (w .0)); sized = b; grows = omega (arith, w .1); inside = omega (arith, w .2) }

@@ -2,5 +2,5 @@ pub mod Laws
 pub mod Lines
 pub mod Copies
 pub mod Calls
-pub mod Takes
+pub mod OnePass
 pub mod Table

@@ -256,10 +256,10 @@ text-of b s c = go (eqb b quote) (eqb b lineFeed) s
     go false false e = simp c
 
 -- after v: a row of its last value and ws, once that value is a field
-module _ (c : ℕ) (r : List ℕ) (ws : List (List ℕ)) (s : List ℕ) (behind : (bs f : List ℕ) → Field bs f (c ∷ r) → Record bs (f ∷ ws) s) where
+module _ (c : ℕ) (r : List ℕ) (ws : List (List ℕ)) (s : List ℕ) (following : (bs f : List ℕ) → Field bs f (c ∷ r) → Record bs (f ∷ ws) s) where
   begun : (v : List ℕ) → anyStop v ≡ false → Begun v c r ws s
   unfolding anyStop firstIn othersIn
-  begun [] e = record { rest = c ∷ r; head = none; whole = λ {bs} {f} h. behind bs f h }
+  begun [] e = record { rest = c ∷ r; head = none; whole = λ {bs} {f} h. following bs f h }
   begun (b ∷ v) e = go (eqb b comma) refl (begun v (neither (isStop b) (anyStop v) e .1))
     where
       go : (q : Bool) → eqb b comma ≡ q → Begun v c r ws s → Begun (b ∷ v) c r ws s

@@ -21,9 +21,9 @@ pub record Fits (width capacity slots : ℕ) (vs : List Text) : Type 0 where
 
 -- a written row is read back, whatever bytes are before and after it: its values, and the offset after it (reads-written)
 abbrev pub ReadsWritten : Type 0
-ReadsWritten = (before behind : Text) (vs : List Text) (width capacity slots : ℕ) → Fits width capacity slots vs
-    → (readAnswer (before ++ (rowOf vs ++ behind)) width (length before) capacity slots ≡ Stored (length before + length (rowOf vs)) (length (joined vs)))
-    × (valuesAt (before ++ (rowOf vs ++ behind)) width (length before) ≡ vs)
+ReadsWritten = (before following : Text) (vs : List Text) (width capacity slots : ℕ) → Fits width capacity slots vs
+    → (readAnswer (before ++ (rowOf vs ++ following)) width (length before) capacity slots ≡ Stored (length before + length (rowOf vs)) (length (joined vs)))
+    × (valuesAt (before ++ (rowOf vs ++ following)) width (length before) ≡ vs)
 
 -- the rows of a table, joined
 unfoldable pub tableOf : List (List Text) → Text

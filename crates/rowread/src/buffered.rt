@@ -25,7 +25,7 @@ use csv::LF;
 use csv::MAX_COLUMNS;
 use csv::QUOTE;
 
-// Unquotes the value after an opening quote into the buffer `buffer`, byte by byte.
+// Unquotes the value after an opening quote into `buffer`, byte by byte.
 fn buffer_bytes(t: &[u8], from: usize, buffer: &mut [u8], to: usize) -> Piece
     requires { ⌜ (from ≤ length (now t)) × (to + (length (now t) - from) ≤ length (now buffer)) ⌝ }
     ensures { λ r. ⌜ ValueRead Inner (now (t .entry)) from (now (buffer .entry)) to (now (buffer .exit)) r ⌝ }
@@ -201,7 +201,7 @@ fn copy_out(
     Fast::Read { next, size }
 }
 
-// Reads a row of `width` values with the buffers `buffer` and `marks`; n values without quotes are before e.
+// Reads a row of `width` values with `buffer` and `marks`; n values without quotes are before e.
 fn row_through(
     t: &[u8],
     width: usize,

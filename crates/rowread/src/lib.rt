@@ -26,10 +26,10 @@ const SEARCHED: usize = 32;
 // The index that means that a chunk has no delimiter.
 const NO_DELIMITER: u8 = SEARCHED as u8;
 
-// How many bytes without a quote make the search worth its while.
+// From how many bytes without a quote on the search is faster.
 const WITHOUT_QUOTE: usize = 16;
 
-// The two buffers that a row is read into, and how near its end is for the small one.
+// The two buffers that a row is read into, and within how many bytes its end is for the small one.
 const SMALL_BUFFER: usize = 256;
 
 const LARGE_BUFFER: usize = 1024;

@@ -10,7 +10,7 @@ use Rattle.key.specs.declared.matching.Matched.the-variants.{To}
 use borrow.Author.Needs.{needs}
 use Rattle.key.specs.Picks.{pickOf}
 use Rattle.key.specs.Steps.{between}
-use Rattle.key.proofs.Taken.{five}
+use Rattle.key.proofs.TextOffsets.{five}
 use Rattle.key.proofs.Put.{joined-none, joined-all}
 use Rattle.key.proofs.Stretch.{nothing-to-match, goes-on, stops}
 use Rattle.key.proofs.matching.match_pick.Statement.{statement}

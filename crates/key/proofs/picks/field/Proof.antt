@@ -2,7 +2,7 @@
 use mathlib.Core.Path.{_≡_, _∙_}
 use native.Mathlib.Omega.{arith}
 use Rattle.key.specs.Steps.{between}
-use Rattle.key.proofs.Taken.{plain, with-code, no-code}
+use Rattle.key.proofs.TextOffsets.{plain, with-code, no-code}
 use borrow.Author.Needs.{needs}
 use Rattle.key.proofs.picks.field.Statement.{statement}
 use Rattle.key.proofs.picks.field.Tie as tie

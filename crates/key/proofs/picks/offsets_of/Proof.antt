@@ -7,7 +7,7 @@ use native.Mathlib.Omega.{arith}
 use lib.ListN.{length, getD, set, length-set}
 use lib.Seq.{getD-set-same, getD-set-other}
 use Rattle.key.specs.Steps.{offsetOf}
-use Rattle.key.proofs.Taken.{split, offset-none, offset-next, offset-within, offset-past}
+use Rattle.key.proofs.TextOffsets.{split, offset-none, offset-next, offset-within, offset-past}
 use Rattle.key.proofs.picks.offsets_of.Statement.{statement}
 use Rattle.key.proofs.picks.offsets_of.Tie as tie
 

@@ -7,7 +7,7 @@ use lib.ListN.{drop}
 use Rattle.key.specs.Order.{lex, textOrder}
 use Rattle.key.specs.Picks.{pickOf}
 use Rattle.key.specs.Steps.{between}
-use Rattle.key.proofs.Taken.{five}
+use Rattle.key.proofs.TextOffsets.{five}
 use Rattle.key.proofs.Walk.{found, further, all-same}
 use Rattle.key.proofs.picks.order_picks.Statement.{statement}
 use Rattle.key.proofs.picks.order_picks.Tie as tie

@@ -9,7 +9,7 @@ use lib.ListN.{length, take}
 use Rattle.key.specs.Picks.{pickOf}
 use Rattle.key.specs.Steps.{between}
 use Rattle.key.specs.Layout.{joined, field}
-use Rattle.key.proofs.Taken.{five}
+use Rattle.key.proofs.TextOffsets.{five}
 use Rattle.key.proofs.Put.{put-none, joined-none, joined-all, step-length, step-fits, step-put}
 use Rattle.key.proofs.write.put_pick.Statement.{statement}
 use Rattle.key.proofs.write.put_pick.Tie as tie

@@ -3,7 +3,7 @@ use mathlib.Core.Path.{sym, _∙_}
 use Prim.Native.Nat.{_-_}
 use native.Mathlib.Omega.{arith}
 use Rattle.rowread.proofs.Laws.{past, plain-size}
-use Rattle.rowread.proofs.Takes.{quoted-read-value, plain-into}
+use Rattle.rowread.proofs.OnePass.{quoted-read-value, plain-into}
 use borrow.Author.Needs.{needs}
 use Rattle.rowread.proofs.buffered.buffer_field.Statement.{statement}
 use Rattle.rowread.proofs.buffered.buffer_field.Tie as tie

@@ -7,7 +7,7 @@ use native.Mathlib.Omega.{arith}
 use lib.ListN.{length, length-set}
 use Rattle.rowread.specs.Steps.{Holds}
 use Rattle.rowread.proofs.Laws.{past}
-use Rattle.rowread.proofs.Takes.{holds-more, holds-last}
+use Rattle.rowread.proofs.OnePass.{holds-more, holds-last}
 use borrow.Author.Needs.{needs}
 use Rattle.rowread.proofs.buffered.buffer_rest.Statement.{statement}
 use Rattle.rowread.proofs.buffered.buffer_rest.Tie as tie

@@ -1,7 +1,7 @@
 -- The values before e are copied as they are, the rest by `buffer_rest`; `read-value-before` joins both.
 use native.Mathlib.Omega.{arith}
 use Rattle.rowread.proofs.Lines.{opens-size}
-use Rattle.rowread.proofs.Takes.{read-value-before}
+use Rattle.rowread.proofs.OnePass.{read-value-before}
 use borrow.Author.Needs.{needs}
 use Rattle.rowread.proofs.buffered.buffer_row.Statement.{statement}
 use Rattle.rowread.proofs.buffered.buffer_row.Tie as tie

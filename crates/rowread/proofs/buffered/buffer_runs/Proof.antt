@@ -6,7 +6,7 @@ use native.Mathlib.Omega.{arith}
 use lib.ListN.{length}
 use Rattle.rowread.proofs.Laws.{past}
 use Rattle.rowread.proofs.Lines.{stop-inside}
-use Rattle.rowread.proofs.Takes.{Gone, gone-start, gone-same, gone-fits, gone-byte, gone-twice, gone-run, gone-close}
+use Rattle.rowread.proofs.OnePass.{Gone, gone-start, gone-same, gone-fits, gone-byte, gone-twice, gone-run, gone-close}
 use borrow.Author.Needs.{needs}
 use Rattle.rowread.proofs.buffered.buffer_runs.Statement.{statement}
 use Rattle.rowread.proofs.buffered.buffer_runs.Tie as tie

@@ -1,6 +1,6 @@
 -- What `buffer_row` holds in the buffer is copied to the outputs (`handed`), so the row is read as the fast path promises.
 use native.Mathlib.Omega.{arith}
-use Rattle.rowread.proofs.Takes.{handed, read-value-within}
+use Rattle.rowread.proofs.OnePass.{handed, read-value-within}
 use borrow.Author.Needs.{needs}
 use Rattle.rowread.proofs.buffered.row_through.Statement.{statement}
 use Rattle.rowread.proofs.buffered.row_through.Tie as tie

@@ -3,7 +3,7 @@
 use native.Mathlib.Omega.{arith}
 use lib.ListN.{length-take}
 use Rattle.rowread.proofs.Lines.{front-part}
-use Rattle.rowread.proofs.Takes.{opens-front, longer}
+use Rattle.rowread.proofs.OnePass.{opens-front, longer}
 use borrow.Author.Needs.{needs}
 use Rattle.rowread.proofs.buffered.with_buffer.Statement.{statement}
 use Rattle.rowread.proofs.buffered.with_buffer.Tie as tie

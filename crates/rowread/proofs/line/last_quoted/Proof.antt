@@ -5,7 +5,7 @@ use native.Mathlib.Omega.{arith}
 use lib.ListN.{length}
 use Rattle.rowread.proofs.Lines.{stop-inside, opens-size}
 use Rattle.rowread.proofs.Laws.{past}
-use Rattle.rowread.proofs.Takes.{quote-before}
+use Rattle.rowread.proofs.OnePass.{quote-before}
 use borrow.Author.Needs.{needs}
 use Rattle.rowread.proofs.line.last_quoted.Statement.{statement}
 use Rattle.rowread.proofs.line.last_quoted.Tie as tie

@@ -13,7 +13,7 @@ use borrow.Author.Tests.{ne-eqb}
 use Rattle.csv.specs.Csv.{Inner, close, byte, twice, Field, escaped, lf, last, quote, comma, lineFeed}
 use Rattle.csv.specs.Read.{plainValue, plainRest}
 use Rattle.csv.proofs.Grammar.{field-sound}
-use Rattle.csv.proofs.Places.{field-place}
+use Rattle.csv.proofs.Offsets.{field-offset}
 use Rattle.csv.proofs.Frame.{front-in-row}
 use Rattle.csv.proofs.Laws.{sets-append}
 use Rattle.rowread.specs.declared.scan.Piece.{Piece}
@@ -124,7 +124,7 @@ plain-into t from out to o next size h e x y z =
     let q = field-plain t from e in
     let f : Field (drop from t) (plainValue (drop from t)) (plainRest (drop from t)) = rw q at (field-sound (drop from t)) in
     let m : length t - length (plainRest (drop from t)) ≡ next = omega (arith, plain-size t from, y) in
-    let r : plainRest (drop from t) ≡ drop next t = rw m at (field-place t from (plainValue (drop from t)) (plainRest (drop from t)) h q .0) in
+    let r : plainRest (drop from t) ≡ drop next t = rw m at (field-offset t from (plainValue (drop from t)) (plainRest (drop from t)) h q .0) in
     record { value = plainValue (drop from t); read = rw r at f; sized = z; grows = omega (arith, y, z); inside = omega (arith, plain-size t from, y); bytes = x }
 
 -- ---- the values of a row
