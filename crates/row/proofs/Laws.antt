@@ -373,9 +373,9 @@ pub left-none : (texts lengths : List ℕ) (k from : ℕ) → length lengths ≤
 unfolding cutBy
 left-none texts lengths k from h = rw (drop-of-length-le lengths h)
 
-pub left-behind : (texts lengths : List ℕ) (k from : ℕ) → k ≤ length lengths → pick (eqb k (length lengths)) lineFeed comma ≡ delimiter (left texts lengths k from)
+pub left-delimiter : (texts lengths : List ℕ) (k from : ℕ) → k ≤ length lengths → pick (eqb k (length lengths)) lineFeed comma ≡ delimiter (left texts lengths k from)
 unfolding cutBy
-left-behind texts lengths k from h = go (decLt k (length lengths))
+left-delimiter texts lengths k from h = go (decLt k (length lengths))
   where
     go : Dec (k < length lengths) → pick (eqb k (length lengths)) lineFeed comma ≡ delimiter (cutBy (drop k lengths) (drop from texts))
     go (yes i) = rw (ne-eqb k (length lengths) (λ e. omega arith), drop-cons lengths k 0 i)

@@ -30,6 +30,18 @@ columns-past t h = List·getD-eq-default columns [] {n = t} (omega (arith, eight
 pub count-past : (t : ℕ) → lastTable < t → 0 ≡ columnCount t
 count-past t h = sym (ap length (columns-past t h))
 
+-- a number that is none of 0 to 7 is above 7
+pub none-of-eight : (t : ℕ) → (t ≡ 0 → ⊥) → (t ≡ 1 → ⊥) → (t ≡ 2 → ⊥) → (t ≡ 3 → ⊥) → (t ≡ 4 → ⊥) → (t ≡ 5 → ⊥) → (t ≡ 6 → ⊥) → (t ≡ 7 → ⊥) → lastTable < t
+none-of-eight zero a b c d e f g h = absurd (a refl)
+none-of-eight (suc zero) a b c d e f g h = absurd (b refl)
+none-of-eight (suc (suc zero)) a b c d e f g h = absurd (c refl)
+none-of-eight (suc (suc (suc zero))) a b c d e f g h = absurd (d refl)
+none-of-eight (suc (suc (suc (suc zero)))) a b c d e f g h = absurd (e refl)
+none-of-eight (suc (suc (suc (suc (suc zero))))) a b c d e f g h = absurd (f refl)
+none-of-eight (suc (suc (suc (suc (suc (suc zero)))))) a b c d e f g h = absurd (g refl)
+none-of-eight (suc (suc (suc (suc (suc (suc (suc zero))))))) a b c d e f g h = absurd (h refl)
+none-of-eight (suc (suc (suc (suc (suc (suc (suc (suc n)))))))) a b c d e f g h = omega arith
+
 -- what holds of 0 to 7 holds below eight
 below : (P : ℕ → Type 0) → P 0 → P 1 → P 2 → P 3 → P 4 → P 5 → P 6 → P 7 → (t : ℕ) → t < 8 → P t
 below P a b c d e f g i zero h = a
@@ -51,15 +63,15 @@ unfolding columnsOf columns
 count-most t h = below (λ t. length (getD columns t []) ≤ maxColumns) (omega arith) (omega arith) (omega arith) (omega arith) (omega arith) (omega arith) (omega arith) (omega arith) t (omega arith)
 
 -- where a table's names line is in the constant
-pub record Stands (t : ℕ) : Type 0 where
+pub record LineAt (t : ℕ) : Type 0 where
   pub rises : getD starts t 0 ≤ getD starts (t + 1) 0
   pub inside : getD starts (t + 1) 0 ≤ length allLines
   pub is : take (getD starts (t + 1) 0 - getD starts t 0) (drop (getD starts t 0) allLines) ≡ namesLine t
 
-pub stands : (t : ℕ) → t < 8 → Stands t
+pub line-at : (t : ℕ) → t < 8 → LineAt t
 unfolding columnsOf columns line lines allLines
-stands =
-    below Stands
+line-at =
+    below LineAt
     (record { rises = omega arith; inside = omega arith; is = refl })
     (record { rises = omega arith; inside = omega arith; is = refl })
     (record { rises = omega arith; inside = omega arith; is = refl })

@@ -1,5 +1,5 @@
--- The row of a bank, case by case: table, region, bank and source in the order of the definition. If the source is there, the bytes read
--- are the table's, and the answer is that of the reader.
+-- The block of a table, case by case: table, region, bank and source in the order of the definition. If it is found, the bytes read are the
+-- table's, and the row's answer is that of the reader.
 use mathlib.Core.Path.{_≡_, refl, ap, _∙_, sym}
 use mathlib.Core.Bool.{Bool, true, false}
 use mathlib.Core.List.{List}
@@ -9,6 +9,9 @@ use lib.Dec.{leb, eqb, ltb}
 use lib.ListN.{length, getD}
 use Rattle.refusal.specs.declared.Refusal.{Refusal}
 use Rattle.refusal.specs.declared.Refusal.the-variants.{Region, Argument, Source as NoSuchSource}
+use Rattle.base.specs.Number.{pick}
+use Rattle.record.specs.declared.Block.{Block}
+use Rattle.record.specs.declared.Source.{Source}
 use Rattle.record.specs.Record.{noBlock}
 use Rattle.header.specs.declared.Bank.{Bank}
 use Rattle.header.specs.declared.Validated.{Validated}
@@ -24,7 +27,8 @@ use Rattle.snapshot.specs.Freshness.{namedIf}
 use Rattle.row.specs.Columns.{columnCount}
 use Rattle.rowread.specs.declared.ReadAnswer.the-variants.{Refused}
 use Rattle.rowread.specs.Stored.{valuesAt, readAnswer}
-use Rattle.snapshot.specs.Rows.{bytesOf, tableIn, thenRow, bankRowAnswer, thenValues, valuesIn}
+use Rattle.snapshot.specs.declared.rows.BlockAnswer.the-variants.{Found, Refused as NoBlock}
+use Rattle.snapshot.specs.Rows.{bytesOf, tableIn, thenBlock, blockAnswer, thenRow, bankRowAnswer, thenValues, valuesIn}
 use Rattle.base.specs.Table.{lastTable}
 
 -- a bank that is named has that number
@@ -53,15 +57,16 @@ module _ (region : List ℕ) (n i : ℕ) where
   unfolding sourceAnswer
   there q = there-by (named region n) refl q
 
-  module _ (t offset capacity slots : ℕ) where
-    pub no-region : leb t lastTable ≡ false → eqb (length region) regionSize ≡ false → Refused Region ≡ bankRowAnswer region n i t offset capacity slots
-    unfolding bankRowAnswer namedIf
+  module _ (t : ℕ) where
+    pub no-region : leb t lastTable ≡ false → eqb (length region) regionSize ≡ false → NoBlock Region ≡ blockAnswer region n i t
+    unfolding blockAnswer namedIf
     no-region h e = rw (h, e)
 
-    pub no-table : leb t lastTable ≡ false → eqb (length region) regionSize ≡ true → Refused Argument ≡ bankRowAnswer region n i t offset capacity slots
-    unfolding bankRowAnswer namedIf
+    pub no-table : leb t lastTable ≡ false → eqb (length region) regionSize ≡ true → NoBlock Argument ≡ blockAnswer region n i t
+    unfolding blockAnswer namedIf
     no-table h e = rw (h, e)
 
+  module _ (t offset capacity slots : ℕ) where
     named-too : leb t lastTable ≡ true → (v : Validated) → named region n ≡ v → namedIf (leb t lastTable) region n ≡ v
     unfolding namedIf
     named-too h v e = rw h e
@@ -75,33 +80,72 @@ module _ (region : List ℕ) (n i : ℕ) where
     unfolding valuesIn
     is-values b h e = sym (ap (thenValues region i t offset) (named-too h (Good b) e))
 
-    pub refused : leb t lastTable ≡ true → (r : Refusal) → sourceAnswer region n i .outcome ≡ NoSource r → Refused r ≡ bankRowAnswer region n i t offset capacity slots
-    unfolding sourceAnswer bankRowAnswer
-    refused h r q = by (named region n) refl q
-      where
-        by : (v : Validated) → named region n ≡ v → thenSource region i v .outcome ≡ NoSource r → Refused r ≡ thenRow region i t offset capacity slots (namedIf (leb t lastTable) region n)
-        by (Bad x) e j = let k : x ≡ r = cc in sym (ap (thenRow region i t offset capacity slots) (named-too h (Bad x) e) ∙ ap Refused k)
-        by (Good b) e j = go (ltb i (b .count)) refl j
-          where
-            go : (s : Bool) → ltb i (b .count) ≡ s → thenSource region i (Good b) .outcome ≡ NoSource r → Refused r ≡ thenRow region i t offset capacity slots (namedIf (leb t lastTable) region n)
-            go true l m = absurd (let z : _≡_ {A = ℕ} 0 1 = cc in omega arith)
-            go false l m = let k : NoSuchSource ≡ r = cc in sym (ap (thenRow region i t offset capacity slots) (named-too h (Good b) e) ∙ rw l (ap Refused k))
+-- the block that is found, and what `source` refuses
+module _ (region : List ℕ) (n i t : ℕ) (h : leb t lastTable ≡ true) where
+  if-named : (v : Validated) → named region n ≡ v → namedIf (leb t lastTable) region n ≡ v
+  unfolding namedIf
+  if-named v e = rw h e
 
--- the table that is read is the one asked for
-its-table : (region : List ℕ) (n i t : ℕ) (s : There region n i) → bytesOf region n (getD (sourceAnswer region n i .source .tables) t noBlock) ≡ tableIn region (s .bank) i t
-its-table region n i t s = rw (s .is-source, its-number region n (s .bank) (s .is-named))
+  pub is-block : sourceAnswer region n i .outcome ≡ Done → Found (getD (sourceAnswer region n i .source .tables) t noBlock) ≡ blockAnswer region n i t
+  unfolding blockAnswer
+  is-block q =
+      let s = there region n i q in
+      ap (λ (x : Source). Found (getD (x .tables) t noBlock)) (s .is-source) ∙ sym (ap (thenBlock region i t) (if-named (Good (s .bank)) (s .is-named)) ∙ rw (s .below))
 
--- if the source is there and the table's bytes are read, answer and values are those asked for
+  pub refused : (r : Refusal) → sourceAnswer region n i .outcome ≡ NoSource r → NoBlock r ≡ blockAnswer region n i t
+  unfolding sourceAnswer blockAnswer
+  refused r q = by (named region n) refl q
+    where
+      by : (v : Validated) → named region n ≡ v → thenSource region i v .outcome ≡ NoSource r → NoBlock r ≡ thenBlock region i t (namedIf (leb t lastTable) region n)
+      by (Bad x) e j = let k : x ≡ r = cc in sym (ap (thenBlock region i t) (if-named (Bad x) e) ∙ ap NoBlock k)
+      by (Good b) e j = go (ltb i (b .count)) refl j
+        where
+          go : (s : Bool) → ltb i (b .count) ≡ s → thenSource region i (Good b) .outcome ≡ NoSource r → NoBlock r ≡ thenBlock region i t (namedIf (leb t lastTable) region n)
+          go true l m = absurd (let z : _≡_ {A = ℕ} 0 1 = cc in omega arith)
+          go false l m = let k : NoSuchSource ≡ r = cc in sym (ap (thenBlock region i t) (if-named (Good b) e) ∙ rw l (ap NoBlock k))
+
+-- the row by its table's block: answer and values are those asked for
 pub record IsRow (region : List ℕ) (n i t offset capacity slots : ℕ) (stored : List ℕ) (width : ℕ) : Type 0 where
   pub answer : readAnswer stored width offset capacity slots ≡ bankRowAnswer region n i t offset capacity slots
   pub values : valuesAt stored width offset ≡ valuesIn region n i t offset
 
-pub is-row : (region : List ℕ) (n i t offset capacity slots : ℕ) (stored : List ℕ) (width : ℕ) → leb t lastTable ≡ true → sourceAnswer region n i .outcome ≡ Done
-    → stored ≡ bytesOf region n (getD (sourceAnswer region n i .source .tables) t noBlock) → width ≡ columnCount t → IsRow region n i t offset capacity slots stored width
-is-row region n i t offset capacity slots stored width h q e w =
-    let s = there region n i q in
-    let k : stored ≡ tableIn region (s .bank) i t = e ∙ its-table region n i t s in
-    record {
-      answer = (λ j. readAnswer (k j) (w j) offset capacity slots) ∙ is-answer region n i t offset capacity slots (s .bank) h (s .is-named) (s .below);
-      values = (λ j. valuesAt (k j) (w j) offset) ∙ is-values region n i t offset capacity slots (s .bank) h (s .is-named);
-    }
+module _ (region : List ℕ) (n i t offset capacity slots : ℕ) where
+  -- a bank that passes has the number asked for
+  named-number : (f : Bool) (b : Bank) → namedIf f region n ≡ Good b → b .number ≡ n
+  unfolding namedIf
+  named-number true b e = its-number region n b e
+  named-number false b e = by (eqb (length region) regionSize) e
+    where
+      by : (s : Bool) → pick s (Bad Argument) (Bad Region) ≡ Good b → b .number ≡ n
+      by true k = absurd (let z : _≡_ {A = ℕ} 0 1 = cc in omega arith)
+      by false k = absurd (let z : _≡_ {A = ℕ} 0 1 = cc in omega arith)
+
+  pub block-row : (k : Block) → blockAnswer region n i t ≡ Found k → IsRow region n i t offset capacity slots (bytesOf region n k) (columnCount t)
+  unfolding blockAnswer bankRowAnswer valuesIn
+  block-row k q = by (namedIf (leb t lastTable) region n) refl q
+    where
+      by : (v : Validated) → namedIf (leb t lastTable) region n ≡ v → thenBlock region i t v ≡ Found k → IsRow region n i t offset capacity slots (bytesOf region n k) (columnCount t)
+      by (Bad x) e j = absurd (let z : _≡_ {A = ℕ} 0 1 = cc in omega arith)
+      by (Good b) e j = go (ltb i (b .count)) refl j
+        where
+          go : (s : Bool) → ltb i (b .count) ≡ s → pick s (Found (getD (sourceIn region b i .tables) t noBlock)) (NoBlock NoSuchSource) ≡ Found k → IsRow region n i t offset capacity slots (bytesOf region n k) (columnCount t)
+          go true l m =
+              let g : getD (sourceIn region b i .tables) t noBlock ≡ k = cc in
+              let w : bytesOf region n k ≡ tableIn region b i t = λ u. bytesOf region (sym (named-number (leb t lastTable) b e) u) (sym g u) in
+              record {
+                answer = ap (λ (xs : List ℕ). readAnswer xs (columnCount t) offset capacity slots) w ∙ sym (ap (thenRow region i t offset capacity slots) e ∙ rw l);
+                values = ap (λ (xs : List ℕ). valuesAt xs (columnCount t) offset) w ∙ sym (ap (thenValues region i t offset) e);
+              }
+          go false l m = absurd (let z : _≡_ {A = ℕ} 0 1 = cc in omega arith)
+
+  pub block-refused : (r : Refusal) → blockAnswer region n i t ≡ NoBlock r → Refused r ≡ bankRowAnswer region n i t offset capacity slots
+  unfolding blockAnswer bankRowAnswer
+  block-refused r q = by (namedIf (leb t lastTable) region n) q
+    where
+      by : (v : Validated) → thenBlock region i t v ≡ NoBlock r → Refused r ≡ thenRow region i t offset capacity slots v
+      by (Bad x) j = let k : x ≡ r = cc in ap Refused (sym k)
+      by (Good b) j = go (ltb i (b .count)) j
+        where
+          go : (s : Bool) → pick s (Found (getD (sourceIn region b i .tables) t noBlock)) (NoBlock NoSuchSource) ≡ NoBlock r → Refused r ≡ pick s (readAnswer (tableIn region b i t) (columnCount t) offset capacity slots) (Refused NoSuchSource)
+          go true m = absurd (let z : _≡_ {A = ℕ} 0 1 = cc in omega arith)
+          go false m = let k : NoSuchSource ≡ r = cc in ap Refused (sym k)

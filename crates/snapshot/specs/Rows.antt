@@ -11,6 +11,8 @@ use Rattle.header.specs.declared.Bank.{Bank}
 use Rattle.header.specs.declared.Validated.{Validated}
 use Rattle.header.specs.declared.Validated.the-variants.{Good, Refused as Bad}
 use Rattle.region.specs.Region.{sectorSize, bankOf}
+use Rattle.snapshot.specs.declared.rows.BlockAnswer.{BlockAnswer}
+use Rattle.snapshot.specs.declared.rows.BlockAnswer.the-variants.{Found, Refused as NoBlock}
 use Rattle.snapshot.specs.Source.{sourceIn}
 use Rattle.snapshot.specs.Freshness.{namedIf}
 use Rattle.row.specs.Columns.{columnCount}
@@ -26,6 +28,14 @@ bytesOf region n b = take (b .length) (drop (sectorSize + b .offset) (bankOf reg
 -- the bytes of a table of the source at an index; an absent table's block has the length 0, and so no bytes
 abbrev pub tableIn : List ℕ → Bank → ℕ → ℕ → List ℕ
 tableIn region b i t = bytesOf region (b .number) (getD (sourceIn region b i .tables) t noBlock)
+
+-- the block of a table of a source: 1, 2 (bank and table), 3 to 6, 6 at or past the count
+abbrev pub thenBlock : List ℕ → ℕ → ℕ → Validated → BlockAnswer
+thenBlock region i t (Good b) = pick (ltb i (b .count)) (Found (getD (sourceIn region b i .tables) t noBlock)) (NoBlock NoSuchSource)
+thenBlock region i t (Bad r) = NoBlock r
+
+unfoldable pub blockAnswer : List ℕ → ℕ → ℕ → ℕ → BlockAnswer
+blockAnswer region n i t = thenBlock region i t (namedIf (leb t lastTable) region n)
 
 -- 6 for a source at or past the count; then the answer of the reader: 14, 9, no row at the table's end, or the row
 abbrev pub thenRow : List ℕ → ℕ → ℕ → ℕ → ℕ → ℕ → Validated → ReadAnswer

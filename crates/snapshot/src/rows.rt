@@ -4,7 +4,7 @@ ghost use Prim.Native.Nat.{_≤_};
 ghost use lib.ListN.{length, getD};
 ghost use Rattle.record.specs.Record.{noBlock};
 ghost use Rattle.rowread.specs.Stored.{joined, endsOf, after};
-ghost use Rattle.snapshot.specs.Rows.{bytesOf, valuesIn, bankRowAnswer};
+ghost use Rattle.snapshot.specs.Rows.{bytesOf, blockAnswer, valuesIn, bankRowAnswer};
 ghost use Rattle.base.specs.Table.{lastTable};
 use crate::Outcome;
 use base::slice::part;
@@ -30,12 +30,40 @@ fn block_of(s: Source, table: u32) -> Block
 }
 
 // The bytes of a block of a bank.
-fn bytes_of(region: &[u8], number: u32, b: Block) -> &[u8]
+pub fn bytes_of(region: &[u8], number: u32, b: Block) -> &[u8]
     ensures { λ r. ⌜ now r ≡ bytesOf (now (region .entry)) number b ⌝ }
 {
     let l = bank_of(region, number);
     let at = SECTOR_SIZE + b.offset as usize;
     part(l, at, b.length as usize)
+}
+
+// A table's block, or a refusal.
+pub enum BlockAnswer {
+    Found(Block),
+    Refused(Refusal),
+}
+
+// The block of a table of a bank's source.
+pub fn table_block(region: &[u8], number: u32, source: u32, table: u32) -> BlockAnswer
+    ensures { λ r. ⌜ r ≡ blockAnswer (now (region .entry)) number source table ⌝ }
+{
+    if LAST_TABLE < table {
+        if region.len() != REGION_SIZE {
+            return BlockAnswer::Refused(Refusal::Region);
+        }
+        return BlockAnswer::Refused(Refusal::Argument);
+    }
+    let a = crate::source::source(region, number, source);
+    let o = a.outcome;
+    match o {
+        Outcome::Done => {
+            let s = a.source;
+            let b = block_of(s, table);
+            BlockAnswer::Found(b)
+        }
+        Outcome::Refused(r) => BlockAnswer::Refused(r),
+    }
 }
 
 // Reads the row at an offset of a table of a bank's source: its values, joined, to out, and where each ends to ends.
@@ -50,22 +78,13 @@ pub fn bank_row(
 ) -> ReadAnswer
     ensures { λ r. ⌜ (r ≡ bankRowAnswer (now (region .entry)) number source table offset (length (now (out .entry))) (length (now (ends .entry)))) × (now (out .exit) ≡ after r (joined (valuesIn (now (region .entry)) number source table offset)) (now (out .entry))) × (now (ends .exit) ≡ after r (endsOf 0 (valuesIn (now (region .entry)) number source table offset)) (now (ends .entry))) ⌝ }
 {
-    if LAST_TABLE < table {
-        if region.len() != REGION_SIZE {
-            return ReadAnswer::Refused(Refusal::Region);
-        }
-        return ReadAnswer::Refused(Refusal::Argument);
-    }
-    let a = crate::source::source(region, number, source);
-    let o = a.outcome;
-    match o {
-        Outcome::Done => {
-            let s = a.source;
-            let b = block_of(s, table);
+    let a = table_block(region, number, source, table);
+    match a {
+        BlockAnswer::Found(b) => {
             let stored = bytes_of(region, number, b);
             let width = column_count(table);
             read_row(stored, width, offset, out, ends)
         }
-        Outcome::Refused(r) => ReadAnswer::Refused(r),
+        BlockAnswer::Refused(r) => ReadAnswer::Refused(r),
     }
 }

@@ -1,11 +1,11 @@
--- The slice between two offsets of the constant is the table's names line (`stands`). An output that is too small is refused and unchanged
+-- The slice between two offsets of the constant is the table's names line (`line-at`). An output that is too small is refused and unchanged
 -- (`too-small`), else the line is copied (`put-there`).
 use mathlib.Core.Path.{_≡_, ap, _∙_}
 use Prim.Native.Nat.{_+_, _-_}
 use native.Mathlib.Omega.{arith}
 use lib.ListN.{length, take, drop, getD}
 use Rattle.row.specs.Columns.{namesLine}
-use Rattle.row.proofs.Names.{starts, stands}
+use Rattle.row.proofs.Names.{starts, line-at}
 use Rattle.row.proofs.Calls.{too-small, put-there}
 use borrow.Author.Needs.{needs}
 use Rattle.row.proofs.put_line.Statement.{statement}
@@ -30,28 +30,28 @@ sub-names : tie.Need-sub-names
 sub-names c =
     let a = c .before .before .args in
     let p = c .before .before .pre in
-    let s = stands (a .table) (p .1) in
+    let s = line-at (a .table) (p .1) in
     s .rises
 
 part-names-start : tie.Need-part-names-start
 part-names-start c =
     let a = c .before .before .args in
     let p = c .before .before .pre in
-    let s = stands (a .table) (p .1) in
+    let s = line-at (a .table) (p .1) in
     s .rises
 
 part-names-end : tie.Need-part-names-end
 part-names-end c =
     let a = c .before .before .args in
     let p = c .before .before .pre in
-    let s = stands (a .table) (p .1) in
+    let s = line-at (a .table) (p .1) in
     rw (p .0) (s .inside)
 
 returns : tie.Need-returns
 returns c =
     let a = c .before .before .before .before .args in
     let p = c .before .before .before .before .pre in
-    let s = stands (a .table) (p .1) in
+    let s = line-at (a .table) (p .1) in
     let e : take (getD starts (a .table + 1) 0 - getD starts (a .table) 0) (drop (getD starts (a .table) 0) (a .all .now)) ≡ namesLine (a .table) = rw (p .0) (s .is) in
     too-small (namesLine (a .table)) (a .out .now) (omega (arith, ap length e, c .if1 .taken))
 
@@ -65,7 +65,7 @@ returns-2 : tie.Need-returns-2
 returns-2 c =
     let a = c .before .before .before .before .before .before .before .before .args in
     let p = c .before .before .before .before .before .before .before .before .pre in
-    let s = stands (a .table) (p .1) in
+    let s = line-at (a .table) (p .1) in
     let e : take (getD starts (a .table + 1) 0 - getD starts (a .table) 0) (drop (getD starts (a .table) 0) (a .all .now)) ≡ namesLine (a .table) = rw (p .0) (s .is) in
     put-there (namesLine (a .table)) (a .out .now) _ _ (ap length e) (omega (arith, ap length e, c .before .before .before .before .if1 .left)) (c .before .before .copy .ensures ∙ rw e)
 

@@ -10,7 +10,7 @@ use Rattle.csv.specs.Write.{fieldOf, rowOf, delimiter}
 use Rattle.row.specs.Write.{passedValues}
 use Rattle.row.specs.Steps.{Sizes}
 use borrow.Author.Needs.{needs}
-use Rattle.row.proofs.Laws.{left, left-turn, left-behind, size-turn, value-size, put-turn, none-sets, sizes-turn}
+use Rattle.row.proofs.Laws.{left, left-turn, left-delimiter, size-turn, value-size, put-turn, none-sets, sizes-turn}
 use Rattle.row.proofs.write.put_row.Statement.{statement}
 use Rattle.row.proofs.write.put_row.Tie as tie
 
@@ -133,7 +133,7 @@ loop-again c =
     let s = sizes-turn (a .sizes .now) (l .k) _ _ v t (l .inv .5) in
     let f = c .before .before .before .put-field .ensures in
     let m : length (sets (l .out) (l .to) (fieldOf v)) ≡ length (a .out .now) = length-sets (l .out) (l .to) (fieldOf v) ∙ l .inv .2 in
-    let d = left-behind (a .texts .now) (a .lengths .now) (l .k + 1) (l .from + n) (omega arith) in
+    let d = left-delimiter (a .texts .now) (a .lengths .now) (l .k + 1) (l .from + n) (omega arith) in
     let g = length-set (sets (l .out) (l .to) (fieldOf v)) (l .to + length (fieldOf v)) (delimiter (left (a .texts .now) (a .lengths .now) (l .k + 1) (l .from + n))) in
     rw (f, s .0, c .end-byte .ensures, d)
     (omega arith, omega (arith, q), g ∙ m, omega (arith, l .inv .3, z, g, m, l .inv .2), l .inv .4 ∙ put-turn (a .texts .now) (a .lengths .now) (l .k) (l .from) n h (l .inv .1) q (l .out) (l .to), s .1)
