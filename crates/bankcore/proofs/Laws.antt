@@ -1,6 +1,5 @@
--- The tail that is returned to C. It is set from the parts or left as it was without looking at the answer; either way it is the
--- definition's, since refused bytes and due calls leave the tail.
-use mathlib.Core.Path.{_≡_, refl, sym, ap, _∙_}
+-- What C gets back. Sources and tail are returned without looking at the answer. Either way they are the definition's, since a refused call leaves both.
+use mathlib.Core.Path.{_≡_, refl, sym}
 use mathlib.Core.Bool.{Bool, true, false, false≢true}
 use mathlib.Core.List.{List}
 use Prim.Native.Nat.{ℕ, _+_}
@@ -9,45 +8,25 @@ use lib.ListN.{length, take}
 use Rattle.base.specs.Number.{pick}
 use Rattle.refusal.specs.declared.Refusal.the-variants.{Full, Turn}
 use Rattle.writer.specs.declared.Writer.{Writer}
-use Rattle.writer.specs.declared.Answer.the-variants.{Appended}
-use Rattle.writer.specs.declared.Step.{Step}
-use Rattle.writer.specs.State.{stays, position, isDue}
+use Rattle.writer.specs.declared.Answer.{Answer}
+use Rattle.writer.specs.declared.Answer.the-variants.{Done, Appended, NoneDue, Same, Different, Refused}
+use Rattle.writer.specs.State.{stays, position, isDue, isDone}
 use Rattle.lower.specs.Lower.{mayAppend, accepted, withBytes, appended, bytesStep}
-use Rattle.due.specs.Due.{dueStep}
-use Rattle.due.proofs.Laws.{due-rest}
-use Rattle.cstate.specs.declared.State.{State}
-use Rattle.cstate.specs.declared.UpdateStep.{UpdateStep}
-use Rattle.cstate.specs.State.{savedOf, writerOf}
-use Rattle.cstate.specs.Answers.{isAnswer, after}
+use Rattle.rowread.specs.declared.ReadAnswer.{ReadAnswer}
+use Rattle.rowread.specs.declared.ReadAnswer.the-variants.{Stored, End, Refused as NoRow}
+use Rattle.cstate.specs.Answers.{isAnswer}
+use Rattle.bankcore.specs.BankAnswers.{ofBankRow, asBankRow}
+use Rattle.bankcore.specs.RowAnswers.{ofRead}
 use Rattle.region.specs.Region.{capacity}
 
--- what is returned, with its own tail
-abbrev pub with-tail : List ℕ → UpdateStep → UpdateStep
-with-tail tail x =
-    record {
-      numbers = x .numbers;
-      state =
-          record {
-            stage = x .state .stage;
-            first = x .state .first;
-            second = x .state .second;
-            active = x .state .active;
-            bank = x .state .bank;
-            now = x .state .now;
-            comparing = x .state .comparing;
-            written = x .state .written;
-            fill = x .state .fill;
-            crc = x .state .crc;
-            different = x .state .different;
-            closed = x .state .closed;
-            tables = x .state .tables;
-            sources = x .state .sources;
-            tail = tail;
-          };
-    }
-
-same : (x : UpdateStep) {tail : List ℕ} → x .state .tail ≡ tail → with-tail tail x ≡ x
-same x p = sym (λ i. with-tail (p i) x)
+-- a refused call isn't done
+pub not-done : (a : Answer) → isAnswer a ≡ false → isDone a ≡ false
+not-done Done e = absurd (false≢true (sym e))
+not-done (Appended n) e = refl
+not-done NoneDue e = refl
+not-done Same e = refl
+not-done Different e = refl
+not-done (Refused r) e = refl
 
 module _ (w : Writer) where
   refused-by : (m f d : Bool) (n : ℕ) (v : Writer) → let s = pick m (pick f (pick d (record { answer = Appended 0; writer = w }) (record { answer = Appended n; writer = v })) (stays w Full)) (stays w Turn) in isAnswer (s .answer) ≡ false → s .writer .tail ≡ w .tail
@@ -57,28 +36,14 @@ module _ (w : Writer) where
   refused-by false f d n v e = refl
 
   -- refused bytes leave the tail
-  refused-tail : (xs : List ℕ) → isAnswer (bytesStep w xs .answer) ≡ false → bytesStep w xs .writer .tail ≡ w .tail
+  pub refused-bytes : (xs : List ℕ) → isAnswer (bytesStep w xs .answer) ≡ false → bytesStep w xs .writer .tail ≡ w .tail
   unfolding bytesStep appended
-  refused-tail xs e =
+  refused-bytes xs e =
       let n = accepted (w .contents) (length xs) in
       refused-by (mayAppend w) (leb (position (w .contents) + length xs) capacity) (isDue (w .contents)) n (withBytes w (take n xs)) e
 
-module _ (w : Writer) (was : State) where
-  tail-by : (b : Bool) → (b ≡ false → w .tail ≡ was .tail) → pick b (savedOf w) was .tail ≡ w .tail
-  unfolding savedOf
-  tail-by true e = refl
-  tail-by false e = sym (e refl)
-
-module _ (was : State) where
-  pub bytes-tail : (xs : List ℕ) → let s = bytesStep (writerOf was) xs in with-tail (s .writer .tail) (after s was) ≡ after s was
-  unfolding writerOf
-  bytes-tail xs =
-      let s = bytesStep (writerOf was) xs in
-      same (after s was) (tail-by (s .writer) was (isAnswer (s .answer)) (refused-tail (writerOf was) xs))
-
-  pub due-tail : (region : List ℕ) → let s = dueStep region (writerOf was) in with-tail (was .tail) (after s was) ≡ after s was
-  unfolding writerOf
-  due-tail region =
-      let s = dueStep region (writerOf was) in
-      let e : s .writer .tail ≡ was .tail = sym (ap (λ (t : Step). t .writer .tail) (due-rest region (writerOf was))) in
-      same (after s was) (tail-by (s .writer) was (isAnswer (s .answer)) (λ b. e) ∙ e)
+-- a row's numbers are the same for a bank's row
+pub as-row : (x : ReadAnswer) → asBankRow (ofRead x) ≡ ofBankRow x
+as-row (Stored next size) = refl
+as-row End = refl
+as-row (NoRow r) = refl

@@ -32,6 +32,7 @@ use Rattle.rowread.specs.declared.ReadAnswer.{ReadAnswer}
 use Rattle.rowread.specs.declared.ReadAnswer.the-variants.{Stored, End, Refused as NoRow}
 use Rattle.bankcore.specs.declared.bank_calls.BankNumbers.{BankNumbers}
 use Rattle.bankcore.specs.declared.bank_calls.BankRowNumbers.{BankRowNumbers}
+use Rattle.bankcore.specs.declared.row_calls.ReadNumbers.{ReadNumbers}
 use Rattle.bankcore.specs.declared.bank_calls.FreshNumbers.{FreshNumbers}
 use Rattle.bankcore.specs.declared.bank_calls.KeyNumbers.{KeyNumbers}
 use Rattle.bankcore.specs.declared.bank_calls.MatchNumbers.{MatchNumbers}
@@ -114,7 +115,14 @@ outputOf out a Done = written out 0 (sourceBytes (a .source))
 outputOf out a (NoSource r) = out
 
 -- a row of a bank: found is 1 if one was read; at the table's end all are 0
+abbrev pub noBankRow : ℕ → BankRowNumbers
+noBankRow r = record { refusal = r; found = 0; next = 0; size = 0 }
+
 abbrev pub ofBankRow : ReadAnswer → BankRowNumbers
 ofBankRow (Stored next size) = record { refusal = 0; found = 1; next = next; size = size }
-ofBankRow End = record { refusal = 0; found = 0; next = 0; size = 0 }
-ofBankRow (NoRow r) = record { refusal = numberOf r; found = 0; next = 0; size = 0 }
+ofBankRow End = noBankRow 0
+ofBankRow (NoRow r) = noBankRow (numberOf r)
+
+-- the same numbers as those of a row that is read
+abbrev pub asBankRow : ReadNumbers → BankRowNumbers
+asBankRow x = record { refusal = x .refusal; found = x .found; next = x .next; size = x .size }

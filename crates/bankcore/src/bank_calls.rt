@@ -16,6 +16,8 @@ ghost use Rattle.bankcore.specs.BankAnswers as Answers;
 ghost use Rattle.record.specs.Record.{recordSize};
 ghost use Rattle.refusal.specs.Refusal.{numberOf};
 ghost use Rattle.refusal.specs.declared.Refusal.the-variants.{Small};
+use crate::row_calls::ReadNumbers;
+use crate::row_calls::tt_read_row;
 use bank::Loaded;
 use bank::turns::Checking;
 use bank::turns::Progress;
@@ -27,11 +29,14 @@ use key::SameKey;
 use record::RECORD_SIZE;
 use refusal::Refusal;
 use refusal::number_of;
-use rowread::ReadAnswer;
+use row::column_count;
 use snapshot::Outcome;
 use snapshot::freshness::Day;
 use snapshot::freshness::Days;
 use snapshot::freshness::FreshAnswer;
+use snapshot::rows::BlockAnswer;
+use snapshot::rows::bytes_of;
+use snapshot::rows::table_block;
 
 // A bank's numbers, if found; `key` is the key's length.
 #[repr(C)]
@@ -215,28 +220,26 @@ fn of_turn(t: Turn) -> TurnNumbers
     }
 }
 
-fn of_bank_row(x: ReadAnswer) -> BankRowNumbers
-    ensures { λ r. ⌜ r ≡ Answers.ofBankRow x ⌝ }
+// No row: a refusal.
+fn no_bank_row(r: u32) -> BankRowNumbers
+    ensures { λ x. ⌜ x ≡ Answers.noBankRow r ⌝ }
 {
-    match x {
-        ReadAnswer::Stored { next, size } => BankRowNumbers {
-            refusal: 0,
-            found: 1,
-            next,
-            size,
-        },
-        ReadAnswer::End => BankRowNumbers {
-            refusal: 0,
-            found: 0,
-            next: 0,
-            size: 0,
-        },
-        ReadAnswer::Refused(r) => BankRowNumbers {
-            refusal: number_of(r),
-            found: 0,
-            next: 0,
-            size: 0,
-        },
+    BankRowNumbers {
+        refusal: r,
+        found: 0,
+        next: 0,
+        size: 0,
+    }
+}
+
+fn of_bank_row(x: ReadNumbers) -> BankRowNumbers
+    ensures { λ r. ⌜ r ≡ Answers.asBankRow x ⌝ }
+{
+    BankRowNumbers {
+        refusal: x.refusal,
+        found: x.found,
+        next: x.next,
+        size: x.size,
     }
 }
 
@@ -393,5 +396,14 @@ pub extern "C" fn tt_bank_row(
     ensures { λ _. ⌜ now (out .exit) ≡ Stored.after (Rows.bankRowAnswer (now (region .entry)) bank source table place (length (now (out .entry))) (length (now (ends .entry)))) (Stored.joined (Rows.valuesIn (now (region .entry)) bank source table place)) (now (out .entry)) ⌝ }
     ensures { λ _. ⌜ now (ends .exit) ≡ Stored.after (Rows.bankRowAnswer (now (region .entry)) bank source table place (length (now (out .entry))) (length (now (ends .entry)))) (Stored.endsOf 0 (Rows.valuesIn (now (region .entry)) bank source table place)) (now (ends .entry)) ⌝ }
 {
-    of_bank_row(snapshot::rows::bank_row(region, bank, source, table, place, out, ends))
+    let a = table_block(region, bank, source, table);
+    match a {
+        BlockAnswer::Found(b) => {
+            let stored = bytes_of(region, bank, b);
+            let width = column_count(table);
+            // called here, and not `read_row`, so that the reader has one caller and is inlined there
+            of_bank_row(tt_read_row(stored, width, place, out, ends))
+        }
+        BlockAnswer::Refused(r) => no_bank_row(number_of(r)),
+    }
 }

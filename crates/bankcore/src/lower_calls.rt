@@ -13,12 +13,20 @@ use cstate::State;
 use cstate::UpdateStep;
 use cstate::after;
 use cstate::after_parts;
+use cstate::beginning_of;
 use cstate::parts_of;
 use cstate::writer_of;
 use due::due_parts;
 use lower::append::append_parts;
+use lower::begin::close_parts;
+use lower::source::source_parts;
+use lower::source::sources_with;
+use lower::table::end_parts;
+use lower::table::sources_ended;
+use lower::table::table_parts;
 use record::VERSION;
 use record::decode;
+use writer::is_done;
 
 // Begins an update: loads the region; in comparing mode nothing is written. It appends no key.
 #[no_mangle]
@@ -40,8 +48,14 @@ pub extern "C" fn tt_update_source(state: State, bytes: &[u8]) -> UpdateStep
     ensures { λ x. ⌜ x ≡ Answers.after (Lower.sourceStep (writerOf state) (decoded currentVersion (now (bytes .entry)))) state ⌝ }
 {
     let r = decode(bytes, VERSION);
-    let s = lower::source::source(writer_of(state), r);
-    after(s, state)
+    let b = beginning_of(state);
+    let p = parts_of(state);
+    let s = source_parts(b, p);
+    let answer = s.answer;
+    let old = state.sources;
+    let sources = sources_with(is_done(answer), old, p.tables, r);
+    let tail = state.tail;
+    after_parts(b, s, sources, tail, state)
 }
 
 // Begins a table of the last source.
@@ -49,8 +63,12 @@ pub extern "C" fn tt_update_source(state: State, bytes: &[u8]) -> UpdateStep
 pub extern "C" fn tt_update_table(state: State, table: u32) -> UpdateStep
     ensures { λ x. ⌜ x ≡ Answers.after (Lower.tableStep (writerOf state) table) state ⌝ }
 {
-    let s = lower::table::table(writer_of(state), table);
-    after(s, state)
+    let b = beginning_of(state);
+    let p = parts_of(state);
+    let s = table_parts(b, p, table);
+    let sources = state.sources;
+    let tail = state.tail;
+    after_parts(b, s, sources, tail, state)
 }
 
 // Appends bytes until the tail is full, and says how many; none while an operation is due.
@@ -58,16 +76,12 @@ pub extern "C" fn tt_update_table(state: State, table: u32) -> UpdateStep
 pub extern "C" fn tt_update_bytes(state: State, bytes: &[u8]) -> UpdateStep
     ensures { λ x. ⌜ x ≡ Answers.after (Lower.bytesStep (writerOf state) (now (bytes .entry))) state ⌝ }
 {
+    let b = beginning_of(state);
     let p = parts_of(state);
-    let s = append_parts(p, bytes);
-    // the tail is that of the parts, also on a refusal
-    let q = s.parts;
-    let tail = q.tail;
-    let x = after_parts(s, state);
-    let numbers = x.numbers;
-    let mut v = x.state;
-    v.tail = tail;
-    UpdateStep { numbers, state: v }
+    let mut tail = state.tail;
+    let s = append_parts(b, p, &mut tail, bytes);
+    let sources = state.sources;
+    after_parts(b, s, sources, tail, state)
 }
 
 // Ends the open table.
@@ -75,8 +89,15 @@ pub extern "C" fn tt_update_bytes(state: State, bytes: &[u8]) -> UpdateStep
 pub extern "C" fn tt_update_end(state: State) -> UpdateStep
     ensures { λ x. ⌜ x ≡ Answers.after (Lower.endStep (writerOf state)) state ⌝ }
 {
-    let s = lower::table::end(writer_of(state));
-    after(s, state)
+    let b = beginning_of(state);
+    let p = parts_of(state);
+    let e = end_parts(b, p);
+    let s = e.step;
+    let answer = s.answer;
+    let old = state.sources;
+    let sources = sources_ended(is_done(answer), old, p.tables, e.block);
+    let tail = state.tail;
+    after_parts(b, s, sources, tail, state)
 }
 
 // Closes the update: the bytes in the tail are then due.
@@ -84,8 +105,12 @@ pub extern "C" fn tt_update_end(state: State) -> UpdateStep
 pub extern "C" fn tt_update_close(state: State) -> UpdateStep
     ensures { λ x. ⌜ x ≡ Answers.after (Lower.closeStep (writerOf state)) state ⌝ }
 {
-    let s = lower::begin::close(writer_of(state));
-    after(s, state)
+    let b = beginning_of(state);
+    let p = parts_of(state);
+    let s = close_parts(b, p);
+    let sources = state.sources;
+    let tail = state.tail;
+    after_parts(b, s, sources, tail, state)
 }
 
 // Does the erase, write or comparison that is due, or says that none is.
@@ -94,15 +119,12 @@ pub extern "C" fn tt_update_due(region: &mut [u8], state: State) -> UpdateStep
     ensures { λ x. ⌜ x ≡ Answers.after (Due.dueStep (now (region .entry)) (writerOf state)) state ⌝ }
     ensures { λ _. ⌜ now (region .exit) ≡ Due.dueRegion (now (region .entry)) (writerOf state) ⌝ }
 {
+    let b = beginning_of(state);
     let p = parts_of(state);
-    let s = due_parts(p, region);
-    // the tail is unchanged
     let tail = state.tail;
-    let x = after_parts(s, state);
-    let numbers = x.numbers;
-    let mut v = x.state;
-    v.tail = tail;
-    UpdateStep { numbers, state: v }
+    let s = due_parts(b, p, &tail, region);
+    let sources = state.sources;
+    after_parts(b, s, sources, tail, state)
 }
 
 // Whether the update that was compared is the same as the active bank.

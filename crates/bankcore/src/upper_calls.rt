@@ -8,6 +8,7 @@ use cstate::State;
 use cstate::UpdateStep;
 use cstate::after;
 use cstate::after_parts;
+use cstate::beginning_of;
 use cstate::parts_of;
 use cstate::writer_of;
 use record::VERSION;
@@ -64,9 +65,12 @@ pub extern "C" fn tt_upper_row(
     ensures { λ x. ⌜ x ≡ Answers.after (Upper.upperStep (now (region .entry)) (writerOf state) (Upper.row (now (texts .entry)) (now (lengths .entry)))) state ⌝ }
     ensures { λ _. ⌜ now (region .exit) ≡ Upper.upperRegion (now (region .entry)) (writerOf state) (Upper.row (now (texts .entry)) (now (lengths .entry))) ⌝ }
 {
+    let b = beginning_of(state);
     let p = parts_of(state);
-    let s = row_parts(p, region, texts, lengths);
-    after_parts(s, state)
+    let mut tail = state.tail;
+    let s = row_parts(b, p, &mut tail, region, texts, lengths);
+    let sources = state.sources;
+    after_parts(b, s, sources, tail, state)
 }
 
 // Ends the open table.

@@ -1,8 +1,8 @@
-// A writer's state and a call's answer as plain numbers, for C. Any bytes are some State.
+// A writer's state and a call's answer as plain numbers, for C. Every bit pattern is a State.
 ghost use mathlib.Core.Path.{_≡_};
 ghost use Rattle.base.specs.Number.{pick};
 ghost use Rattle.writer.specs.declared.Stage.the-variants as Stages;
-ghost use Rattle.writer.specs.Parts.{partsOf, withSources, stepWith};
+ghost use Rattle.writer.specs.Parts.{partsOf, wholeOf};
 ghost use Rattle.cstate.specs.State as Saved;
 ghost use Rattle.cstate.specs.Answers as Answers;
 use bank::Loaded;
@@ -22,7 +22,7 @@ use writer::Step;
 use writer::TAIL_SIZE;
 use writer::Tables;
 use writer::Writer;
-use writer::with_sources;
+use writer::whole;
 
 // The numbers of stages.
 pub const IDLE_STAGE: u32 = 0;
@@ -45,15 +45,15 @@ pub const SOME_ACTIVE: u32 = 1;
 pub const REFUSED_ACTIVE: u32 = 2;
 
 // The numbers of answers.
-pub const IS_DONE: u32 = 0;
+pub const ANSWER_DONE: u32 = 0;
 
-pub const IS_APPENDED: u32 = 1;
+pub const ANSWER_APPENDED: u32 = 1;
 
-pub const IS_NONE_DUE: u32 = 2;
+pub const ANSWER_NONE_DUE: u32 = 2;
 
-pub const IS_SAME: u32 = 3;
+pub const ANSWER_SAME: u32 = 3;
 
-pub const IS_DIFFERENT: u32 = 4;
+pub const ANSWER_DIFFERENT: u32 = 4;
 
 // The stage is 0 idle, 1 an erase due, 2 a write due, 3 a comparison due, 4 header written, 5 committed. First is the due erase's sector
 // (0 is the header's), or the offset in the data of the due write or comparison, and second its length, without padding. Active is 0
@@ -122,18 +122,24 @@ fn is_set(flag: u32) -> bool
     !(flag == 0)
 }
 
-// The writer that a state means, without its sources.
+// What the beginning of a state's update fixed.
+pub fn beginning_of(s: State) -> Beginning
+    ensures { λ r. ⌜ r ≡ Saved.writerOf s .beginning ⌝ }
+{
+    let bank = s.bank;
+    let active = active_of(s.stage, s.active, bank);
+    Beginning {
+        active,
+        comparing: is_set(s.comparing),
+        now: s.now,
+    }
+}
+
+// The parts of the writer that a state means.
 pub fn parts_of(s: State) -> Parts
     ensures { λ r. ⌜ r ≡ partsOf (Saved.writerOf s) ⌝ }
 {
     let stage = stage_of(s.stage, s.first, s.second);
-    let bank = s.bank;
-    let active = active_of(s.stage, s.active, bank);
-    let beginning = Beginning {
-        active,
-        comparing: is_set(s.comparing),
-        now: s.now,
-    };
     let contents = Contents {
         written: s.written,
         fill: s.fill,
@@ -142,13 +148,10 @@ pub fn parts_of(s: State) -> Parts
         closed: is_set(s.closed),
     };
     let tables = s.tables;
-    let tail = s.tail;
     Parts {
         stage,
-        beginning,
         contents,
         tables,
-        tail,
     }
 }
 
@@ -156,9 +159,11 @@ pub fn parts_of(s: State) -> Parts
 pub fn writer_of(s: State) -> Writer
     ensures { λ r. ⌜ r ≡ Saved.writerOf s ⌝ }
 {
+    let b = beginning_of(s);
     let p = parts_of(s);
     let sources = s.sources;
-    with_sources(p, sources)
+    let tail = s.tail;
+    whole(b, p, sources, tail)
 }
 
 // A stage's number and the two numbers of its operation.
@@ -241,11 +246,10 @@ fn no_bank() -> Bank
 fn bank_in(l: Loaded) -> Bank
     ensures { λ r. ⌜ r ≡ Saved.bankIn l ⌝ }
 {
-    match l {
-        Loaded::Found(b) => b,
-        Loaded::Nothing => no_bank(),
-        Loaded::Refused(_) => no_bank(),
-    }
+    let Loaded::Found(b) = l else {
+        return no_bank();
+    };
+    b
 }
 
 fn flag(b: bool) -> u32
@@ -254,11 +258,10 @@ fn flag(b: bool) -> u32
     if b { 1 } else { 0 }
 }
 
-// The state of a writer's parts and sources.
-fn state_with(p: Parts, sources: [Source; SOURCES]) -> State
-    ensures { λ r. ⌜ r ≡ Saved.savedOf (withSources p sources) ⌝ }
+// The state of a writer, passed in its parts.
+fn state_with(b: Beginning, p: Parts, sources: [Source; SOURCES], tail: [u8; TAIL_SIZE]) -> State
+    ensures { λ r. ⌜ r ≡ Saved.savedOf (wholeOf b p sources tail) ⌝ }
 {
-    let b = p.beginning;
     let t = p.contents;
     let stage = p.stage;
     let n = stage_numbers(stage);
@@ -266,7 +269,6 @@ fn state_with(p: Parts, sources: [Source; SOURCES]) -> State
     let active = active_kind(loaded);
     let bank = bank_in(loaded);
     let tables = p.tables;
-    let tail = p.tail;
     State {
         stage: n.kind,
         first: n.first,
@@ -290,9 +292,11 @@ fn state_with(p: Parts, sources: [Source; SOURCES]) -> State
 pub fn state_of(w: Writer) -> State
     ensures { λ r. ⌜ r ≡ Saved.savedOf w ⌝ }
 {
+    let b = w.beginning;
     let p = writer::parts_of(w);
     let sources = w.sources;
-    state_with(p, sources)
+    let tail = w.tail;
+    state_with(b, p, sources, tail)
 }
 
 // An answer: 0 done, 1 bytes were appended, 2 none is due, 3 the same, 4 different. Count is the number of bytes appended.
@@ -334,11 +338,11 @@ fn of_answer(a: Answer) -> UpdateNumbers
     ensures { λ x. ⌜ x ≡ Answers.ofAnswer a ⌝ }
 {
     match a {
-        Answer::Done => done(IS_DONE, 0),
-        Answer::Appended(n) => done(IS_APPENDED, n),
-        Answer::NoneDue => done(IS_NONE_DUE, 0),
-        Answer::Same => done(IS_SAME, 0),
-        Answer::Different => done(IS_DIFFERENT, 0),
+        Answer::Done => done(ANSWER_DONE, 0),
+        Answer::Appended(n) => done(ANSWER_APPENDED, n),
+        Answer::NoneDue => done(ANSWER_NONE_DUE, 0),
+        Answer::Same => done(ANSWER_SAME, 0),
+        Answer::Different => done(ANSWER_DIFFERENT, 0),
         Answer::Refused(r) => refused(number_of(r)),
     }
 }
@@ -357,28 +361,35 @@ fn is_answer(a: Answer) -> bool
     }
 }
 
-// The state after a call on its parts.
-fn state_after(answer: Answer, p: Parts, state: State) -> State
-    ensures { λ r. ⌜ r ≡ pick (Answers.isAnswer answer) (Saved.savedOf (withSources p (state .sources))) state ⌝ }
+// The state after a call on its parts, with its own sources and tail; unchanged on a refusal.
+fn state_after(answer: Answer, b: Beginning, p: Parts, state: State) -> State
+    ensures { λ r. ⌜ r ≡ pick (Answers.isAnswer answer) (Saved.savedOf (wholeOf b p (state .sources) (state .tail))) state ⌝ }
 {
     if is_answer(answer) {
         let sources = state.sources;
-        return state_with(p, sources);
+        let tail = state.tail;
+        return state_with(b, p, sources, tail);
     }
     state
 }
 
-// What a call on a state's parts gives back; on a refusal the state is unchanged.
-pub fn after_parts(s: PartsStep, state: State) -> UpdateStep
-    ensures { λ x. ⌜ x ≡ Answers.after (stepWith s (state .sources)) state ⌝ }
+// What a call on a state's parts gives back. Sources and tail are those that the call left, which on a refusal are the state's own: not
+// choosing between them saves copies.
+pub fn after_parts(
+    b: Beginning,
+    s: PartsStep,
+    sources: [Source; SOURCES],
+    tail: [u8; TAIL_SIZE],
+    state: State,
+) -> UpdateStep
+    ensures { λ x. ⌜ x ≡ Answers.afterParts b s sources tail state ⌝ }
 {
     let a = s.answer;
     let p = s.parts;
     let numbers = of_answer(a);
-    // the sources are unchanged: copying them from the state itself in both cases saves copies
-    let sources = state.sources;
-    let mut v = state_after(a, p, state);
+    let mut v = state_after(a, b, p, state);
     v.sources = sources;
+    v.tail = tail;
     UpdateStep { numbers, state: v }
 }
 

@@ -7,15 +7,18 @@ use native.Mathlib.Omega.{arith}
 use native.Mathlib.Nat.{one-mul, lt-of-lt-of-le, div-lt-iff-lt-mul}
 use lib.Pow.{pow-pos, pow-mono}
 use lib.ListN.{length, take}
-use borrow.Author.Tests.{lt-ltb, le-ltb, le-leb, lt-leb}
+use lib.Dec.{leb}
+use borrow.Author.Tests.{lt-ltb, le-ltb, le-leb, lt-leb, leb-true}
 use Rattle.refusal.specs.declared.Refusal.the-variants.{Argument, Full, Turn}
 use Rattle.record.specs.declared.Source.{Source}
+use Rattle.writer.specs.declared.Tables.{Tables}
 use Rattle.writer.specs.declared.Writer.{Writer}
-use Rattle.base.proofs.Bools.{and-left}
-use Rattle.writer.specs.State.{did, stays, position, isOpen, begunIn, isDue, inRange, tailSize}
-use Rattle.writer.proofs.Laws.{ranged, fill-fits, position-fits}
-use Rattle.lower.specs.Lower.{mayAppend, mayBegin, withSource, sourceStep, withTable, tableStep, withEnd, endStep, withClosed, closeStep, accepted, withBytes, appended, bytesStep}
-use Rattle.writer.specs.declared.Answer.the-variants.{Appended}
+use Rattle.lower.specs.Ended.{isWithin, sourcesWith, sourcesEnded}
+use Rattle.base.proofs.Bools.{and-left, and-right}
+use Rattle.writer.specs.State.{did, stays, noTable, position, isOpen, begunIn, isDue, inRange, tailSize}
+use Rattle.writer.proofs.Laws.{ranged, fill-fits, position-fits, open-table, count-fits}
+use Rattle.lower.specs.Lower.{mayAppend, mayBegin, withSource, sourceStep, withTable, tableStep, withEnd, endStep, blockOf, withClosed, closeStep, accepted, withBytes, appended, bytesStep}
+use Rattle.writer.specs.declared.Answer.the-variants.{Done, Appended}
 use Rattle.region.specs.Region.{capacity}
 use Rattle.base.specs.Table.{lastTable}
 use Rattle.header.specs.Header.{maxSources}
@@ -32,6 +35,21 @@ module _ (w : Writer) (s : Source) where
   pub source-turn : (mayAppend w && not (isOpen (w .tables))) ≡ false → stays w Turn ≡ sourceStep w s
   unfolding sourceStep
   source-turn e = rw e
+
+  -- the next source has the record
+  pub source-begun : w .tables .count < maxSources → record {
+    answer = Done;
+    writer = record {
+      stage = w .stage;
+      beginning = w .beginning;
+      contents = w .contents;
+      tables = record { count = w .tables .count + 1; table = noTable; start = w .tables .start; crc = w .tables .crc; begun = 0 };
+      sources = sourcesWith true (w .sources) (w .tables) s;
+      tail = w .tail;
+    };
+  } ≡ did (withSource w s)
+  unfolding withSource
+  source-begun h = rw (lt-ltb (w .tables .count) maxSources h)
 
 module _ (w : Writer) (t : ℕ) where
   pub table-done : t ≤ lastTable → (mayAppend w && mayBegin (w .tables) t) ≡ true → did (withTable w t) ≡ tableStep w t
@@ -54,6 +72,28 @@ module _ (w : Writer) where
   pub end-turn : (mayAppend w && isOpen (w .tables)) ≡ false → stays w Turn ≡ endStep w
   unfolding endStep
   end-turn e = rw e
+
+  -- the numbers of an open table are within their bounds
+  pub end-within : (mayAppend w && isOpen (w .tables)) ≡ true → isWithin (w .tables) ≡ true
+  end-within e =
+      let r = ranged w (and-left (inRange w) (not (w .contents .closed)) (and-left (mayAppend w) (isOpen (w .tables)) e)) in
+      let o = open-table (position (w .contents)) (w .tables) (r .tables) (and-right (mayAppend w) (isOpen (w .tables)) e) in
+      rw (le-leb 1 (w .tables .count) (o .1), le-leb (w .tables .count) maxSources (count-fits (position (w .contents)) (w .tables) (r .tables)), le-leb (w .tables .table) lastTable (o .0))
+
+  -- the last source has the block
+  pub end-ended : isWithin (w .tables) ≡ true → record {
+    answer = Done;
+    writer = record {
+      stage = w .stage;
+      beginning = w .beginning;
+      contents = w .contents;
+      tables = record { count = w .tables .count; table = noTable; start = w .tables .start; crc = w .tables .crc; begun = w .tables .begun };
+      sources = sourcesEnded true (w .sources) (w .tables) (blockOf w);
+      tail = w .tail;
+    };
+  } ≡ did (withEnd w)
+  unfolding withEnd
+  end-ended e = rw e
 
   pub close-done : (mayAppend w && not (isOpen (w .tables))) ≡ true → did (withClosed w) ≡ closeStep w
   unfolding closeStep
@@ -88,6 +128,15 @@ module _ (w : Writer) (xs : List ℕ) where
 -- the tail and the position of a state that may append
 pub takes-fits : (w : Writer) → mayAppend w ≡ true → (w .contents .fill ≤ tailSize) × (position (w .contents) ≤ capacity)
 takes-fits w m = let t = ranged w (and-left (inRange w) (not (w .contents .closed)) m) .contents in (fill-fits (w .contents) t, position-fits (w .contents) t)
+
+-- the bounds of a last source and an open table
+pub within-bounds : (x : Tables) → isWithin x ≡ true → (1 ≤ x .count) × (x .count ≤ maxSources) × (x .table ≤ lastTable)
+within-bounds x e =
+    let a = leb 1 (x .count) in
+    let b = leb (x .count) maxSources in
+    let t = leb (x .table) lastTable in
+    let r = and-right a (b && t) e in
+    (leb-true 1 (x .count) (and-left a (b && t) e), leb-true (x .count) maxSources (and-left b t r), leb-true (x .table) lastTable (and-right b t r))
 
 -- a bit by a shift
 pub shifted : (t : ℕ) → t ≤ lastTable → (1 * 2 ^ t) % 4294967296 ≡ 2 ^ t

@@ -1,4 +1,4 @@
--- The parts after an append, by the few values that it changes: the bytes appended are in the tail.
+-- The parts and the tail after an append: the bytes appended are in the tail.
 use mathlib.Core.List.{List}
 use Prim.Native.Nat.{ℕ}
 use lib.ListN.{take}
@@ -7,8 +7,11 @@ use Rattle.writer.specs.declared.Parts.{Parts}
 use Rattle.writer.specs.declared.PartsStep.{PartsStep}
 use Rattle.lower.specs.declared.append.Appended.{Appended}
 
-abbrev pub partsAppended : Parts → Appended → List ℕ → Parts
-partsAppended p t xs = record { stage = t .stage; beginning = p .beginning; contents = t .contents; tables = t .tables; tail = sets (p .tail) (t .at) (take (t .n) xs) }
+abbrev pub partsAppended : Appended → Parts
+partsAppended t = record { stage = t .stage; contents = t .contents; tables = t .tables }
 
-abbrev pub stepAppended : Parts → Appended → List ℕ → PartsStep
-stepAppended p t xs = record { answer = t .answer; parts = partsAppended p t xs }
+abbrev pub tailAppended : Appended → List ℕ → List ℕ → List ℕ
+tailAppended t xs tail = sets tail (t .at) (take (t .n) xs)
+
+abbrev pub stepAppended : Appended → PartsStep
+stepAppended t = record { answer = t .answer; parts = partsAppended t }

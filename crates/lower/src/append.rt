@@ -1,14 +1,14 @@
 // The lower layer's append: bytes are put into the tail until it is full.
 ghost use mathlib.Core.Path.{_≡_};
 ghost use mathlib.Core.List.{List};
-ghost use Prim.Native.Nat.{_+_, _≤_};
+ghost use Prim.Native.Nat.{ℕ, _+_, _≤_};
 ghost use lib.ListN.{length, take};
 ghost use lib.Seq.{sets};
 ghost use Rattle.record.specs.declared.Source.{Source};
-ghost use Rattle.writer.specs.Parts.{withSources, stepWith};
+ghost use Rattle.writer.specs.Parts.{wholeOf, stepWith};
 ghost use Rattle.writer.specs.declared.Answer.the-variants as Answers;
 ghost use Rattle.lower.specs.Lower as Lower;
-ghost use Rattle.lower.specs.Appended.{partsAppended, stepAppended};
+ghost use Rattle.lower.specs.Appended.{partsAppended, stepAppended, tailAppended};
 ghost use Rattle.writer.specs.State.{tailSize};
 use crate::accepted;
 use crate::may_append_parts;
@@ -16,6 +16,7 @@ use leaf::crc::crc32_both;
 use refusal::Refusal;
 use region::CAPACITY;
 use writer::Answer;
+use writer::Beginning;
 use writer::Contents;
 use writer::Parts;
 use writer::PartsStep;
@@ -29,18 +30,16 @@ use writer::parts_of;
 use writer::stage_of;
 use writer::step_with;
 
-// The tail with bytes at an offset.
-fn tail_with(tail: [u8; TAIL_SIZE], at: usize, bytes: &[u8]) -> [u8; TAIL_SIZE]
+// Puts bytes into the tail at an offset.
+fn put_tail(tail: &mut [u8; TAIL_SIZE], at: usize, bytes: &[u8])
     requires { ⌜ at + length (now bytes) ≤ tailSize ⌝ }
-    ensures { λ r. ⌜ r ≡ sets tail at (now (bytes .entry)) ⌝ }
+    ensures { λ _. ⌜ now (tail .exit) ≡ sets (now (tail .entry)) at (now (bytes .entry)) ⌝ }
 {
-    let mut t = tail;
     let mut i = 0;
     while i < bytes.len() {
-        t[at + i] = bytes[i];
+        tail[at + i] = bytes[i];
         i += 1;
     }
-    t
 }
 
 // The answer, how many bytes are appended and at which offset of the tail, and what else they change.
@@ -71,13 +70,12 @@ fn none_appended(p: Parts, answer: Answer) -> Appended
 }
 
 // The first n bytes are appended.
-fn first_appended(p: Parts, bytes: &[u8], n: usize) -> Appended
+fn first_appended(b: Beginning, p: Parts, bytes: &[u8], n: usize) -> Appended
     requires { ⌜ (n ≤ length (now bytes)) × (p .contents .fill + n ≤ tailSize) ⌝ }
-    ensures { λ r. ⌜ (r .answer ≡ Answers.Appended n) × (r .n ≡ n) × (r .at + r .n ≤ tailSize) × ((ss : List Source) → withSources (partsAppended p r (now (bytes .entry))) ss ≡ Lower.withBytes (withSources p ss) (take n (now (bytes .entry)))) ⌝ }
+    ensures { λ r. ⌜ (r .answer ≡ Answers.Appended n) × (r .n ≡ n) × (r .at + r .n ≤ tailSize) × ((ss : List Source) (tail : List ℕ) → wholeOf b (partsAppended r) ss (tailAppended r (now (bytes .entry)) tail) ≡ Lower.withBytes (wholeOf b p ss tail) (take n (now (bytes .entry)))) ⌝ }
 {
     let t = p.contents;
     let x = p.tables;
-    let b = p.beginning;
     let some = &bytes[0..n];
     let crcs = crc32_both(t.crc, x.crc, some);
     let contents = Contents {
@@ -97,41 +95,39 @@ fn first_appended(p: Parts, bytes: &[u8], n: usize) -> Appended
     }
 }
 
-fn append_some(p: Parts, bytes: &[u8]) -> Appended
+fn append_some(b: Beginning, p: Parts, bytes: &[u8]) -> Appended
     requires { ⌜ p .contents .fill ≤ tailSize ⌝ }
-    ensures { λ r. ⌜ (r .n ≤ length (now (bytes .entry))) × (r .at + r .n ≤ tailSize) × ((ss : List Source) → stepWith (stepAppended p r (now (bytes .entry))) ss ≡ Lower.appended (withSources p ss) (now (bytes .entry))) ⌝ }
+    ensures { λ r. ⌜ (r .n ≤ length (now (bytes .entry))) × (r .at + r .n ≤ tailSize) × ((ss : List Source) (tail : List ℕ) → stepWith b (stepAppended r) ss (tailAppended r (now (bytes .entry)) tail) ≡ Lower.appended (wholeOf b p ss tail) (now (bytes .entry))) ⌝ }
 {
     if is_due(p.contents) {
         return none_appended(p, Answer::Appended(0));
     }
     let n = accepted(p.contents, bytes.len());
-    first_appended(p, bytes, n)
+    first_appended(b, p, bytes, n)
 }
 
-fn append_any(p: Parts, offered: &[u8]) -> Appended
-    ensures { λ r. ⌜ (r .n ≤ length (now (offered .entry))) × (r .at + r .n ≤ tailSize) × ((ss : List Source) → stepWith (stepAppended p r (now (offered .entry))) ss ≡ Lower.bytesStep (withSources p ss) (now (offered .entry))) ⌝ }
+fn append_any(b: Beginning, p: Parts, offered: &[u8]) -> Appended
+    ensures { λ r. ⌜ (r .n ≤ length (now (offered .entry))) × (r .at + r .n ≤ tailSize) × ((ss : List Source) (tail : List ℕ) → stepWith b (stepAppended r) ss (tailAppended r (now (offered .entry)) tail) ≡ Lower.bytesStep (wholeOf b p ss tail) (now (offered .entry))) ⌝ }
 {
     let t = p.contents;
-    if !may_append_parts(p) {
+    if !may_append_parts(b, p) {
         return none_appended(p, Answer::Refused(Refusal::Turn));
     }
     let free = CAPACITY - (t.written + t.fill) as usize;
     if free < offered.len() {
         return none_appended(p, Answer::Refused(Refusal::Full));
     }
-    append_some(p, offered)
+    append_some(b, p, offered)
 }
 
-// Appends bytes until the tail is full, and says how many; the sources stay unchanged. The tail is built once, whatever the answer,
-// which saves copies of it.
-pub fn append_parts(p: Parts, offered: &[u8]) -> PartsStep
-    ensures { λ r. ⌜ ((ss : List Source) → stepWith r ss ≡ Lower.bytesStep (withSources p ss) (now (offered .entry))) ⌝ }
+// Appends bytes to the tail until it is full, and says how many.
+pub fn append_parts(b: Beginning, p: Parts, tail: &mut [u8; TAIL_SIZE], offered: &[u8]) -> PartsStep
+    ensures { λ r. ⌜ ((ss : List Source) → stepWith b r ss (now (tail .exit)) ≡ Lower.bytesStep (wholeOf b p ss (now (tail .entry))) (now (offered .entry))) ⌝ }
 {
-    let g = append_any(p, offered);
+    let g = append_any(b, p, offered);
     let n = g.n;
     let some = &offered[0..n];
-    let old = p.tail;
-    let tail = tail_with(old, g.at, some);
+    put_tail(tail, g.at, some);
     let answer = g.answer;
     let stage = g.stage;
     let contents = g.contents;
@@ -140,8 +136,6 @@ pub fn append_parts(p: Parts, offered: &[u8]) -> PartsStep
         stage,
         contents,
         tables,
-        tail,
-        ..p
     };
     PartsStep { answer, parts }
 }
@@ -150,8 +144,10 @@ pub fn append_parts(p: Parts, offered: &[u8]) -> PartsStep
 pub fn bytes(w: Writer, offered: &[u8]) -> Step
     ensures { λ r. ⌜ r ≡ Lower.bytesStep w (now (offered .entry)) ⌝ }
 {
+    let b = w.beginning;
     let p = parts_of(w);
-    let s = append_parts(p, offered);
+    let mut tail = w.tail;
+    let s = append_parts(b, p, &mut tail, offered);
     let sources = w.sources;
-    step_with(s, sources)
+    step_with(b, s, sources, tail)
 }

@@ -1,8 +1,12 @@
 // The lower layer's begin and close.
 ghost use mathlib.Core.Path.{_≡_};
+ghost use mathlib.Core.List.{List};
+ghost use Prim.Native.Nat.{ℕ};
+ghost use Rattle.record.specs.declared.Source.{Source};
+ghost use Rattle.writer.specs.Parts.{wholeOf, stepWith};
 ghost use Rattle.lower.specs.Lower as Lower;
 use crate::is_open;
-use crate::may_append;
+use crate::may_append_parts;
 use bank::Loaded;
 use bank::load;
 use header::SOURCES;
@@ -12,15 +16,19 @@ use writer::Answer;
 use writer::Beginning;
 use writer::Contents;
 use writer::NO_TABLE;
+use writer::Parts;
+use writer::PartsStep;
 use writer::Stage;
 use writer::Step;
 use writer::TAIL_SIZE;
 use writer::Tables;
 use writer::Writer;
-use writer::did;
 use writer::is_due;
+use writer::parts_did;
+use writer::parts_of;
+use writer::parts_stay;
 use writer::stage_of;
-use writer::stays;
+use writer::step_with;
 
 // The state of an update that begins.
 pub fn started(active: Loaded, comparing: bool, now: i64) -> Writer
@@ -75,30 +83,41 @@ pub fn begin(region: &[u8], comparing: bool, at: i64) -> Step
     Step { answer, writer }
 }
 
-fn with_closed(w: Writer) -> Writer
-    ensures { λ r. ⌜ r ≡ Lower.withClosed w ⌝ }
+fn with_closed(b: Beginning, p: Parts) -> Parts
+    ensures { λ r. ⌜ ((ss : List Source) (tail : List ℕ) → wholeOf b r ss tail ≡ Lower.withClosed (wholeOf b p ss tail)) ⌝ }
 {
-    let t = w.contents;
-    let b = w.beginning;
+    let t = p.contents;
     let contents = Contents { closed: true, ..t };
     if is_due(t) {
-        return Writer { contents, ..w };
+        return Parts { contents, ..p };
     }
     let stage = stage_of(b.comparing, contents);
-    Writer {
+    Parts {
         stage,
         contents,
-        ..w
+        ..p
     }
 }
 
 // Closes the update: the bytes in the tail are then due.
+pub fn close_parts(b: Beginning, p: Parts) -> PartsStep
+    ensures { λ r. ⌜ ((ss : List Source) (tail : List ℕ) → stepWith b r ss tail ≡ Lower.closeStep (wholeOf b p ss tail)) ⌝ }
+{
+    if !may_append_parts(b, p) | is_open(p.tables) {
+        return parts_stay(p, Refusal::Turn);
+    }
+    let q = with_closed(b, p);
+    parts_did(q)
+}
+
+// Closes the update.
 pub fn close(w: Writer) -> Step
     ensures { λ r. ⌜ r ≡ Lower.closeStep w ⌝ }
 {
-    if !may_append(w) | is_open(w.tables) {
-        return stays(w, Refusal::Turn);
-    }
-    let v = with_closed(w);
-    did(v)
+    let b = w.beginning;
+    let p = parts_of(w);
+    let s = close_parts(b, p);
+    let sources = w.sources;
+    let tail = w.tail;
+    step_with(b, s, sources, tail)
 }

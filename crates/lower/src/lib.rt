@@ -7,12 +7,13 @@ pub mod table;
 
 ghost use mathlib.Core.Path.{_≡_};
 ghost use mathlib.Core.List.{List};
-ghost use Prim.Native.Nat.{_≤_};
+ghost use Prim.Native.Nat.{ℕ, _≤_};
 ghost use Rattle.record.specs.declared.Source.{Source};
 ghost use Rattle.writer.specs.State as State;
-ghost use Rattle.writer.specs.Parts.{withSources};
+ghost use Rattle.writer.specs.Parts.{wholeOf};
 ghost use Rattle.lower.specs.Lower as Lower;
 use base::number::WORD_BITS;
+use writer::Beginning;
 use writer::Contents;
 use writer::NO_TABLE;
 use writer::Parts;
@@ -23,10 +24,9 @@ use writer::parts_in_range;
 use writer::parts_of;
 
 // Whether bytes, sources and tables may be appended, by the parts of a state.
-pub fn may_append_parts(p: Parts) -> bool
-    ensures { λ r. ⌜ ((ss : List Source) → r ≡ Lower.mayAppend (withSources p ss)) ⌝ }
+pub fn may_append_parts(b: Beginning, p: Parts) -> bool
+    ensures { λ r. ⌜ ((ss : List Source) (tail : List ℕ) → r ≡ Lower.mayAppend (wholeOf b p ss tail)) ⌝ }
 {
-    let b = p.beginning;
     let t = p.contents;
     let x = p.tables;
     let s = p.stage;
@@ -38,7 +38,7 @@ pub fn may_append(w: Writer) -> bool
     ensures { λ r. ⌜ r ≡ Lower.mayAppend w ⌝ }
 {
     let p = parts_of(w);
-    may_append_parts(p)
+    may_append_parts(w.beginning, p)
 }
 
 pub fn is_open(s: Tables) -> bool

@@ -18,9 +18,10 @@ use Rattle.writer.specs.declared.Stage.the-variants.{Idle, Due, HeaderWritten, 
 use Rattle.writer.specs.declared.Contents.{Contents}
 use Rattle.writer.specs.declared.Tables.{Tables}
 use Rattle.record.specs.declared.Source.{Source}
+use Rattle.writer.specs.declared.Beginning.{Beginning}
 use Rattle.writer.specs.declared.Parts.{Parts}
 use Rattle.writer.specs.declared.PartsStep.{PartsStep}
-use Rattle.writer.specs.Parts.{withSources, stepWith}
+use Rattle.writer.specs.Parts.{wholeOf, stepWith}
 use Rattle.writer.specs.declared.Writer.{Writer}
 use Rattle.writer.specs.declared.Step.{Step}
 use Rattle.writer.specs.State.{position, isDue, stageOf, aligned, contentsOk, tablesOk, operationOk, stageOk, inRange, tailSize, stays}
@@ -237,12 +238,12 @@ module _ (region : List ℕ) (w : Writer) (bs : List ℕ) (m : mayAppend w ≡ t
           )
 
 -- the same on parts
-pub chunk-parts : (region : List ℕ) (p : Parts) (bs : List ℕ) → ((ss : List Source) → mayAppend (withSources p ss) ≡ true) → isDue (p .contents) ≡ false → position (p .contents) + length bs ≤ capacity → 1 ≤ length bs
-    → (n : ℕ) → n ≡ min (length bs) (tailSize - p .contents .fill) → (s : PartsStep) → ((ss : List Source) → stepWith s ss ≡ bytesStep (withSources p ss) bs) → (q : Parts) (r : List ℕ) → Ran region (s .parts) dues q r → AfterAppend region p bs n q r
-chunk-parts region p bs m d k l n e s f q r g = (at [] .0, at [] .1, λ ss. (at ss .2, at ss .3))
+pub chunk-parts : (region : List ℕ) (b : Beginning) (p : Parts) (tail bs : List ℕ) → ((ss : List Source) → mayAppend (wholeOf b p ss tail) ≡ true) → isDue (p .contents) ≡ false → position (p .contents) + length bs ≤ capacity → 1 ≤ length bs
+    → (n : ℕ) → n ≡ min (length bs) (tailSize - p .contents .fill) → (s : PartsStep) (t : List ℕ) → ((ss : List Source) → stepWith b s ss t ≡ bytesStep (wholeOf b p ss tail) bs) → (q : Parts) (r : List ℕ) → Ran region b (s .parts) t dues q t r → AfterAppend region b p tail bs n q t r
+chunk-parts region b p tail bs m d k l n e s t f q r g = (at [] .0, at [] .1, λ ss. (at ss .2, at ss .3))
   where
-    at : (ss : List Source) → (1 ≤ n) × (n ≤ length bs) × (ranWriter r (withSources q ss) (appends (drop n bs)) ≡ ranWriter region (withSources p ss) (appends bs)) × (ranRegion r (withSources q ss) (appends (drop n bs)) ≡ ranRegion region (withSources p ss) (appends bs))
-    at ss = chunk-fed region (withSources p ss) bs (m ss) d k l n e (stepWith s ss) (f ss) (withSources q ss) r (g ss .0) (g ss .1)
+    at : (ss : List Source) → (1 ≤ n) × (n ≤ length bs) × (ranWriter r (wholeOf b q ss t) (appends (drop n bs)) ≡ ranWriter region (wholeOf b p ss tail) (appends bs)) × (ranRegion r (wholeOf b q ss t) (appends (drop n bs)) ≡ ranRegion region (wholeOf b p ss tail) (appends bs))
+    at ss = chunk-fed region (wholeOf b p ss tail) bs (m ss) d k l n e (stepWith b s ss t) (f ss) (wholeOf b q ss t) r (g ss .0) (g ss .1)
 
 -- ---- what follows from the number of bytes appended
 
@@ -262,26 +263,45 @@ counted w bs = go (mayAppend w) refl (leb (position (w .contents) + length bs) c
     go true em false el d ed h = absurd (omega (arith, h))
     go false em l el d ed h = absurd (omega (arith, h))
 
+-- a call that appends no byte leaves the tail
+none-appended : (w : Writer) (bs : List ℕ) → countOf (bytesStep w bs .answer) ≡ 0 → bytesStep w bs .writer .tail ≡ w .tail
+unfolding bytesStep appended withBytes
+none-appended w bs = go (mayAppend w) (leb (position (w .contents) + length bs) capacity) (isDue (w .contents))
+  where
+    n : ℕ
+    n = accepted (w .contents) (length bs)
+
+    go : (m l d : Bool) → countOf (pick m (pick l (pick d (record { answer = Appended 0; writer = w }) (record { answer = Appended n; writer = withBytes w (take n bs) })) (stays w Full)) (stays w Turn) .answer) ≡ 0
+        → pick m (pick l (pick d (record { answer = Appended 0; writer = w }) (record { answer = Appended n; writer = withBytes w (take n bs) })) (stays w Full)) (stays w Turn) .writer .tail ≡ w .tail
+    go true true true e = refl
+    go true true false e = ap (λ (k : ℕ). sets (w .tail) (w .contents .fill) (take k bs)) e
+    go true false d e = refl
+    go false l d e = refl
+
 some-count : (n m : ℕ) → n ≡ m → (n ≡ 0 → ⊥) → 1 ≤ m
 some-count zero m e h = absurd (h refl)
 some-count (suc n) m e h = omega (arith, e)
 
-module _ (p : Parts) (bs : List ℕ) (s : PartsStep) (f : (ss : List Source) → stepWith s ss ≡ bytesStep (withSources p ss) bs) (h : 1 ≤ countOf (s .answer)) where
-  its-count : (ss : List Source) → countOf (s .answer) ≡ countOf (bytesStep (withSources p ss) bs .answer)
+module _ (b : Beginning) (p : Parts) (tail bs : List ℕ) (s : PartsStep) (t : List ℕ) (f : (ss : List Source) → stepWith b s ss t ≡ bytesStep (wholeOf b p ss tail) bs) where
+  its-count : (ss : List Source) → countOf (s .answer) ≡ countOf (bytesStep (wholeOf b p ss tail) bs .answer)
   its-count ss = ap (λ (x : Step). countOf (x .answer)) (f ss)
 
-  pub parts-counted : (ss : List Source) → (mayAppend (withSources p ss) ≡ true) × (isDue (p .contents) ≡ false) × (position (p .contents) + length bs ≤ capacity) × (countOf (s .answer) ≡ min (length bs) (tailSize - p .contents .fill))
-  parts-counted ss =
-      let c = counted (withSources p ss) bs (omega (arith, h, its-count ss)) in
+  pub parts-counted : 1 ≤ countOf (s .answer) → (ss : List Source) → (mayAppend (wholeOf b p ss tail) ≡ true) × (isDue (p .contents) ≡ false) × (position (p .contents) + length bs ≤ capacity) × (countOf (s .answer) ≡ min (length bs) (tailSize - p .contents .fill))
+  parts-counted h ss =
+      let c = counted (wholeOf b p ss tail) bs (omega (arith, h, its-count ss)) in
       (c .0, c .1, c .2, its-count ss ∙ c .3)
 
+  -- no byte appended: the tail is unchanged
+  pub tail-kept : countOf (s .answer) ≡ 0 → t ≡ tail
+  tail-kept e = ap (λ (x : Step). x .writer .tail) (f []) ∙ none-appended (wholeOf b p [] tail) bs (sym (its-count []) ∙ e)
+
 -- the same, known from the call's answer
-pub chunk-counted : (region : List ℕ) (p : Parts) (bs : List ℕ) (s : PartsStep) (f : (ss : List Source) → stepWith s ss ≡ bytesStep (withSources p ss) bs) (n : ℕ) → n ≡ countOf (s .answer) → (n ≡ 0 → ⊥)
-    → (q : Parts) (r : List ℕ) → Ran region (s .parts) dues q r → AfterAppend region p bs n q r
-chunk-counted region p bs s f n e h q r g =
+pub chunk-counted : (region : List ℕ) (b : Beginning) (p : Parts) (tail bs : List ℕ) (s : PartsStep) (t : List ℕ) (f : (ss : List Source) → stepWith b s ss t ≡ bytesStep (wholeOf b p ss tail) bs) (n : ℕ) → n ≡ countOf (s .answer) → (n ≡ 0 → ⊥)
+    → (q : Parts) (r : List ℕ) → Ran region b (s .parts) t dues q t r → AfterAppend region b p tail bs n q t r
+chunk-counted region b p tail bs s t f n e h q r g =
     let k = some-count n (countOf (s .answer)) e h in
-    let c = parts-counted p bs s f k [] in
-    chunk-parts region p bs (λ ss. parts-counted p bs s f k ss .0) (c .1) (c .2) (omega (arith, k, c .3)) n (e ∙ c .3) s f q r g
+    let c = parts-counted b p tail bs s t f k [] in
+    chunk-parts region b p tail bs (λ ss. parts-counted b p tail bs s t f k ss .0) (c .1) (c .2) (omega (arith, k, c .3)) n (e ∙ c .3) s t f q r g
 
 -- ---- bytes that leave the tail short of full, with nothing due
 
@@ -320,10 +340,9 @@ module _ (region : List ℕ) (w : Writer) (bs : List ℕ) (m : mayAppend w ≡ t
         )
 
 -- the same on parts, known from the answer
-pub line-counted : (region : List ℕ) (p : Parts) (bs : List ℕ) (s : PartsStep) (f : (ss : List Source) → stepWith s ss ≡ bytesStep (withSources p ss) bs) (n : ℕ) → n ≡ countOf (s .answer) → (n ≡ 0 → ⊥)
-    → p .contents .fill + length bs < tailSize → (ss : List Source)
-    → (withSources (s .parts) ss ≡ ranWriter region (withSources p ss) (dues ++ (dues ++ appends bs))) × (region ≡ ranRegion region (withSources p ss) (dues ++ (dues ++ appends bs)))
-line-counted region p bs s f n e h l ss =
+pub line-counted : (region : List ℕ) (b : Beginning) (p : Parts) (tail bs : List ℕ) (s : PartsStep) (t : List ℕ) (f : (ss : List Source) → stepWith b s ss t ≡ bytesStep (wholeOf b p ss tail) bs) (n : ℕ) → n ≡ countOf (s .answer) → (n ≡ 0 → ⊥)
+    → p .contents .fill + length bs < tailSize → Ran region b p tail (dues ++ (dues ++ appends bs)) (s .parts) t region
+line-counted region b p tail bs s t f n e h l ss =
     let k = some-count n (countOf (s .answer)) e h in
-    let c = parts-counted p bs s f k ss in
-    short-fed region (withSources p ss) bs (c .0) (c .1) (c .2) (omega (arith, k, c .3)) l (stepWith s ss) (f ss)
+    let c = parts-counted b p tail bs s t f k ss in
+    short-fed region (wholeOf b p ss tail) bs (c .0) (c .1) (c .2) (omega (arith, k, c .3)) l (stepWith b s ss t) (f ss)

@@ -16,7 +16,7 @@ use Rattle.writer.specs.declared.Stage.{Stage}
 use Rattle.writer.specs.declared.Stage.the-variants.{Idle, Due, HeaderWritten, Committed}
 use Rattle.writer.specs.declared.Parts.{Parts}
 use Rattle.writer.specs.declared.Writer.{Writer}
-use Rattle.writer.specs.Parts.{partsOf, withSources}
+use Rattle.writer.specs.Parts.{partsOf, wholeOf}
 use Rattle.writer.specs.declared.Step.{Step}
 use Rattle.writer.specs.State.{stays, inRange, target}
 use Rattle.lower.specs.Lower.{bytesStep}
@@ -151,7 +151,8 @@ module _ (region : List ℕ) (w : Writer) (bs : List ℕ) (i : ℕ) (h : length 
   fed-all-region x e = ap (λ (l : List ℕ). ranRegion region w (appends l)) (sym (drop-of-length-le bs h)) ∙ e
 
 -- a run on a whole state, by its parts
-pub joined : (region : List ℕ) (w : Writer) (cs : List Lower) (p q : Parts) (v : Writer) (r : List ℕ) → p ≡ partsOf w → Ran region p cs q r → v ≡ withSources q (w .sources) → (v ≡ ranWriter region w cs) × (r ≡ ranRegion region w cs)
-joined region w cs p q v r e f h =
+pub joined : (region : List ℕ) (w : Writer) (cs : List Lower) (p q : Parts) (tail : List ℕ) (v : Writer) (r : List ℕ) → p ≡ partsOf w → Ran region (w .beginning) p (w .tail) cs q tail r → v ≡ wholeOf (w .beginning) q (w .sources) tail
+    → (v ≡ ranWriter region w cs) × (r ≡ ranRegion region w cs)
+joined region w cs p q tail v r e f h =
     let ss = w .sources in
-    (h ∙ f ss .0 ∙ ap (λ (x : Parts). ranWriter region (withSources x ss) cs) e, f ss .1 ∙ ap (λ (x : Parts). ranRegion region (withSources x ss) cs) e)
+    (h ∙ f ss .0 ∙ ap (λ (x : Parts). ranWriter region (wholeOf (w .beginning) x ss (w .tail)) cs) e, f ss .1 ∙ ap (λ (x : Parts). ranRegion region (wholeOf (w .beginning) x ss (w .tail)) cs) e)

@@ -1,7 +1,7 @@
 -- The upper calls, case by case, as the definitions nest their tests; that a run of due calls and a lower call is the call's run; and that
 -- the bytes made here (dates, names line, row, key) are the definition's, in whatever buffer.
 use mathlib.Core.Path.{_≡_, refl, sym, ap, _∙_}
-use mathlib.Core.Bool.{Bool, true, false, not, _&&_, _||_}
+use mathlib.Core.Bool.{Bool, true, false, not, _&&_, _||_, false≢true}
 use mathlib.Core.List.{List, [], _∷_, _++_}
 use mathlib.Core.Option.{Option, none, some}
 use Prim.Native.Nat.{ℕ, zero, suc, _+_, _*_, _/_, _%_, _≤_, _<_}
@@ -37,7 +37,7 @@ use Rattle.flash.specs.Flash.{performed}
 use Rattle.writer.specs.declared.Answer.the-variants.{Refused}
 use Rattle.writer.specs.declared.Writer.{Writer}
 use Rattle.writer.specs.declared.Step.{Step}
-use Rattle.writer.specs.State.{did, stays, position, isOpen, inRange}
+use Rattle.writer.specs.State.{did, stays, isDone, position, isOpen, inRange}
 use Rattle.writer.proofs.Laws.{ranged, position-fits, open-table}
 use Rattle.lower.specs.Lower.{started, mayAppend}
 use Rattle.run.specs.Run.{Lower, source, table, end, close, lowerStep, lowerOps, lowerRegion, ranWriter, ranRegion}
@@ -89,6 +89,16 @@ module _ (region : List ℕ) (w : Writer) (u : Upper) where
     sym (ap (λ (o : Option Refusal). answered o (ranWriter region w (runIf o (runOf u)))) e),
     sym (ap (λ (o : Option Refusal). ranRegion region w (runIf o (runOf u))) e),
   )
+
+  left-by : (r : Option Refusal) (cs : List Lower) → let s = answered r (ranWriter region w (runIf r cs)) in isDone (s .answer) ≡ false → s .writer ≡ w
+  unfolding ranWriter
+  left-by none cs e = absurd (false≢true (sym e))
+  left-by (some x) cs e = refl
+
+  -- a call that isn't done leaves the state
+  pub upper-left : isDone (upperStep region w u .answer) ≡ false → upperStep region w u .writer ≡ w
+  unfolding upperStep upperRun
+  upper-left e = left-by (refusalOf region w u) (runOf u) e
 
   pub upper-region : (length region ≡ regionSize → ⊥) → Leaves (stays w Region) region
   unfolding refusalOf

@@ -13,11 +13,11 @@ use region::CAPACITY;
 use region::CAPACITY_64;
 use writer::Contents;
 
-// The longest key without an identity, the buffer for a names line, and the first buffer that a row is written to.
+// The longest key without an identity.
 const MAX_BODY: usize = 2257;
-
+// The buffer for a names line.
 const NAMES_SIZE: usize = 128;
-
+// The first buffer that a row is written to.
 const SHORT_ROW: usize = 512;
 
 // Whether n more bytes fit.

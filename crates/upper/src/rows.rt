@@ -5,7 +5,7 @@ ghost use Prim.Native.Nat.{_≤_};
 ghost use mathlib.Core.List.{List, _++_};
 ghost use lib.ListN.{length, take};
 ghost use Rattle.record.specs.declared.Source.{Source};
-ghost use Rattle.writer.specs.Parts.{withSources, stepWith};
+ghost use Rattle.writer.specs.Parts.{wholeOf, stepWith};
 ghost use Rattle.run.specs.Appends as Appends;
 ghost use Rattle.run.specs.Parts as Partly;
 ghost use Rattle.upper.specs.Upper as Upper;
@@ -20,9 +20,11 @@ use refusal::Refusal;
 use region::REGION_SIZE;
 use row::RowAnswer;
 use run::append_line_parts;
+use writer::Beginning;
 use writer::Parts;
 use writer::PartsStep;
 use writer::Step;
+use writer::TAIL_SIZE;
 use writer::Writer;
 use writer::parts_did;
 use writer::parts_of;
@@ -30,18 +32,32 @@ use writer::parts_stay;
 use writer::step_with;
 
 // The run of a row, which is the first n bytes.
-fn run_row(p: Parts, region: &mut [u8], bytes: &[u8], n: usize) -> Parts
+fn run_row(
+    b: Beginning,
+    p: Parts,
+    tail: &mut [u8; TAIL_SIZE],
+    region: &mut [u8],
+    bytes: &[u8],
+    n: usize,
+) -> Parts
     requires { ⌜ n ≤ length (now bytes) ⌝ }
-    ensures { λ r. ⌜ Partly.Ran (now (region .entry)) p (Appends.dues ++ (Appends.dues ++ Appends.appends (take n (now (bytes .entry))))) r (now (region .exit)) ⌝ }
+    ensures { λ r. ⌜ Partly.Ran (now (region .entry)) b p (now (tail .entry)) (Appends.dues ++ (Appends.dues ++ Appends.appends (take n (now (bytes .entry))))) r (now (tail .exit)) (now (region .exit)) ⌝ }
 {
     let line = &bytes[0..n];
-    append_line_parts(p, region, line)
+    append_line_parts(b, p, tail, region, line)
 }
 
 // Appends a row of the open table, if it is one and fits; its buffer is for 8,192 bytes.
-fn long_row(p: Parts, region: &mut [u8], texts: &[u8], lengths: &[u32]) -> PartsStep
-    requires { ⌜ (length (now region) ≡ regionSize) × ((ss : List Source) → Upper.orderOk (withSources p ss) (Upper.row (now texts) (now lengths)) ≡ true) × (p .tables .table ≤ lastTable) ⌝ }
-    ensures { λ r. ⌜ ((ss : List Source) → (stepWith r ss ≡ Upper.upperStep (now (region .entry)) (withSources p ss) (Upper.row (now (texts .entry)) (now (lengths .entry)))) × (now (region .exit) ≡ Upper.upperRegion (now (region .entry)) (withSources p ss) (Upper.row (now (texts .entry)) (now (lengths .entry))))) ⌝ }
+fn long_row(
+    b: Beginning,
+    p: Parts,
+    tail: &mut [u8; TAIL_SIZE],
+    region: &mut [u8],
+    texts: &[u8],
+    lengths: &[u32],
+) -> PartsStep
+    requires { ⌜ (length (now region) ≡ regionSize) × ((ss : List Source) → Upper.orderOk (wholeOf b p ss (now tail)) (Upper.row (now texts) (now lengths)) ≡ true) × (p .tables .table ≤ lastTable) ⌝ }
+    ensures { λ r. ⌜ ((ss : List Source) → (stepWith b r ss (now (tail .exit)) ≡ Upper.upperStep (now (region .entry)) (wholeOf b p ss (now (tail .entry))) (Upper.row (now (texts .entry)) (now (lengths .entry)))) × (now (region .exit) ≡ Upper.upperRegion (now (region .entry)) (wholeOf b p ss (now (tail .entry))) (Upper.row (now (texts .entry)) (now (lengths .entry))))) ⌝ }
 {
     let x = p.tables;
     let mut out = [0u8; MAX_ROW];
@@ -52,47 +68,63 @@ fn long_row(p: Parts, region: &mut [u8], texts: &[u8], lengths: &[u32]) -> Parts
     if !fits(p.contents, n) {
         return parts_stay(p, Refusal::Full);
     }
-    let v = run_row(p, region, &out, n);
+    let v = run_row(b, p, tail, region, &out, n);
     parts_did(v)
 }
 
 // The same, with a buffer of 512 bytes, which is faster; a row that isn't written there is left to `long_row`.
-fn row_in(p: Parts, region: &mut [u8], texts: &[u8], lengths: &[u32]) -> PartsStep
-    requires { ⌜ (length (now region) ≡ regionSize) × ((ss : List Source) → Upper.orderOk (withSources p ss) (Upper.row (now texts) (now lengths)) ≡ true) × (p .tables .table ≤ lastTable) ⌝ }
-    ensures { λ r. ⌜ ((ss : List Source) → (stepWith r ss ≡ Upper.upperStep (now (region .entry)) (withSources p ss) (Upper.row (now (texts .entry)) (now (lengths .entry)))) × (now (region .exit) ≡ Upper.upperRegion (now (region .entry)) (withSources p ss) (Upper.row (now (texts .entry)) (now (lengths .entry))))) ⌝ }
+fn row_in(
+    b: Beginning,
+    p: Parts,
+    tail: &mut [u8; TAIL_SIZE],
+    region: &mut [u8],
+    texts: &[u8],
+    lengths: &[u32],
+) -> PartsStep
+    requires { ⌜ (length (now region) ≡ regionSize) × ((ss : List Source) → Upper.orderOk (wholeOf b p ss (now tail)) (Upper.row (now texts) (now lengths)) ≡ true) × (p .tables .table ≤ lastTable) ⌝ }
+    ensures { λ r. ⌜ ((ss : List Source) → (stepWith b r ss (now (tail .exit)) ≡ Upper.upperStep (now (region .entry)) (wholeOf b p ss (now (tail .entry))) (Upper.row (now (texts .entry)) (now (lengths .entry)))) × (now (region .exit) ≡ Upper.upperRegion (now (region .entry)) (wholeOf b p ss (now (tail .entry))) (Upper.row (now (texts .entry)) (now (lengths .entry))))) ⌝ }
 {
     let x = p.tables;
     let mut out = [0u8; SHORT_ROW];
     let a = row::row(x.table, texts, lengths, &mut out);
     let RowAnswer::Written(n) = a else {
-        return long_row(p, region, texts, lengths);
+        return long_row(b, p, tail, region, texts, lengths);
     };
     if !fits(p.contents, n) {
         return parts_stay(p, Refusal::Full);
     }
-    let q = run_row(p, region, &out, n);
+    let q = run_row(b, p, tail, region, &out, n);
     parts_did(q)
 }
 
 // Appends a row of the open table: its values joined, and their lengths. The sources stay unchanged.
-pub fn row_parts(p: Parts, region: &mut [u8], texts: &[u8], lengths: &[u32]) -> PartsStep
-    ensures { λ r. ⌜ ((ss : List Source) → (stepWith r ss ≡ Upper.upperStep (now (region .entry)) (withSources p ss) (Upper.row (now (texts .entry)) (now (lengths .entry)))) × (now (region .exit) ≡ Upper.upperRegion (now (region .entry)) (withSources p ss) (Upper.row (now (texts .entry)) (now (lengths .entry))))) ⌝ }
+pub fn row_parts(
+    b: Beginning,
+    p: Parts,
+    tail: &mut [u8; TAIL_SIZE],
+    region: &mut [u8],
+    texts: &[u8],
+    lengths: &[u32],
+) -> PartsStep
+    ensures { λ r. ⌜ ((ss : List Source) → (stepWith b r ss (now (tail .exit)) ≡ Upper.upperStep (now (region .entry)) (wholeOf b p ss (now (tail .entry))) (Upper.row (now (texts .entry)) (now (lengths .entry)))) × (now (region .exit) ≡ Upper.upperRegion (now (region .entry)) (wholeOf b p ss (now (tail .entry))) (Upper.row (now (texts .entry)) (now (lengths .entry))))) ⌝ }
 {
     if region.len() != REGION_SIZE {
         return parts_stay(p, Refusal::Region);
     }
-    if !may_append_parts(p) | !is_open(p.tables) {
+    if !may_append_parts(b, p) | !is_open(p.tables) {
         return parts_stay(p, Refusal::Turn);
     }
-    row_in(p, region, texts, lengths)
+    row_in(b, p, tail, region, texts, lengths)
 }
 
 // Appends a row of the open table.
 pub fn row(w: Writer, region: &mut [u8], texts: &[u8], lengths: &[u32]) -> Step
     ensures { λ r. ⌜ (r ≡ Upper.upperStep (now (region .entry)) w (Upper.row (now (texts .entry)) (now (lengths .entry)))) × (now (region .exit) ≡ Upper.upperRegion (now (region .entry)) w (Upper.row (now (texts .entry)) (now (lengths .entry)))) ⌝ }
 {
+    let b = w.beginning;
     let p = parts_of(w);
-    let s = row_parts(p, region, texts, lengths);
+    let mut tail = w.tail;
+    let s = row_parts(b, p, &mut tail, region, texts, lengths);
     let sources = w.sources;
-    step_with(s, sources)
+    step_with(b, s, sources, tail)
 }

@@ -17,7 +17,8 @@ use Rattle.writer.specs.declared.Stage.the-variants.{Idle, Due, HeaderWr
 use Rattle.writer.specs.declared.Contents.{Contents}
 use Rattle.writer.specs.declared.Tables.{Tables}
 use Rattle.writer.specs.declared.Writer.{Writer}
-use Rattle.writer.specs.declared.Answer.the-variants.{Done, Refused}
+use Rattle.writer.specs.declared.Answer.{Answer}
+use Rattle.writer.specs.declared.Answer.the-variants.{Done, Appended, NoneDue, Same, Different, Refused}
 use Rattle.writer.specs.declared.Step.{Step}
 use Rattle.base.specs.Table.{maxTables, lastTable}
 
@@ -117,6 +118,14 @@ stageOk comparing t Committed = not comparing && (t .closed && eqb (t .fill) 0)
 
 unfoldable pub inRange : Writer → Bool
 inRange w = activeOk (w .beginning .active) && (contentsOk (w .contents) && (tablesOk (position (w .contents)) (w .tables) && stageOk (w .beginning .comparing) (w .contents) (w .stage)))
+
+abbrev pub isDone : Answer → Bool
+isDone Done = true
+isDone (Appended n) = false
+isDone NoneDue = false
+isDone Same = false
+isDone Different = false
+isDone (Refused r) = false
 
 -- a call that is done, and one that is refused, which leaves the state unchanged
 abbrev pub did : Writer → Step

@@ -2,7 +2,7 @@
 ghost use mathlib.Core.Path.{_≡_};
 ghost use mathlib.Core.Bool.{_&&_};
 ghost use Rattle.writer.specs.State as State;
-ghost use Rattle.writer.specs.Parts.{partsOf, withSources, stepWith, partsDid, partsStay};
+ghost use Rattle.writer.specs.Parts.{partsOf, wholeOf, stepWith, partsDid, partsStay};
 use bank::Loaded;
 use base::table::LAST_TABLE;
 use base::table::TABLES;
@@ -86,16 +86,15 @@ pub struct Step {
     pub writer: Writer,
 }
 
-// A state without its sources, which are most of its bytes and which most calls leave unchanged.
+// The few bytes of a state that calls change at every step. What the beginning fixed, the sources and the tail are passed beside them, so
+// that they aren't copied from call to call.
 pub struct Parts {
     pub stage: Stage,
-    pub beginning: Beginning,
     pub contents: Contents,
     pub tables: Tables,
-    pub tail: [u8; TAIL_SIZE],
 }
 
-// The answer, and the state after a call that leaves the sources unchanged.
+// The answer, and the parts after the call.
 pub struct PartsStep {
     pub answer: Answer,
     pub parts: Parts,
@@ -239,6 +238,20 @@ pub fn in_range(w: Writer) -> bool
     parts_in_range(b, t, x, s)
 }
 
+// Whether a call answered that it is done.
+pub fn is_done(a: Answer) -> bool
+    ensures { λ r. ⌜ r ≡ State.isDone a ⌝ }
+{
+    match a {
+        Answer::Done => true,
+        Answer::Appended(_) => false,
+        Answer::NoneDue => false,
+        Answer::Same => false,
+        Answer::Different => false,
+        Answer::Refused(_) => false,
+    }
+}
+
 // A call that is done.
 pub fn did(w: Writer) -> Step
     ensures { λ x. ⌜ x ≡ State.did w ⌝ }
@@ -263,27 +276,27 @@ pub fn parts_of(w: Writer) -> Parts
     ensures { λ r. ⌜ r ≡ partsOf w ⌝ }
 {
     let stage = w.stage;
-    let beginning = w.beginning;
     let contents = w.contents;
     let tables = w.tables;
-    let tail = w.tail;
     Parts {
         stage,
-        beginning,
         contents,
         tables,
-        tail,
     }
 }
 
-pub fn with_sources(p: Parts, sources: [Source; SOURCES]) -> Writer
-    ensures { λ r. ⌜ r ≡ withSources p sources ⌝ }
+// The whole state again.
+pub fn whole(
+    beginning: Beginning,
+    p: Parts,
+    sources: [Source; SOURCES],
+    tail: [u8; TAIL_SIZE],
+) -> Writer
+    ensures { λ r. ⌜ r ≡ wholeOf beginning p sources tail ⌝ }
 {
     let stage = p.stage;
-    let beginning = p.beginning;
     let contents = p.contents;
     let tables = p.tables;
-    let tail = p.tail;
     Writer {
         stage,
         beginning,
@@ -294,12 +307,17 @@ pub fn with_sources(p: Parts, sources: [Source; SOURCES]) -> Writer
     }
 }
 
-pub fn step_with(s: PartsStep, sources: [Source; SOURCES]) -> Step
-    ensures { λ r. ⌜ r ≡ stepWith s sources ⌝ }
+pub fn step_with(
+    beginning: Beginning,
+    s: PartsStep,
+    sources: [Source; SOURCES],
+    tail: [u8; TAIL_SIZE],
+) -> Step
+    ensures { λ r. ⌜ r ≡ stepWith beginning s sources tail ⌝ }
 {
     let answer = s.answer;
     let p = s.parts;
-    let writer = with_sources(p, sources);
+    let writer = whole(beginning, p, sources, tail);
     Step { answer, writer }
 }
 

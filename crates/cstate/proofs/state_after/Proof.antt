@@ -10,9 +10,7 @@ state-with-requires : tie.Need-state-with-requires
 state-with-requires c κs = search needs
 
 returns : tie.Need-returns
-returns c =
-    let t = c .before .before in
-    rw (sym (t .before .is-answer .ensures) ∙ t .if1 .taken) (c .state-with .ensures)
+returns c = rw (sym (c .before .before .before .before .is-answer .ensures) ∙ c .before .before .before .if1 .taken) (c .state-with .ensures)
 
 returns-2 : tie.Need-returns-2
 returns-2 c = rw (sym (c .before .is-answer .ensures) ∙ c .if1 .left)

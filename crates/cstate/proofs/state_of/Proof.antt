@@ -1,6 +1,6 @@
 use mathlib.Core.Path.{ap, _∙_}
 use Rattle.writer.specs.declared.Parts.{Parts}
-use Rattle.writer.specs.Parts.{withSources}
+use Rattle.writer.specs.Parts.{wholeOf}
 use Rattle.cstate.specs.State.{savedOf}
 use borrow.Author.Needs.{needs}
 use Rattle.cstate.proofs.state_of.Statement.{statement}
@@ -14,8 +14,8 @@ state-with-requires c κs = search needs
 
 returns : tie.Need-returns
 returns c =
-    let p = c .before .before in
-    c .state-with .ensures ∙ ap (λ (q : Parts). savedOf (withSources q (p .before .args .w .sources))) (p .parts-of .ensures)
+    let w = c .before .before .before .before .before .args .w in
+    c .state-with .ensures ∙ ap (λ (q : Parts). savedOf (wholeOf (w .beginning) q (w .sources) (w .tail))) (c .before .before .before .parts-of .ensures)
 
 pub state-of-spec : {M : Type 1} → statement M
 state-of-spec = tie.close (tie.spec parts-of-requires state-with-requires returns)

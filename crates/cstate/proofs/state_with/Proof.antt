@@ -27,26 +27,26 @@ flag-requires-3 c κs = search needs
 returns : tie.Need-returns
 unfolding savedOf
 returns c =
-    let n = c .before .before .before .before .before .before .before .before in
-    let w = n .before .before .before .args .p in
-    let t = toZ-ofZ w64 (w .beginning .now) (record { sfits = c .struct-told .given .1 .1 .0 .1 }) in
-    let e = n .stage-numbers .ensures in
+    let e = c .before .before .before .before .before .before .before .stage-numbers .ensures in
+    let a = c .before .before .before .before .before .before .before .before .before .args in
+    let p = a .p in
+    let t = toZ-ofZ w64 (a .b .now) (record { sfits = c .struct-told .given .1 .1 .0 .1 }) in
     λ i. record {
       stage = e i .kind;
       first = e i .first;
       second = e i .second;
-      active = c .before .before .before .before .before .before .before .active-kind .ensures i;
-      bank = c .before .before .before .before .before .before .bank-in .ensures i;
+      active = c .before .before .before .before .before .before .active-kind .ensures i;
+      bank = c .before .before .before .before .before .bank-in .ensures i;
       now = t i;
       comparing = c .before .before .before .flag .ensures i;
-      written = w .contents .written;
-      fill = w .contents .fill;
-      crc = w .contents .crc;
+      written = p .contents .written;
+      fill = p .contents .fill;
+      crc = p .contents .crc;
       different = c .before .before .flag2 .ensures i;
       closed = c .before .flag3 .ensures i;
-      tables = w .tables;
-      sources = n .before .before .before .args .sources;
-      tail = w .tail;
+      tables = p .tables;
+      sources = a .sources;
+      tail = a .tail;
     }
 
 pub state-with-spec : {M : Type 1} → statement M

@@ -21,19 +21,19 @@ enum-told-2 c = search needs
 returns : tie.Need-returns
 returns c =
     let a = c .before .before .before .before .before .args in
-    c .differs-from .ensures ∙ sym (ap (λ (l : Loaded). differs (a .region .now) l (a .t) (a .tail)) (c .before .before .l .given .1))
+    c .differs-from .ensures ∙ sym (ap (λ (l : Loaded). differs (a .region .now) l (a .t) (a .tail .now)) (c .before .before .l .given .1))
 
 returns-2 : tie.Need-returns-2
 unfolding differs
 returns-2 c =
     let a = c .before .before .before .args in
-    sym (ap (λ (l : Loaded). differs (a .region .now) l (a .t) (a .tail)) (c .enum-told .given .1))
+    sym (ap (λ (l : Loaded). differs (a .region .now) l (a .t) (a .tail .now)) (c .enum-told .given .1))
 
 returns-3 : tie.Need-returns-3
 unfolding differs
 returns-3 c =
     let a = c .before .before .before .args in
-    sym (ap (λ (l : Loaded). differs (a .region .now) l (a .t) (a .tail)) (c .enum-told2 .given .1))
+    sym (ap (λ (l : Loaded). differs (a .region .now) l (a .t) (a .tail .now)) (c .enum-told2 .given .1))
 
 pub differs-spec : {M : Type 1} → statement M
 differs-spec =

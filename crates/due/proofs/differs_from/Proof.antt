@@ -9,10 +9,10 @@ use lib.Dec.{leb}
 use lib.ListN.{take, drop}
 use Rattle.base.specs.Same.{same}
 use Rattle.due.specs.Due.{differs}
+use Rattle.region.specs.Region.{sectorSize}
 use borrow.Author.Needs.{needs}
 use Rattle.due.proofs.differs_from.Statement.{statement}
 use Rattle.due.proofs.differs_from.Tie as tie
-use Rattle.region.specs.Region.{sectorSize}
 
 cast-n : tie.Need-cast-n
 cast-n c = search needs
@@ -56,11 +56,10 @@ same-bytes-requires c κs = search needs
 returns : tie.Need-returns
 unfolding differs
 returns c =
-    let p = c .before .before .before .before .before .before in
-    let b = p .before .before in
-    let a = b .before .before .before .args in
-    let x = p .part .ensures ∙ ap (λ (l : List ℕ). take (a .t .fill) (drop (sectorSize + a .t .written) l)) (b .bank-of .ensures) in
-    let y = ap (λ (n : ℕ). take n (a .t4)) (sub-zero (a .t .fill)) in
+    let b = c .before .before .before .before .before .before .before .before in
+    let a = c .before .before .before .before .before .before .before .before .before .before .before .args in
+    let x = c .before .before .before .before .before .before .part .ensures ∙ ap (λ (l : List ℕ). take (a .t .fill) (drop (sectorSize + a .t .written) l)) (b .bank-of .ensures) in
+    let y = ap (λ (n : ℕ). take n (a .tail .now)) (sub-zero (a .t .fill)) in
     ap (λ (t : Bool). not (leb (a .t .written + a .t .fill) (a .b .length)) || not t) (c .same-bytes .ensures ∙ (λ i. same (x i) (y i)))
 
 pub differs-from-spec : {M : Type 1} → statement M

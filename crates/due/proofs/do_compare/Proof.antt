@@ -1,4 +1,4 @@
-use Rattle.writer.specs.Parts.{withSources, stepWith}
+use Rattle.writer.specs.Parts.{wholeOf, stepWith}
 use Rattle.writer.specs.declared.PartsStep.{PartsStep}
 use mathlib.Core.Path.{ap, _∙_}
 use mathlib.Core.Bool.{Bool, _||_}
@@ -21,8 +21,8 @@ parts-did-requires c κs = search needs
 returns : tie.Need-returns
 returns c =
     let d = c .before .before .before in
-    let a = d .before .before .before .before .before .args in
-    λ ss. ap (λ (s : PartsStep). stepWith s ss) (c .parts-did .ensures) ∙ ap did (c .before .with-emptied .ensures ss ∙ ap (λ (t : Bool). withEmptied (withSources (a .p) ss) (a .p .contents .different || t)) (d .differs .ensures) ∙ compared (a .region .now) (withSources (a .p) ss) (a .offset) (a .n))
+    let a = d .before .before .before .args in
+    λ ss. ap (λ (s : PartsStep). stepWith (a .b) s ss (a .tail .now)) (c .parts-did .ensures) ∙ ap did (c .before .with-emptied .ensures (a .b) ss (a .tail .now) ∙ ap (λ (t : Bool). withEmptied (wholeOf (a .b) (a .p) ss (a .tail .now)) (a .p .contents .different || t)) (d .differs .ensures) ∙ compared (a .region .now) (wholeOf (a .b) (a .p) ss (a .tail .now)) (a .offset) (a .n))
 
 pub do-compare-spec : {M : Type 1} → statement M
 do-compare-spec = tie.close (tie.spec differs-requires with-emptied-requires parts-did-requires returns)

@@ -1,5 +1,5 @@
 -- One erase on the bank that isn't active (`one-op`), whose sector is inside; the state after it is `erased`.
-use Rattle.writer.specs.Parts.{withSources, stepWith}
+use Rattle.writer.specs.Parts.{wholeOf, stepWith}
 use Rattle.writer.specs.declared.PartsStep.{PartsStep}
 use mathlib.Core.Path.{ap, _∙_}
 use Prim.Native.Nat.{ℕ, _*_}
@@ -34,10 +34,10 @@ returns : tie.Need-returns
 returns c =
     let e = c .before .before .before .before in
     let t = e .before .before in
-    let s = t .before .before .before in
+    let s = t .before .before in
     let a = s .args in
-    let l = a .p .beginning .active in (
-      λ ss. ap (λ (s : PartsStep). stepWith s ss) (c .parts-did .ensures) ∙ ap did (c .before .after-erase .ensures ss ∙ erased (a .region .now) (withSources (a .p) ss) (a .sector)),
+    let l = a .b .active in (
+      λ ss tail. ap (λ (s : PartsStep). stepWith (a .b) s ss tail) (c .parts-did .ensures) ∙ ap did (c .before .after-erase .ensures (a .b) ss tail ∙ erased (a .region .now) (wholeOf (a .b) (a .p) ss tail) (a .sector)),
       e .erase .ensures ∙ ap (λ (n : ℕ). erasedIn (a .region .now) n (a .sector * sectorSize)) (t .target .ensures) ∙ one-op (a .region .now) (target l) (erase (a .sector * sectorSize)) (s .pre .0) (target-fits l) (omega (arith, s .pre .1)),
     )
 

@@ -1,5 +1,5 @@
 -- One write of the padded tail on the bank that isn't active (`one-op`), which is inside; the state after it is `written-tail`.
-use Rattle.writer.specs.Parts.{withSources, stepWith}
+use Rattle.writer.specs.Parts.{wholeOf, stepWith}
 use Rattle.writer.specs.declared.PartsStep.{PartsStep}
 use mathlib.Core.Path.{ap, _∙_}
 use Prim.Native.Nat.{ℕ, _+_}
@@ -32,13 +32,13 @@ same-length c = search needs
 returns : tie.Need-returns
 returns c =
     let v = c .before .before .before .before .before in
-    let t = v .before .before .before in
-    let s = t .before .before .before in
+    let t = v .before .before in
+    let s = t .before .before in
     let a = s .args in
-    let l = a .p .beginning .active in
-    let y = length-padded (take (a .n) (a .p .tail)) (omega (arith, length-take (a .n) (a .p .tail), s .pre .1)) in (
-      λ ss. ap (λ (s : PartsStep). stepWith s ss) (c .parts-did .ensures) ∙ ap did (c .before .with-emptied .ensures ss ∙ written-tail (a .region .now) (withSources (a .p) ss) (a .offset) (a .n)),
-      v .write-tail .ensures ∙ ap (λ (n : ℕ). writtenIn (a .region .now) n (sectorSize + a .offset) (padded (take (a .n) (a .p .tail)))) (t .target .ensures) ∙ one-op (a .region .now) (target l) (write (sectorSize + a .offset) (padded (take (a .n) (a .p .tail)))) (s .pre .0) (target-fits l) (omega (arith, y, s .pre .2)),
+    let l = a .b .active in
+    let y = length-padded (take (a .n) (a .tail .now)) (omega (arith, length-take (a .n) (a .tail .now), s .pre .1)) in (
+      λ ss. ap (λ (s : PartsStep). stepWith (a .b) s ss (a .tail .now)) (c .parts-did .ensures) ∙ ap did (c .before .with-emptied .ensures (a .b) ss (a .tail .now) ∙ written-tail (a .region .now) (wholeOf (a .b) (a .p) ss (a .tail .now)) (a .offset) (a .n)),
+      v .write-tail .ensures ∙ ap (λ (n : ℕ). writtenIn (a .region .now) n (sectorSize + a .offset) (padded (take (a .n) (a .tail .now)))) (t .target .ensures) ∙ one-op (a .region .now) (target l) (write (sectorSize + a .offset) (padded (take (a .n) (a .tail .now)))) (s .pre .0) (target-fits l) (omega (arith, y, s .pre .2)),
     )
 
 pub do-write-spec : {M : Type 1} → statement M

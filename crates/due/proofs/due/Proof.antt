@@ -1,7 +1,7 @@
--- The call on a whole state is the call on its parts, and the sources are put back.
+-- The call on a whole state is the call on its parts; the sources and the tail stay.
 use mathlib.Core.Path.{ap, _∙_}
 use Rattle.writer.specs.declared.Parts.{Parts}
-use Rattle.writer.specs.Parts.{withSources}
+use Rattle.writer.specs.Parts.{wholeOf}
 use Rattle.due.specs.Due.{dueStep, dueRegion}
 use borrow.Author.Needs.{needs}
 use Rattle.due.proofs.due.Statement.{statement}
@@ -21,14 +21,15 @@ same-length c = search needs
 
 returns : tie.Need-returns
 returns c =
-    let d = c .before .before .before .before in
-    let a = d .before .before .before .before .args in
-    let ss = a .w .sources in
-    let e = d .before .before .parts-of .ensures in
-    let x = d .due-parts .ensures ss in (
-      c .step-with .ensures ∙ x .0 ∙ ap (λ (p : Parts). dueStep (a .region .now) (withSources p ss)) e,
-      x .1 ∙ ap (λ (p : Parts). dueRegion (a .region .now) (withSources p ss)) e,
+    let a = c .before .before .before .before .before .before .before .before .before .before .before .args in
+    let w = a .w in
+    let e = c .before .before .before .before .before .before .before .before .parts-of .ensures in
+    let x = c .before .before .before .before .due-parts .ensures (w .sources) in (
+      c .step-with .ensures ∙ x .0 ∙ ap (λ (p : Parts). dueStep (a .region .now) (wholeOf (w .beginning) p (w .sources) (w .tail))) e,
+      x .1 ∙ ap (λ (p : Parts). dueRegion (a .region .now) (wholeOf (w .beginning) p (w .sources) (w .tail))) e,
     )
 
 pub due-spec : {M : Type 1} → statement M
-due-spec = tie.close (tie.spec parts-of-requires due-parts-requires step-with-requires same-length returns)
+due-spec =
+    tie.close
+    (tie.spec parts-of-requires due-parts-requires step-with-requires same-length returns)

@@ -1,5 +1,5 @@
 -- Only the stage Due has an operation; in the other three the answer is that none is due, and no operation is done.
-use Rattle.writer.specs.Parts.{withSources, stepWith}
+use Rattle.writer.specs.Parts.{wholeOf, stepWith}
 use Rattle.writer.specs.declared.PartsStep.{PartsStep}
 use mathlib.Core.Path.{sym, ap, _∙_}
 use Rattle.flash.specs.Flash.{performed}
@@ -44,8 +44,8 @@ returns c =
     let o = c .before .before .before .before .before in
     let a = o .before .before .before .args in
     let h = o .s .given .1 in (
-      λ ss. c .before .before .operate .ensures .0 ss ∙ sym (ap (stepOf (a .region .now) (withSources (a .p) ss)) h),
-      c .before .before .operate .ensures .1 ∙ sym (ap (λ (x : Stage). performed (target (a .p .beginning .active)) (opsOf (a .p .tail) x) (a .region .now)) h),
+      λ ss. c .before .before .operate .ensures .0 ss ∙ sym (ap (stepOf (a .region .now) (wholeOf (a .b) (a .p) ss (a .tail .now))) h),
+      c .before .before .operate .ensures .1 ∙ sym (ap (λ (x : Stage). performed (target (a .b .active)) (opsOf (a .tail .now) x) (a .region .now)) h),
     )
 
 returns-2 : tie.Need-returns-2
@@ -53,8 +53,8 @@ unfolding performed
 returns-2 c =
     let a = c .before .before .before .before .args in
     let h = c .before .enum-told .given .1 in (
-      λ ss. ap (λ (s : PartsStep). stepWith s ss) (c .none-due .ensures) ∙ sym (ap (stepOf (a .region .now) (withSources (a .p) ss)) h),
-      sym (ap (λ (x : Stage). performed (target (a .p .beginning .active)) (opsOf (a .p .tail) x) (a .region .now)) h),
+      λ ss. ap (λ (s : PartsStep). stepWith (a .b) s ss (a .tail .now)) (c .none-due .ensures) ∙ sym (ap (stepOf (a .region .now) (wholeOf (a .b) (a .p) ss (a .tail .now))) h),
+      sym (ap (λ (x : Stage). performed (target (a .b .active)) (opsOf (a .tail .now) x) (a .region .now)) h),
     )
 
 returns-3 : tie.Need-returns-3
@@ -62,8 +62,8 @@ unfolding performed
 returns-3 c =
     let a = c .before .before .before .before .args in
     let h = c .before .enum-told2 .given .1 in (
-      λ ss. ap (λ (s : PartsStep). stepWith s ss) (c .none-due2 .ensures) ∙ sym (ap (stepOf (a .region .now) (withSources (a .p) ss)) h),
-      sym (ap (λ (x : Stage). performed (target (a .p .beginning .active)) (opsOf (a .p .tail) x) (a .region .now)) h),
+      λ ss. ap (λ (s : PartsStep). stepWith (a .b) s ss (a .tail .now)) (c .none-due2 .ensures) ∙ sym (ap (stepOf (a .region .now) (wholeOf (a .b) (a .p) ss (a .tail .now))) h),
+      sym (ap (λ (x : Stage). performed (target (a .b .active)) (opsOf (a .tail .now) x) (a .region .now)) h),
     )
 
 returns-4 : tie.Need-returns-4
@@ -71,8 +71,8 @@ unfolding performed
 returns-4 c =
     let a = c .before .before .before .before .args in
     let h = c .before .enum-told3 .given .1 in (
-      λ ss. ap (λ (s : PartsStep). stepWith s ss) (c .none-due3 .ensures) ∙ sym (ap (stepOf (a .region .now) (withSources (a .p) ss)) h),
-      sym (ap (λ (x : Stage). performed (target (a .p .beginning .active)) (opsOf (a .p .tail) x) (a .region .now)) h),
+      λ ss. ap (λ (s : PartsStep). stepWith (a .b) s ss (a .tail .now)) (c .none-due3 .ensures) ∙ sym (ap (stepOf (a .region .now) (wholeOf (a .b) (a .p) ss (a .tail .now))) h),
+      sym (ap (λ (x : Stage). performed (target (a .b .active)) (opsOf (a .tail .now) x) (a .region .now)) h),
     )
 
 pub in-stage-spec : {M : Type 1} → statement M

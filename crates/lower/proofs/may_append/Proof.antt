@@ -1,6 +1,6 @@
 use mathlib.Core.Path.{ap, _∙_}
 use Rattle.writer.specs.declared.Parts.{Parts}
-use Rattle.writer.specs.Parts.{withSources}
+use Rattle.writer.specs.Parts.{wholeOf}
 use Rattle.lower.specs.Lower.{mayAppend}
 use borrow.Author.Needs.{needs}
 use Rattle.lower.proofs.may_append.Statement.{statement}
@@ -14,8 +14,8 @@ may-append-parts-requires c κs = search needs
 
 returns : tie.Need-returns
 returns c =
-    let ss = c .before .before .args .w .sources in
-    c .may-append-parts .ensures ss ∙ ap (λ (p : Parts). mayAppend (withSources p ss)) (c .before .parts-of .ensures)
+    let w = c .before .before .args .w in
+    c .may-append-parts .ensures (w .sources) (w .tail) ∙ ap (λ (p : Parts). mayAppend (wholeOf (w .beginning) p (w .sources) (w .tail))) (c .before .parts-of .ensures)
 
 pub may-append-spec : {M : Type 1} → statement M
 may-append-spec = tie.close (tie.spec parts-of-requires may-append-parts-requires returns)

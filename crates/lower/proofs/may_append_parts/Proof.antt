@@ -10,7 +10,7 @@ parts-in-range-requires c κs = search needs
 
 returns : tie.Need-returns
 unfolding inRange
-returns c = λ ss. ap (λ (t : Bool). t && not (c .before .before .before .before .before .args .p .contents .closed)) (c .before .parts-in-range .ensures)
+returns c = λ ss tail. ap (λ (t : Bool). t && not (c .before .before .before .before .args .p .contents .closed)) (c .before .parts-in-range .ensures)
 
 pub may-append-parts-spec : {M : Type 1} → statement M
 may-append-parts-spec = tie.close (tie.spec parts-in-range-requires returns)

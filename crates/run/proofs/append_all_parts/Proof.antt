@@ -1,7 +1,7 @@
 -- The invariant: running the appends of the bytes from i on, from the state and region so far, ends as running all of them from the start
 -- does. Each chunk keeps it (`fed-more`).
 use Rattle.record.specs.declared.Source.{Source}
-use Rattle.writer.specs.Parts.{withSources}
+use Rattle.writer.specs.Parts.{wholeOf}
 use mathlib.Core.Path.{_≡_, refl, ap, _∙_}
 use mathlib.Core.List.{List}
 use Prim.Native.Nat.{ℕ, _-_, _≤_, _<_}
@@ -15,12 +15,12 @@ use Rattle.run.proofs.append_all_parts.Statement.{statement}
 use Rattle.run.proofs.append_all_parts.Tie as tie
 
 abbrev Inv-loop : tie.InvT-loop
-Inv-loop region₀ bytes q₀ i₀ region q i =
+Inv-loop b tail₀ region₀ bytes q₀ i₀ tail region q i =
     (i ≤ length bytes) × (length bytes < 18446744073709551616) × (length region ≡ length region₀)
-    × ((ss : List Source) → (ranWriter region (withSources q ss) (appends (drop i bytes)) ≡ ranWriter region₀ (withSources q₀ ss) (appends bytes)) × (ranRegion region (withSources q ss) (appends (drop i bytes)) ≡ ranRegion region₀ (withSources q₀ ss) (appends bytes)))
+    × ((ss : List Source) → (ranWriter region (wholeOf b q ss tail) (appends (drop i bytes)) ≡ ranWriter region₀ (wholeOf b q₀ ss tail₀) (appends bytes)) × (ranRegion region (wholeOf b q ss tail) (appends (drop i bytes)) ≡ ranRegion region₀ (wholeOf b q₀ ss tail₀) (appends bytes)))
 
 abbrev μ-loop : tie.MeasureT-loop
-μ-loop region₀ bytes q₀ i₀ region q i = length bytes - i
+μ-loop b tail₀ region₀ bytes q₀ i₀ tail region q i = length bytes - i
 
 loop-holds : tie.Need-loop-holds Inv-loop μ-loop
 loop-holds c = (omega arith, omega arith, refl, λ ss. (refl, refl))
@@ -36,39 +36,40 @@ part-rest-end c = search needs
 
 append-some-requires : tie.Need-append-some-requires Inv-loop μ-loop
 append-some-requires c κs =
-    let a = c .before .before .before .before .before .before .args in
-    let l = c .before .before .before .loop in
+    let a = c .before .before .before .before .before .before .before .args in
+    let l = c .before .before .before .before .loop in
     omega (arith, ap length (rest-is (a .bytes .now) (l .i) (omega arith)), length-drop (l .i) (a .bytes .now))
 
 add-i : tie.Need-add-i Inv-loop μ-loop
 add-i c =
-    let a = c .before .before .before .before .before .before .before .before .before .before .before .args in
-    let l = c .before .before .before .before .before .before .before .before .loop in
+    let a = c .before .before .before .before .before .before .before .before .before .before .before .before .args in
+    let l = c .before .before .before .before .before .before .before .before .before .loop in
     let q = c .before .before .before .before .append-some in
     omega (arith, l .inv .1, q .ensures .1, ap length (rest-is (a .bytes .now) (l .i) (omega arith)), length-drop (l .i) (a .bytes .now))
 
 loop-less : tie.Need-loop-less Inv-loop μ-loop
 loop-less c =
-    let a = c .before .before .before .before .before .before .before .before .before .before .before .args in
-    let l = c .before .before .before .before .before .before .before .before .loop in
+    let a = c .before .before .before .before .before .before .before .before .before .before .before .before .args in
+    let l = c .before .before .before .before .before .before .before .before .before .loop in
     let q = c .before .before .before .before .append-some in
     omega (arith, q .ensures .0, q .ensures .1, ap length (rest-is (a .bytes .now) (l .i) (omega arith)), length-drop (l .i) (a .bytes .now))
 
 loop-again : tie.Need-loop-again Inv-loop μ-loop
 loop-again c =
-    let a = c .before .before .before .before .before .before .before .before .before .before .before .args in
-    let l = c .before .before .before .before .before .before .before .before .loop in
+    let a = c .before .before .before .before .before .before .before .before .before .before .before .before .args in
+    let l = c .before .before .before .before .before .before .before .before .before .loop in
     let q = c .before .before .before .before .append-some in
-    let r = q .last .1 .0 in
-    let b = a .bytes .now in
+    let r = q .last .1 .1 .1 .0 in
+    let t = q .last .1 .1 .0 in
+    let bs = a .bytes .now in
     let n = q .result .n in
-    let h : l .i ≤ length b = omega arith in (
-      omega (arith, q .ensures .1, ap length (rest-is b (l .i) h), length-drop (l .i) b),
+    let h : l .i ≤ length bs = omega arith in (
+      omega (arith, q .ensures .1, ap length (rest-is bs (l .i) h), length-drop (l .i) bs),
       l .inv .1,
-      q .kept .1 .0 ∙ l .inv .2,
+      q .kept .1 .1 .1 .0 ∙ l .inv .2,
       λ ss. (
-        fed-more (λ (x : List ℕ). ranWriter (l .region) (withSources (l .q) ss) (appends x)) (λ (x : List ℕ). ranWriter r (withSources (q .result .parts) ss) (appends x)) (ranWriter (a .region .now) (withSources (a .p) ss) (appends b)) b (l .i) n h (q .ensures .2 ss .0) (l .inv .3 ss .0),
-        fed-more (λ (x : List ℕ). ranRegion (l .region) (withSources (l .q) ss) (appends x)) (λ (x : List ℕ). ranRegion r (withSources (q .result .parts) ss) (appends x)) (ranRegion (a .region .now) (withSources (a .p) ss) (appends b)) b (l .i) n h (q .ensures .2 ss .1) (l .inv .3 ss .1),
+        fed-more (λ (x : List ℕ). ranWriter (l .region) (wholeOf (a .b) (l .q) ss (l .tail)) (appends x)) (λ (x : List ℕ). ranWriter r (wholeOf (a .b) (q .result .parts) ss t) (appends x)) (ranWriter (a .region .now) (wholeOf (a .b) (a .p) ss (a .tail .now)) (appends bs)) bs (l .i) n h (q .ensures .2 ss .0) (l .inv .3 ss .0),
+        fed-more (λ (x : List ℕ). ranRegion (l .region) (wholeOf (a .b) (l .q) ss (l .tail)) (appends x)) (λ (x : List ℕ). ranRegion r (wholeOf (a .b) (q .result .parts) ss t) (appends x)) (ranRegion (a .region .now) (wholeOf (a .b) (a .p) ss (a .tail .now)) (appends bs)) bs (l .i) n h (q .ensures .2 ss .1) (l .inv .3 ss .1),
       ),
     )
 
@@ -79,10 +80,10 @@ returns : tie.Need-returns Inv-loop μ-loop
 returns c =
     let a = c .before .before .before .before .args in
     let l = c .before .loop in
-    let b = a .bytes .now in
+    let bs = a .bytes .now in
     λ ss. (
-      fed-all-writer (l .region) (withSources (l .q) ss) b (l .i) (omega arith) (ranWriter (a .region .now) (withSources (a .p) ss) (appends b)) (l .inv .3 ss .0),
-      fed-all-region (l .region) (withSources (l .q) ss) b (l .i) (omega arith) (ranRegion (a .region .now) (withSources (a .p) ss) (appends b)) (l .inv .3 ss .1),
+      fed-all-writer (l .region) (wholeOf (a .b) (l .q) ss (l .tail)) bs (l .i) (omega arith) (ranWriter (a .region .now) (wholeOf (a .b) (a .p) ss (a .tail .now)) (appends bs)) (l .inv .3 ss .0),
+      fed-all-region (l .region) (wholeOf (a .b) (l .q) ss (l .tail)) bs (l .i) (omega arith) (ranRegion (a .region .now) (wholeOf (a .b) (a .p) ss (a .tail .now)) (appends bs)) (l .inv .3 ss .1),
     )
 
 pub append-all-parts-spec : {M : Type 1} → statement M

@@ -1,6 +1,6 @@
 -- One byte, then what is due, is the first part of the run (`one-fed`).
-use Rattle.writer.specs.Parts.{withSources, stepWith}
 use native.Mathlib.Omega.{arith}
+use Rattle.writer.specs.Parts.{wholeOf, stepWith}
 use Rattle.run.proofs.Laws.{one-fed}
 use borrow.Author.Needs.{needs}
 use Rattle.run.proofs.append_one.Statement.{statement}
@@ -26,12 +26,12 @@ same-length c = search needs
 
 returns : tie.Need-returns
 returns c =
-    let t = c .before .before in
-    let s = t .before .before in
-    let a = s .before .before .before .before .args in
-    let q = t .flush-parts in
-    let b = s .append-parts in
-    (omega arith, omega arith, λ ss. one-fed (a .region .now) (withSources (a .p) ss) (a .bytes .now) (omega arith) (stepWith (b .result) ss) (b .ensures ss) (withSources (q .result) ss) (q .last .1 .0) (q .ensures ss .0) (q .ensures ss .1))
+    let q = c .before .before .flush-parts in
+    let s = c .before .before .before .before .before .append-parts in
+    let z = c .before .before .before .before .before .before .before .before .before .before in
+    let a = z .args in
+    let t = s .last .1 .1 .0 in
+    (omega arith, z .pre, λ ss. one-fed (a .region .now) (wholeOf (a .b) (a .p) ss (a .tail .now)) (a .bytes .now) (z .pre) (stepWith (a .b) (s .result) ss t) (s .ensures ss) (wholeOf (a .b) (q .result) ss t) (q .last .1 .1 .1 .0) (q .ensures ss .0) (q .ensures ss .1))
 
 pub append-one-spec : {M : Type 1} → statement M
 append-one-spec =

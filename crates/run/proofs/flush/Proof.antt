@@ -10,19 +10,19 @@ parts-of-requires c κs = search needs
 flush-parts-requires : tie.Need-flush-parts-requires
 flush-parts-requires c κs = search needs
 
-with-sources-requires : tie.Need-with-sources-requires
-with-sources-requires c κs = search needs
+whole-requires : tie.Need-whole-requires
+whole-requires c κs = search needs
 
 same-length : tie.Need-same-length
 same-length c = search needs
 
 returns : tie.Need-returns
 returns c =
-    let d = c .before .before .before .before in
-    let p = d .before .before in
-    let a = p .before .before .args in
-    let q = d .flush-parts in
-    joined (a .region .now) (a .w) (dues) (p .parts-of .result) (q .result) (c .with-sources .result) (q .last .1 .0) (p .parts-of .ensures) (q .ensures) (c .with-sources .ensures)
+    let q = c .before .before .before .before .flush-parts in
+    let p = c .before .before .before .before .before .before .before .before .parts-of in
+    let a = c .before .before .before .before .before .before .before .before .before .before .before .args in
+    joined (a .region .now) (a .w) dues (p .result) (q .result) (a .w .tail) (c .whole .result) (q .last .1 .1 .1 .0) (p .ensures) (q .ensures) (c .whole .ensures)
 
 pub flush-spec : {M : Type 1} → statement M
-flush-spec = tie.close (tie.spec parts-of-requires flush-parts-requires with-sources-requires same-length returns)
+flush-spec =
+    tie.close (tie.spec parts-of-requires flush-parts-requires whole-requires same-length returns)

@@ -1,4 +1,4 @@
-use Rattle.writer.specs.Parts.{withSources}
+use Rattle.writer.specs.Parts.{wholeOf}
 use Rattle.run.specs.Appends.{dues, appends}
 use Rattle.run.proofs.Laws.{then-writer, then-region}
 use borrow.Author.Needs.{needs}
@@ -17,14 +17,14 @@ same-length c = search needs
 returns : tie.Need-returns
 returns c =
     let z = c .before .before .append-all-parts in
-    let y = c .before .before .before .before .before .before in
-    let s = y .flush-parts in
-    let a = y .before .before .before .before .args in
-    let r = s .last .1 .0 in
+    let s = c .before .before .before .before .before .before .before .flush-parts in
+    let a = c .before .before .before .before .before .before .before .before .before .before .before .before .args in
+    let r = s .last .1 .1 .1 .0 in
     λ ss. (
-      then-writer (a .region .now) (withSources (a .p) ss) dues (appends (a .bytes .now)) (withSources (s .result) ss) r (s .ensures ss .0) (s .ensures ss .1) (withSources (z .result) ss) (z .ensures ss .0),
-      then-region (a .region .now) (withSources (a .p) ss) dues (appends (a .bytes .now)) (withSources (s .result) ss) r (s .ensures ss .0) (s .ensures ss .1) (z .last .1 .0) (z .ensures ss .1),
+      then-writer (a .region .now) (wholeOf (a .b) (a .p) ss (a .tail .now)) dues (appends (a .bytes .now)) (wholeOf (a .b) (s .result) ss (a .tail .now)) r (s .ensures ss .0) (s .ensures ss .1) (wholeOf (a .b) (z .result) ss (z .last .1 .1 .0)) (z .ensures ss .0),
+      then-region (a .region .now) (wholeOf (a .b) (a .p) ss (a .tail .now)) dues (appends (a .bytes .now)) (wholeOf (a .b) (s .result) ss (a .tail .now)) r (s .ensures ss .0) (s .ensures ss .1) (z .last .1 .1 .1 .0) (z .ensures ss .1),
     )
 
 pub flush-append-parts-spec : {M : Type 1} → statement M
-flush-append-parts-spec = tie.close (tie.spec flush-parts-requires append-all-parts-requires same-length returns)
+flush-append-parts-spec =
+    tie.close (tie.spec flush-parts-requires append-all-parts-requires same-length returns)

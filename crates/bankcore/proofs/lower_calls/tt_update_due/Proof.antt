@@ -1,15 +1,17 @@
--- The call on the state's parts is the call on the state; a due call leaves the tail (`due-tail`).
-use mathlib.Core.Path.{ap, _∙_}
-use Rattle.writer.specs.declared.Parts.{Parts}
+-- The call on the state's parts is the call on the state, with the state's own sources and tail.
+use mathlib.Core.Path.{refl, ap, _∙_}
 use Rattle.writer.specs.declared.Step.{Step}
-use Rattle.writer.specs.Parts.{withSources}
-use Rattle.due.specs.Due.{dueStep, dueRegion}
+use Rattle.writer.specs.Parts.{wholeOf}
 use Rattle.cstate.specs.State.{writerOf}
 use Rattle.cstate.specs.Answers.{after}
-use Rattle.bankcore.proofs.Laws.{with-tail, due-tail}
+use Rattle.cstate.proofs.Rest.{parts-after}
+use Rattle.due.specs.Due.{dueStep, dueRegion}
 use borrow.Author.Needs.{needs}
 use Rattle.bankcore.proofs.lower_calls.tt_update_due.Statement.{statement}
 use Rattle.bankcore.proofs.lower_calls.tt_update_due.Tie as tie
+
+beginning-of-requires : tie.Need-beginning-of-requires
+beginning-of-requires c κs = search needs
 
 parts-of-requires : tie.Need-parts-of-requires
 parts-of-requires c κs = search needs
@@ -26,17 +28,25 @@ same-length c = search needs
 returns : tie.Need-returns
 unfolding writerOf
 returns c =
-    let x = c .before .before in
-    let k = x .before .before .before .before in
-    let d = k .before .before in
-    let a = d .before .before .args in
-    let ss = a .state .sources in
-    let f = k .due-parts .ensures ss in
-    let e = f .0 ∙ ap (λ (p : Parts). dueStep (a .region .now) (withSources p ss)) (d .parts-of .ensures) in (
-      ap (with-tail (a .state .tail)) (x .after-parts .ensures ∙ ap (λ (s : Step). after s (a .state)) e) ∙ due-tail (a .state) (a .region .now),
-      f .1 ∙ ap (λ (p : Parts). dueRegion (a .region .now) (withSources p ss)) (d .parts-of .ensures),
+    let x = c .before .before .before .before .due-parts in
+    let p = c .before .before .before .before .before .before .before .before .parts-of in
+    let o = c .before .before .before .before .before .before .before .before .before .beginning-of in
+    let a = c .before .before .before .before .before .before .before .before .before .before .before .args in
+    let s = a .state in
+    let f = x .ensures (s .sources) in (
+      c .after-parts .ensures
+          ∙ parts-after (o .result) (x .result) (s .sources) (s .tail) s (λ e. (refl, refl))
+          ∙ ap (λ (t : Step). after t s) (f .0 ∙ (λ i. dueStep (a .region .now) (wholeOf (o .ensures i) (p .ensures i) (s .sources) (s .tail)))),
+      f .1 ∙ (λ i. dueRegion (a .region .now) (wholeOf (o .ensures i) (p .ensures i) (s .sources) (s .tail))),
     )
 
 pub tt-update-due-spec : {M : Type 1} → statement M
 tt-update-due-spec =
-    tie.close (tie.spec parts-of-requires due-parts-requires after-parts-requires same-length returns)
+    tie.close
+    (tie.spec
+    beginning-of-requires
+    parts-of-requires
+    due-parts-requires
+    after-parts-requires
+    same-length
+    returns)

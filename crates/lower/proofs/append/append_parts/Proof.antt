@@ -1,4 +1,4 @@
--- `append_any` gives the number and the state without its tail; the tail is stored once, here.
+-- `append_any` gives the number and the parts; the bytes are stored in the tail once, here.
 use mathlib.Core.Path.{ap, _∙_}
 use mathlib.Core.List.{List}
 use Prim.Native.Nat.{ℕ}
@@ -6,6 +6,7 @@ use native.Mathlib.Nat.{sub-zero}
 use lib.ListN.{take}
 use lib.Seq.{sets}
 use Rattle.writer.specs.Parts.{stepWith}
+use Rattle.lower.specs.Appended.{stepAppended}
 use borrow.Author.Needs.{needs}
 use Rattle.lower.proofs.append.append_parts.Statement.{statement}
 use Rattle.lower.proofs.append.append_parts.Tie as tie
@@ -22,19 +23,19 @@ part-some-start c = search needs
 part-some-end : tie.Need-part-some-end
 part-some-end c = search needs
 
-tail-with-requires : tie.Need-tail-with-requires
-tail-with-requires c κs = search needs
+put-tail-requires : tie.Need-put-tail-requires
+put-tail-requires c κs = search needs
 
 returns : tie.Need-returns
 returns c = λ ss.
-    let t = c .before .before .before in
-    let g = t .before .before .before in
-    let a = g .before .before .args in
+    let t = c .before .before in
+    let g = c .before .before .before .before .before in
+    let a = c .before .before .before .before .before .before .before .args in
     let r = g .append-any .result in
-    let e = t .tail-with .ensures ∙ ap (λ (m : ℕ). sets (a .p .tail) (r .at) (take m (a .offered .now))) (sub-zero (r .n)) in
-    ap (λ (l : List ℕ). stepWith (record { answer = r .answer; parts = record { stage = r .stage; beginning = a .p .beginning; contents = r .contents; tables = r .tables; tail = l } }) ss) e ∙ g .append-any .ensures .2 ss
+    let e = t .put-tail .ensures ∙ ap (λ (m : ℕ). sets (a .tail .now) (r .at) (take m (a .offered .now))) (sub-zero (r .n)) in
+    ap (λ (l : List ℕ). stepWith (a .b) (stepAppended r) ss l) e ∙ g .append-any .ensures .2 ss (a .tail .now)
 
 pub append-parts-spec : {M : Type 1} → statement M
 append-parts-spec =
     tie.close
-    (tie.spec append-any-requires sub-some part-some-start part-some-end tail-with-requires returns)
+    (tie.spec append-any-requires sub-some part-some-start part-some-end put-tail-requires returns)

@@ -1,6 +1,6 @@
 use mathlib.Core.Path.{ap, _∙_}
 use Rattle.writer.specs.declared.Parts.{Parts}
-use Rattle.writer.specs.Parts.{withSources}
+use Rattle.writer.specs.Parts.{wholeOf}
 use Rattle.lower.specs.Lower.{bytesStep}
 use borrow.Author.Needs.{needs}
 use Rattle.lower.proofs.append.bytes.Statement.{statement}
@@ -17,10 +17,10 @@ step-with-requires c κs = search needs
 
 returns : tie.Need-returns
 returns c =
-    let t = c .before .before in
-    let a = t .before .before .before .args in
-    let ss = a .w .sources in
-    c .step-with .ensures ∙ t .append-parts .ensures ss ∙ ap (λ (p : Parts). bytesStep (withSources p ss) (a .offered .now)) (t .before .parts-of .ensures)
+    let a = c .before .before .before .before .before .before .before .before .args in
+    let w = a .w in
+    c .step-with .ensures ∙ c .before .before .append-parts .ensures (w .sources) ∙ ap (λ (p : Parts). bytesStep (wholeOf (w .beginning) p (w .sources) (w .tail)) (a .offered .now)) (c .before .before .before .before .before .parts-of .ensures)
 
 pub bytes-spec : {M : Type 1} → statement M
-bytes-spec = tie.close (tie.spec parts-of-requires append-parts-requires step-with-requires returns)
+bytes-spec =
+    tie.close (tie.spec parts-of-requires append-parts-requires step-with-requires returns)

@@ -43,7 +43,7 @@ unfolding withBytes
 returns c =
     let g = c .before in
     let k = g .before .before in
-    let s = k .before .before .before .before .before .before in
+    let s = k .before .before .before .before .before in
     let a = s .args in
     let n = a .n in
     let xs = a .bytes .now in
@@ -54,13 +54,13 @@ returns c =
       refl,
       refl,
       s .pre .1,
-      λ ss. λ i. record {
-        stage = (g .stage-of .ensures ∙ (λ j. stageOf (a .p .beginning .comparing) (record { written = t .written; fill = t .fill + l j; crc = x j; different = t .different; closed = t .closed }))) i;
-        beginning = a .p .beginning;
+      λ ss tail. λ i. record {
+        stage = (g .stage-of .ensures ∙ (λ j. stageOf (a .b .comparing) (record { written = t .written; fill = t .fill + l j; crc = x j; different = t .different; closed = t .closed }))) i;
+        beginning = a .b;
         contents = record { written = t .written; fill = t .fill + l i; crc = x i; different = t .different; closed = t .closed };
         tables = record { count = a .p .tables .count; table = a .p .tables .table; start = a .p .tables .start; crc = y i; begun = a .p .tables .begun };
         sources = ss;
-        tail = sets (a .p .tail) (t .fill) (take n xs);
+        tail = sets tail (t .fill) (take n xs);
       },
     )
 

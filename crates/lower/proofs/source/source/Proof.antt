@@ -1,64 +1,49 @@
--- Three cases: begun, full after three sources, out of order. A refused call leaves the state.
 use mathlib.Core.Path.{ap, _∙_}
-use Rattle.lower.proofs.Laws.{source-done, source-full, source-turn}
-use Rattle.writer.specs.State.{did}
-use Rattle.base.proofs.Guards.{one-fails-not, both-hold-not}
+use Rattle.writer.specs.declared.Parts.{Parts}
+use Rattle.writer.specs.Parts.{wholeOf}
+use mathlib.Core.Bool.{Bool}
+use mathlib.Core.List.{List}
+use Rattle.record.specs.declared.Source.{Source}
+use Rattle.writer.specs.Parts.{stepWith}
+use Rattle.lower.specs.Lower.{sourceStep}
+use Rattle.lower.specs.Ended.{sourcesWith}
 use borrow.Author.Needs.{needs}
 use Rattle.lower.proofs.source.source.Statement.{statement}
 use Rattle.lower.proofs.source.source.Tie as tie
 
-may-append-requires : tie.Need-may-append-requires
-may-append-requires c κs = search needs
+parts-of-requires : tie.Need-parts-of-requires
+parts-of-requires c κs = search needs
 
-is-open-requires : tie.Need-is-open-requires
-is-open-requires c κs = search needs
+source-parts-requires : tie.Need-source-parts-requires
+source-parts-requires c κs = search needs
 
-stays-requires : tie.Need-stays-requires
-stays-requires c κs = search needs
+is-done-requires : tie.Need-is-done-requires
+is-done-requires c κs = search needs
+
+sources-with-requires : tie.Need-sources-with-requires
+sources-with-requires c κs = search needs
+
+step-with-requires : tie.Need-step-with-requires
+step-with-requires c κs = search needs
 
 returns : tie.Need-returns
 returns c =
-    let t = c .before in
-    let o = t .before in
-    let m = o .before in
-    let a = m .before .before .args in
-    c .stays .ensures ∙ source-turn (a .w) (a .s) (one-fails-not (m .may-append .ensures) (o .is-open .ensures) (t .if1 .taken))
-
-stays-requires-2 : tie.Need-stays-requires-2
-stays-requires-2 c κs = search needs
-
-returns-2 : tie.Need-returns-2
-returns-2 c =
-    let t = c .before .before .before in
-    let o = t .before in
-    let m = o .before in
-    let a = m .before .before .args in
-    c .stays2 .ensures ∙ source-full (a .w) (a .s) (both-hold-not (m .may-append .ensures) (o .is-open .ensures) (t .if1 .left)) (c .before .if2 .taken)
-
-with-source-requires : tie.Need-with-source-requires
-with-source-requires c κs = search needs
-
-did-requires : tie.Need-did-requires
-did-requires c κs = search needs
-
-returns-3 : tie.Need-returns-3
-returns-3 c =
-    let t = c .before .before .before .before in
-    let o = t .before in
-    let m = o .before in
-    let a = m .before .before .args in
-    c .did .ensures ∙ ap did (c .before .with-source .ensures) ∙ source-done (a .w) (a .s) (both-hold-not (m .may-append .ensures) (o .is-open .ensures) (t .if1 .left)) (c .before .before .if2 .left)
+    let a = c .before .before .before .before .before .before .before .before .args in
+    let w = a .w in
+    let r = c .before .before .before .before .before .source-parts in
+    let p = c .before .before .before .before .before .before .parts-of in
+    c .step-with .ensures
+    ∙ ap (λ (ss : List Source). stepWith (w .beginning) (r .result) ss (w .tail)) (c .before .before .sources-with .ensures ∙ ap (λ (d : Bool). sourcesWith d (w .sources) (p .result .tables) (a .s)) (c .before .before .before .is-done .ensures))
+    ∙ r .ensures (a .s) (w .sources) (w .tail)
+    ∙ ap (λ (q : Parts). sourceStep (wholeOf (w .beginning) q (w .sources) (w .tail)) (a .s)) (p .ensures)
 
 pub source-spec : {M : Type 1} → statement M
 source-spec =
     tie.close
     (tie.spec
-    may-append-requires
-    is-open-requires
-    stays-requires
-    returns
-    stays-requires-2
-    returns-2
-    with-source-requires
-    did-requires
-    returns-3)
+    parts-of-requires
+    source-parts-requires
+    is-done-requires
+    sources-with-requires
+    step-with-requires
+    returns)

@@ -1,61 +1,48 @@
--- Two cases: ended, or out of order and unchanged. The ranges give the bounds that `with_end` requires.
 use mathlib.Core.Path.{ap, _∙_}
-use mathlib.Core.Bool.{not}
-use Rattle.lower.proofs.Laws.{end-done, end-turn}
-use Rattle.writer.proofs.Laws.{ranged, open-table, count-fits, position-fits}
-use Rattle.lower.specs.Lower.{mayAppend}
-use Rattle.writer.specs.State.{did}
-use Rattle.writer.specs.State.{isOpen, inRange, position}
-use Rattle.base.proofs.Bools.{and-left, and-right}
-use Rattle.base.proofs.Guards.{one-fails, both-hold}
+use Rattle.writer.specs.declared.Parts.{Parts}
+use Rattle.writer.specs.Parts.{wholeOf}
+use mathlib.Core.Bool.{Bool}
+use mathlib.Core.List.{List}
+use Rattle.record.specs.declared.Source.{Source}
+use Rattle.writer.specs.Parts.{stepWith}
+use Rattle.lower.specs.Lower.{endStep}
+use Rattle.lower.specs.Ended.{sourcesEnded}
 use borrow.Author.Needs.{needs}
 use Rattle.lower.proofs.table.end.Statement.{statement}
 use Rattle.lower.proofs.table.end.Tie as tie
 
-may-append-requires : tie.Need-may-append-requires
-may-append-requires c κs = search needs
+parts-of-requires : tie.Need-parts-of-requires
+parts-of-requires c κs = search needs
 
-is-open-requires : tie.Need-is-open-requires
-is-open-requires c κs = search needs
+end-parts-requires : tie.Need-end-parts-requires
+end-parts-requires c κs = search needs
 
-stays-requires : tie.Need-stays-requires
-stays-requires c κs = search needs
+is-done-requires : tie.Need-is-done-requires
+is-done-requires c κs = search needs
+
+sources-ended-requires : tie.Need-sources-ended-requires
+sources-ended-requires c κs = search needs
+
+step-with-requires : tie.Need-step-with-requires
+step-with-requires c κs = search needs
 
 returns : tie.Need-returns
 returns c =
-    let o = c .before .before in
-    let m = o .before in
-    let a = m .before .args in
-    c .stays .ensures ∙ end-turn (a .w) (one-fails (m .may-append .ensures) (o .is-open .ensures) (c .before .if1 .taken))
-
-with-end-requires : tie.Need-with-end-requires
-with-end-requires c κs =
-    let o = c .before in
-    let m = o .before in
-    let a = m .before .args in
-    let e = both-hold (m .may-append .ensures) (o .is-open .ensures) (c .if1 .left) in
-    let r = ranged (a .w) (and-left (inRange (a .w)) (not (a .w .contents .closed)) (and-left (mayAppend (a .w)) (isOpen (a .w .tables)) e)) in
-    let t = open-table (position (a .w .contents)) (a .w .tables) (r .tables) (and-right (mayAppend (a .w)) (isOpen (a .w .tables)) e) in
-    (t .0, t .1, count-fits (position (a .w .contents)) (a .w .tables) (r .tables), t .2, position-fits (a .w .contents) (r .contents))
-
-did-requires : tie.Need-did-requires
-did-requires c κs = search needs
-
-returns-2 : tie.Need-returns-2
-returns-2 c =
-    let o = c .before .before .before in
-    let m = o .before in
-    let a = m .before .args in
-    c .did .ensures ∙ ap did (c .before .with-end .ensures) ∙ end-done (a .w) (both-hold (m .may-append .ensures) (o .is-open .ensures) (c .before .before .if1 .left))
+    let w = c .before .before .before .before .before .before .before .before .before .args .w in
+    let e = c .before .before .before .before .before .before .end-parts in
+    let p = c .before .before .before .before .before .before .before .parts-of in
+    c .step-with .ensures
+    ∙ ap (λ (ss : List Source). stepWith (w .beginning) (e .result .step) ss (w .tail)) (c .before .before .sources-ended .ensures ∙ ap (λ (d : Bool). sourcesEnded d (w .sources) (p .result .tables) (e .result .block)) (c .before .before .before .is-done .ensures))
+    ∙ e .ensures .0 (w .sources) (w .tail)
+    ∙ ap (λ (q : Parts). endStep (wholeOf (w .beginning) q (w .sources) (w .tail))) (p .ensures)
 
 pub end-spec : {M : Type 1} → statement M
 end-spec =
     tie.close
     (tie.spec
-    may-append-requires
-    is-open-requires
-    stays-requires
-    returns
-    with-end-requires
-    did-requires
-    returns-2)
+    parts-of-requires
+    end-parts-requires
+    is-done-requires
+    sources-ended-requires
+    step-with-requires
+    returns)

@@ -1,8 +1,8 @@
 -- The new table starts at the position with CRC 0, and its bit is set: the shift is a power of two (`shifted`).
 use mathlib.Core.Path.{ap}
-use Rattle.lower.specs.Lower.{withTable}
 use Prim.Native.Nat.{ℕ, _+_}
 use lib.Bits.{bitOr}
+use Rattle.lower.specs.Lower.{withTable}
 use Rattle.lower.proofs.Laws.{shifted}
 use borrow.Author.Needs.{needs}
 use Rattle.lower.proofs.table.with_table.Statement.{statement}
@@ -16,17 +16,17 @@ shl-t7 c = search needs
 
 returns : tie.Need-returns
 unfolding withTable
-returns c =
-    let s = c .before .before .before .before .before .before .before .before in
+returns c = λ b ss tail.
+    let s = c .before .before .before .before .before in
     let a = s .args in
     ap
-    (λ (b : ℕ). record {
-      stage = a .w .stage;
-      beginning = a .w .beginning;
-      contents = a .w .contents;
-      tables = record { count = a .w .tables .count; table = a .table; start = a .w .contents .written + a .w .contents .fill; crc = 0; begun = bitOr (a .w .tables .begun) b };
-      sources = a .w .sources;
-      tail = a .w .tail;
+    (λ (n : ℕ). record {
+      stage = a .p .stage;
+      beginning = b;
+      contents = a .p .contents;
+      tables = record { count = a .p .tables .count; table = a .table; start = a .p .contents .written + a .p .contents .fill; crc = 0; begun = bitOr (a .p .tables .begun) n };
+      sources = ss;
+      tail = tail;
     })
     (shifted (a .table) (s .pre .0))
 

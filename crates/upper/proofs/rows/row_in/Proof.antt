@@ -7,7 +7,7 @@ use native.Mathlib.Omega.{arith}
 use lib.Dec.{leb}
 use lib.ListN.{replicate}
 use Rattle.writer.specs.declared.PartsStep.{PartsStep}
-use Rattle.writer.specs.Parts.{withSources, stepWith}
+use Rattle.writer.specs.Parts.{wholeOf, stepWith}
 use Rattle.writer.specs.State.{position}
 use Rattle.run.specs.Run.{ranWriter, ranRegion}
 use Rattle.run.specs.Appends.{dues, appends}
@@ -33,7 +33,7 @@ enum-told c = search needs
 
 long-row-requires : tie.Need-long-row-requires
 long-row-requires c κs =
-    let s = c .before .before .before .before .before .before .before .before .before .before in
+    let s = c .before .before .before .before .before .before .before .before .before .before .before in
     (s .pre .0, s .pre .1, s .pre .2)
 
 same-length : tie.Need-same-length
@@ -60,18 +60,18 @@ returns-2 c = λ ss.
     let f = t .before in
     let n = f .before .before .a .given in
     let w = row-written (y .p .tables .table) (y .texts .now) (y .lengths .now) (replicate 512 0) (r .row .last .1 .1 .1 .0) (r .row .result) (s .pre .2) (r .row .ensures .0) (r .row .ensures .1) (n .0 .0) (n .1) in
-    let d = upper-full (y .region .now) (withSources (y .p) ss) (row (y .texts .now) (y .lengths .now)) (s .pre .0) refl (s .pre .1 ss) (w .0) (ap (λ (k : ℕ). leb (position (y .p .contents) + k) capacity) (sym (w .1)) ∙ sym (f .fits2 .ensures) ∙ not-true _ (t .if1 .taken)) in
-    (ap (λ (z : PartsStep). stepWith z ss) (c .parts-stay .ensures) ∙ d .0, d .1)
+    let d = upper-full (y .region .now) (wholeOf (y .b) (y .p) ss (y .tail .now)) (row (y .texts .now) (y .lengths .now)) (s .pre .0) refl (s .pre .1 ss) (w .0) (ap (λ (k : ℕ). leb (position (y .p .contents) + k) capacity) (sym (w .1)) ∙ sym (f .fits2 .ensures) ∙ not-true _ (t .if1 .taken)) in
+    (ap (λ (z : PartsStep). stepWith (y .b) z ss (y .tail .now)) (c .parts-stay .ensures) ∙ d .0, d .1)
 
 slice-aggregate-run-row : tie.Need-slice-aggregate-run-row
 slice-aggregate-run-row c = search needs
 
 run-row-requires : tie.Need-run-row-requires
 run-row-requires c κs =
-    let r = c .before .before .before .before .before .before .before .before in
+    let r = c .before .before .before .before .before .before .before .before .before in
     let s = r .before .before .before .before .before .before in
     let y = s .args in
-    let n = c .before .before .before .before .before .a .given in
+    let n = c .before .before .before .before .before .before .a .given in
     let k = row-length (y .p .tables .table) (y .texts .now) (y .lengths .now) (replicate 512 0) (r .row .last .1 .1 .1 .0) (r .row .result) (s .pre .2) (r .row .ensures .0) (r .row .ensures .1) (n .0 .0) (n .1) in
     omega (arith, k)
 
@@ -84,23 +84,23 @@ same-length-2 c = search needs
 returns-3 : tie.Need-returns-3
 unfolding appendedBytes runOf
 returns-3 c = λ ss.
-    let r = c .before .before .before .before .before .before .before .before .before .before .before .before in
+    let r = c .before .before .before .before .before .before .before .before .before .before .before .before .before in
     let s = r .before .before .before .before .before .before in
     let y = s .args in
     let x = c .before .before .before in
-    let t = x .before .before .before in
+    let t = x .before .before .before .before in
     let f = t .before in
     let n = f .before .before .a .given in
     let w = row-written (y .p .tables .table) (y .texts .now) (y .lengths .now) (replicate 512 0) (r .row .last .1 .1 .1 .0) (r .row .result) (s .pre .2) (r .row .ensures .0) (r .row .ensures .1) (n .0 .0) (n .1) in
     let b = row-there (y .p .tables .table) (y .texts .now) (y .lengths .now) (replicate 512 0) (r .row .last .1 .1 .1 .0) (r .row .result) (s .pre .2) (r .row .ensures .0) (r .row .ensures .1) (n .0 .0) (n .1) in
     let d =
-    upper-done (y .region .now) (withSources (y .p) ss) (row (y .texts .now) (y .lengths .now)) (s .pre .0) refl (s .pre .1 ss) (w .0)
+    upper-done (y .region .now) (wholeOf (y .b) (y .p) ss (y .tail .now)) (row (y .texts .now) (y .lengths .now)) (s .pre .0) refl (s .pre .1 ss) (w .0)
     (ap (λ (k : ℕ). leb (position (y .p .contents) + k) capacity) (sym (w .1)) ∙ sym (f .fits2 .ensures) ∙ not-false _ (t .if1 .left))
-    (withSources (x .run-row .result) ss)
-    (x .run-row .last .1 .0)
-    (x .run-row .ensures ss .0 ∙ ap (λ (l : List ℕ). ranWriter (y .region .now) (withSources (y .p) ss) (dues ++ (dues ++ appends l))) b)
-    (x .run-row .ensures ss .1 ∙ ap (λ (l : List ℕ). ranRegion (y .region .now) (withSources (y .p) ss) (dues ++ (dues ++ appends l))) b) in
-    (ap (λ (z : PartsStep). stepWith z ss) (c .parts-did .ensures) ∙ d .0, d .1)
+    (wholeOf (y .b) (x .run-row .result) ss (x .run-row .last .1 .1 .0))
+    (x .run-row .last .1 .1 .1 .0)
+    (x .run-row .ensures ss .0 ∙ ap (λ (l : List ℕ). ranWriter (y .region .now) (wholeOf (y .b) (y .p) ss (y .tail .now)) (dues ++ (dues ++ appends l))) b)
+    (x .run-row .ensures ss .1 ∙ ap (λ (l : List ℕ). ranRegion (y .region .now) (wholeOf (y .b) (y .p) ss (y .tail .now)) (dues ++ (dues ++ appends l))) b) in
+    (ap (λ (z : PartsStep). stepWith (y .b) z ss (x .run-row .last .1 .1 .0)) (c .parts-did .ensures) ∙ d .0, d .1)
 
 pub row-in-spec : {M : Type 1} → statement M
 row-in-spec =

@@ -4,7 +4,7 @@ use mathlib.Core.List.{List, _++_}
 use Prim.Native.Nat.{ℕ}
 use native.Mathlib.Nat.{sub-zero}
 use lib.ListN.{take}
-use Rattle.writer.specs.Parts.{withSources}
+use Rattle.writer.specs.Parts.{wholeOf}
 use Rattle.run.specs.Run.{ranWriter, ranRegion}
 use Rattle.run.specs.Appends.{dues, appends}
 use borrow.Author.Needs.{needs}
@@ -30,11 +30,11 @@ returns : tie.Need-returns
 returns c =
     let z = c .before .before in
     let f = z .append-line-parts in
-    let a = z .before .before .before .before .before .args in
+    let a = z .before .before .before .before .before .before .args in
     let k = ap (λ (n : ℕ). take n (a .bytes .now)) (sub-zero (a .n)) in
     λ ss. (
-      f .ensures ss .0 ∙ ap (λ (l : List ℕ). ranWriter (a .region .now) (withSources (a .p) ss) (dues ++ (dues ++ appends l))) k,
-      f .ensures ss .1 ∙ ap (λ (l : List ℕ). ranRegion (a .region .now) (withSources (a .p) ss) (dues ++ (dues ++ appends l))) k,
+      f .ensures ss .0 ∙ ap (λ (l : List ℕ). ranWriter (a .region .now) (wholeOf (a .b) (a .p) ss (a .tail .now)) (dues ++ (dues ++ appends l))) k,
+      f .ensures ss .1 ∙ ap (λ (l : List ℕ). ranRegion (a .region .now) (wholeOf (a .b) (a .p) ss (a .tail .now)) (dues ++ (dues ++ appends l))) k,
     )
 
 pub run-row-spec : {M : Type 1} → statement M
