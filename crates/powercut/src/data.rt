@@ -2,6 +2,8 @@
 use leaf::bytes::get8;
 use leaf::bytes::put;
 use program::bytes::put8;
+use record::DATE_SIZE;
+use record::DATES_SIZE;
 use region::CAPACITY;
 use std::num::wrapping_add_usize;
 use std::num::wrapping_sub_usize;
@@ -10,10 +12,6 @@ use std::num::wrapping_sub_usize;
 pub const FIRST_DAY: u32 = 20260101;
 
 pub const LAST_DAY: u32 = 20261231;
-
-const DATE_SIZE: usize = 4;
-
-const DATES_SIZE: usize = DATE_SIZE + DATE_SIZE;
 
 const NAMES_SIZE: usize = 37;
 
@@ -61,7 +59,7 @@ fn power(k: usize) -> usize {
     }
 }
 
-// The digit of x that stands for multiples of d.
+// The digit of x that counts multiples of d.
 fn digit(x: usize, d: usize) -> u8 {
     if d == 0 {
         return b'0';

@@ -5,11 +5,14 @@ use crate::kinds::Leftover;
 use crate::update::begin;
 use crate::update::run;
 use bank::Loaded;
+use base::number::BYTE_VALUES_32;
 use base::slice::part;
 use header::Bank;
 use header::CRC_OFFSET;
+use header::GENERATION_OFFSET;
 use header::RECORDS_OFFSET;
 use header::SOURCES;
+use header::VERSION_OFFSET;
 use leaf::bytes::get;
 use leaf::bytes::get8;
 use leaf::bytes::put;
@@ -19,21 +22,14 @@ use program::bytes::put8;
 use record::source_size;
 use region::BANK_SIZE;
 use region::CAPACITY;
+use region::ERASED_BYTE;
 use std::num::wrapping_add_usize;
 use std::num::wrapping_sub_u32;
 
-// Where the header has its version and its generation.
-const VERSION_OFFSET: usize = 4;
-
-const GENERATION_OFFSET: usize = 8;
 // The CRC and the commit word count as zeros in the header's CRC.
 const ZEROS: usize = RECORDS_OFFSET - CRC_OFFSET;
 
-const ERASED: u8 = 255;
-
-const BANKS: u32 = 2;
-
-const BYTES: u32 = 256;
+const BANKS: u32 = region::BANKS as u32;
 
 // The first line number of another update.
 const OTHER_LINES: usize = 5000;
@@ -91,7 +87,11 @@ fn shuffle_bank(region: &mut [u8], from: usize) {
     let mut i = 0;
     while i < BANK_SIZE {
         x = shuffled(x);
-        put8(region, wrapping_add_usize(from, i), (x % BYTES) as u8);
+        put8(
+            region,
+            wrapping_add_usize(from, i),
+            (x % BYTE_VALUES_32) as u8,
+        );
         i += 1;
     }
 }
@@ -143,7 +143,7 @@ pub fn leave(region: &mut [u8], data: &mut [u8], l: Leftover) {
     let active = bank::load(region);
     match l {
         Leftover::Found => return,
-        Leftover::Erased => fill(region, start(active), BANK_SIZE, ERASED),
+        Leftover::Erased => fill(region, start(active), BANK_SIZE, ERASED_BYTE),
         Leftover::Older => older(region, active),
         Leftover::Half => cut_update(region, data, HALF),
         Leftover::Headed => cut_update(region, data, BUT_LAST),

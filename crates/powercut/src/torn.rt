@@ -2,9 +2,11 @@
 use base::slice::same_bytes;
 use header::COMMIT_OFFSET;
 use header::HEADER_SIZE;
+use leaf::bytes::WORD_SIZE;
 use region::BANK_SIZE;
 use region::SECTOR_SIZE;
 use region::SECTOR_SIZE_32;
+use region::WRITE_UNIT;
 use std::num::wrapping_add_u32;
 use std::num::wrapping_add_usize;
 
@@ -25,12 +27,8 @@ pub enum Cuts {
     Unknown,
 }
 
-// Flash is written in units of four bytes, and the commit word is one.
-const UNIT: usize = 4;
-
-const UNIT_MASK: usize = UNIT - 1;
-
-pub const WORD_SIZE: usize = UNIT;
+// Flash is written in units, and the commit word is one of them.
+const UNIT_LESS_ONE: usize = WRITE_UNIT - 1;
 
 pub const WORD_SIZE_32: u32 = WORD_SIZE as u32;
 
@@ -121,7 +119,7 @@ pub fn write(bank: usize, offset: u32, n: u32) -> Span {
     Span {
         target: Target::Data,
         at: wrapping_add_usize(data, offset as usize),
-        size: ((n % SECTOR_SIZE_32) as usize + UNIT_MASK) / UNIT * UNIT,
+        size: ((n % SECTOR_SIZE_32) as usize + UNIT_LESS_ONE) / WRITE_UNIT * WRITE_UNIT,
     }
 }
 

@@ -231,7 +231,7 @@ fn is_sampled(update: Kind, cut: u32) -> bool {
     (cut % AGAIN == 0) | (kinds::operations(update) <= wrapping_add_u32(cut, LAST_CUTS))
 }
 
-// The same in the first n bytes of the scratch buffer, where the copy is.
+// `commits` on the copy in the first n bytes of the scratch buffer.
 fn commits_in(scratch: &mut [u8], n: usize, data: &[u8], update: Kind) -> bool {
     if n < scratch.len() {
         return commits(&mut scratch[..n], data, update);
