@@ -35,28 +35,28 @@ abbrev pub daysOf : Days → List Day
 daysOf d = d .first ∷ d .second ∷ d .third ∷ []
 
 -- a source has the days from its start to its end, and gives those that are wanted
-abbrev pub has : Source → Day → Bool
-has s d = leb (s .start) (d .date) && leb (d .date) (s .end)
+abbrev pub hasDay : Source → Day → Bool
+hasDay s d = leb (s .start) (d .date) && leb (d .date) (s .end)
 
-abbrev pub gives : Source → Day → Bool
-gives s d = d .wanted && has s d
+abbrev pub givesDay : Source → Day → Bool
+givesDay s d = d .wanted && hasDay s d
 
 unfoldable pub givesAny : Source → List Day → Bool
 givesAny s [] = false
-givesAny s (d ∷ ds) = gives s d || givesAny s ds
+givesAny s (d ∷ ds) = givesDay s d || givesAny s ds
 
 -- the days still wanted after a source
-abbrev pub leaves : Source → Day → Day
-leaves s d = record { date = d .date; wanted = d .wanted && not (has s d) }
+abbrev pub wantedAfter : Source → Day → Day
+wantedAfter s d = record { date = d .date; wanted = d .wanted && not (hasDay s d) }
 
-unfoldable pub left : Source → List Day → List Day
-left s [] = []
-left s (d ∷ ds) = leaves s d ∷ left s ds
+unfoldable pub allWantedAfter : Source → List Day → List Day
+allWantedAfter s [] = []
+allWantedAfter s (d ∷ ds) = wantedAfter s d ∷ allWantedAfter s ds
 
 -- the sources used: the first source that has a wanted day gives it
 unfoldable pub used : List Day → List Source → List Source
 used ds [] = []
-used ds (s ∷ ss) = pick (givesAny s ds) (s ∷ used (left s ds) ss) (used ds ss)
+used ds (s ∷ ss) = pick (givesAny s ds) (s ∷ used (allWantedAfter s ds) ss) (used ds ss)
 
 -- an updated time is known if it is from 0 to now
 abbrev pub known : ℤ → Source → Bool

@@ -7,11 +7,11 @@ use Rattle.record.specs.declared.Source.{Source}
 use Rattle.snapshot.specs.declared.freshness.Days.{Days}
 use Rattle.snapshot.specs.declared.freshness.SourceTimes.{SourceTimes}
 use Rattle.snapshot.specs.declared.freshness.Seen.{Seen}
-use Rattle.snapshot.specs.Freshness.{unknown, daysOf, leaves, givesAny, known, older}
+use Rattle.snapshot.specs.Freshness.{unknown, daysOf, wantedAfter, givesAny, known, older}
 
 -- the days still wanted, as a struct
-abbrev pub leftOf : Source → Days → Days
-leftOf s d = record { first = leaves s (d .first); second = leaves s (d .second); third = leaves s (d .third) }
+abbrev pub threeWantedAfter : Source → Days → Days
+threeWantedAfter s d = record { first = wantedAfter s (d .first); second = wantedAfter s (d .second); third = wantedAfter s (d .third) }
 
 -- the times after one more used source
 abbrev pub observed : ℤ → SourceTimes → Source → SourceTimes
@@ -25,14 +25,14 @@ observed now t s =
 abbrev pub updatedOf : SourceTimes → ℤ
 updatedOf t = pick (t .some && t .complete) (t .oldest) unknown
 
-abbrev pub see : ℤ → Seen → Source → Seen
-see now x s = pick (givesAny s (daysOf (x .days))) (record { times = observed now (x .times) s; days = leftOf s (x .days) }) x
+abbrev pub afterSource : ℤ → Seen → Source → Seen
+afterSource now x s = pick (givesAny s (daysOf (x .days))) (record { times = observed now (x .times) s; days = threeWantedAfter s (x .days) }) x
 
 -- the updated time once the rest of the sources is read
 unfoldable pub seen : ℤ → Seen → List Source → ℤ
 seen now x [] = updatedOf (x .times)
-seen now x (s ∷ ss) = seen now (see now x s) ss
+seen now x (s ∷ ss) = seen now (afterSource now x s) ss
 
 -- the state before the first source
-abbrev pub nothing : Days → Seen
-nothing days = record { times = record { some = false; complete = true; oldest = pos 0 }; days = days }
+abbrev pub noneSeen : Days → Seen
+noneSeen days = record { times = record { some = false; complete = true; oldest = pos 0 }; days = days }

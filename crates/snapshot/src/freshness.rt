@@ -52,39 +52,41 @@ struct SourceTimes {
     oldest: i64,
 }
 
-fn has(start: u32, end: u32, date: u32) -> bool
+fn has_day(start: u32, end: u32, date: u32) -> bool
     ensures { λ r. ⌜ r ≡ (leb start date && leb date end) ⌝ }
 {
     (start <= date) & (date <= end)
 }
 
-fn leaves(start: u32, end: u32, d: Day) -> Day
+// The day, no longer wanted if a source with these dates has it.
+fn wanted_after(start: u32, end: u32, d: Day) -> Day
     ensures { λ r. ⌜ r ≡ record { date = d .date; wanted = d .wanted && not (leb start (d .date) && leb (d .date) end) } ⌝ }
 {
     Day {
         date: d.date,
-        wanted: d.wanted & !has(start, end, d.date),
+        wanted: d.wanted & !has_day(start, end, d.date),
     }
 }
 
-fn gives(s: Source, d: Days) -> bool
+// Whether a source gives any of the days.
+fn gives_any(s: Source, d: Days) -> bool
     ensures { λ r. ⌜ r ≡ Fresh.givesAny s (Fresh.daysOf d) ⌝ }
 {
     let a = d.first;
     let b = d.second;
     let c = d.third;
-    (a.wanted & has(s.start, s.end, a.date))
-        | ((b.wanted & has(s.start, s.end, b.date))
-            | ((c.wanted & has(s.start, s.end, c.date)) | false))
+    (a.wanted & has_day(s.start, s.end, a.date))
+        | ((b.wanted & has_day(s.start, s.end, b.date))
+            | ((c.wanted & has_day(s.start, s.end, c.date)) | false))
 }
 
-fn left(s: Source, d: Days) -> Days
-    ensures { λ r. ⌜ r ≡ Steps.leftOf s d ⌝ }
+fn three_wanted_after(s: Source, d: Days) -> Days
+    ensures { λ r. ⌜ r ≡ Steps.threeWantedAfter s d ⌝ }
 {
     Days {
-        first: leaves(s.start, s.end, d.first),
-        second: leaves(s.start, s.end, d.second),
-        third: leaves(s.start, s.end, d.third),
+        first: wanted_after(s.start, s.end, d.first),
+        second: wanted_after(s.start, s.end, d.second),
+        third: wanted_after(s.start, s.end, d.third),
     }
 }
 
@@ -129,13 +131,14 @@ struct Seen {
     days: Days,
 }
 
-fn see(at: i64, x: Seen, s: Source) -> Seen
-    ensures { λ r. ⌜ r ≡ Steps.see at x s ⌝ }
+// The state after one more source.
+fn after_source(at: i64, x: Seen, s: Source) -> Seen
+    ensures { λ r. ⌜ r ≡ Steps.afterSource at x s ⌝ }
 {
-    if gives(s, x.days) {
+    if gives_any(s, x.days) {
         return Seen {
             times: observed(at, x.times, s),
-            days: left(s, x.days),
+            days: three_wanted_after(s, x.days),
         };
     }
     x
@@ -157,7 +160,7 @@ fn updated_in(l: &[u8], version: u32, n: usize, days: Days, at: i64) -> i64
     let mut i = 0;
     while i < n {
         let s = record_at(l, version, offset);
-        x = see(at, x, s);
+        x = after_source(at, x, s);
         offset += size;
         i += 1;
     }

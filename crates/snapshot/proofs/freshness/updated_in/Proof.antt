@@ -10,7 +10,7 @@ use Rattle.record.specs.Record.{sourceSize}
 use native.Mathlib.Omega.{arith}
 use Prim.Native.Nat.{_+_, _*_, _-_, _≤_}
 use Rattle.snapshot.proofs.Ages.{seen-all, one-more, no-more}
-use Rattle.snapshot.specs.Steps.{see, seen, nothing}
+use Rattle.snapshot.specs.Steps.{afterSource, seen, noneSeen}
 use mir.ValLaws.{toZ-ofZ}
 use mir.Syntax.{w64}
 use mathlib.Core.Path.{_≡_, sym, ap, _∙_}
@@ -32,8 +32,8 @@ loop-holds c = (omega arith, omega arith, rw sub-zero)
 record-at-requires : tie.Need-record-at-requires Inv-loop μ-loop
 record-at-requires c κs = search needs
 
-see-requires : tie.Need-see-requires Inv-loop μ-loop
-see-requires c κs = search needs
+after-source-requires : tie.Need-after-source-requires Inv-loop μ-loop
+after-source-requires c κs = search needs
 
 add-offset : tie.Need-add-offset Inv-loop μ-loop
 add-offset c = search needs
@@ -51,7 +51,7 @@ loop-again c =
     let a = z .before .before .args in
     let f = recordAt (a .version) in
     let at = toZ w64 (ofZ w64 (a .at)) in
-    let r : c .see .result ≡ see at (k .x) (f (a .l .now) (k .offset)) = c .see .ensures ∙ ap (see at (k .x)) (c .before .record-at .ensures) in (
+    let r : c .after-source .result ≡ afterSource at (k .x) (f (a .l .now) (k .offset)) = c .after-source .ensures ∙ ap (afterSource at (k .x)) (c .before .record-at .ensures) in (
       omega arith,
       omega (arith, z .source-size .ensures .1),
       ap (λ (y : Seen). seen at y (many f (z .source-size .result) (a .l .now) (k .offset + z .source-size .result) (a .n - (k .i + 1)))) r
@@ -75,7 +75,7 @@ returns c =
     ∙ c .updated-of .ensures
     ∙ no-more at f (z .source-size .result) (a .l .now) (k .offset) (a .n) (k .i) (k .x) (omega arith)
     ∙ k .inv .2
-    ∙ (λ i. seen (same i) (nothing (a .days)) (many f (z .source-size .ensures .0 i) (a .l .now) 48 (a .n)))
+    ∙ (λ i. seen (same i) (noneSeen (a .days)) (many f (z .source-size .ensures .0 i) (a .l .now) 48 (a .n)))
     ∙ seen-all (a .at) (many f (sourceSize (a .version)) (a .l .now) 48 (a .n)) (a .days)
 
 pub updated-in-spec : {M : Type 1} → statement M
@@ -87,7 +87,7 @@ updated-in-spec =
     source-size-requires
     loop-holds
     record-at-requires
-    see-requires
+    after-source-requires
     add-offset
     add-i
     loop-less
