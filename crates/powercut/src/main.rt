@@ -119,7 +119,7 @@ fn tried(
 }
 
 // Tries an update on the image with a leftover.
-fn one(
+fn try_setting(
     image: &[u8],
     region: &mut [u8],
     data: &mut [u8],
@@ -158,13 +158,13 @@ fn if_asked(
     t: Tally,
 ) -> Tally {
     match c {
-        Combination::Asked(s) => one(image, region, data, scratch, s, t),
+        Combination::Asked(s) => try_setting(image, region, data, scratch, s, t),
         Combination::Skipped => t,
     }
 }
 
 // Tries all updates that are asked for.
-fn updates(
+fn try_combinations(
     image: &[u8],
     region: &mut [u8],
     data: &mut [u8],
@@ -220,7 +220,8 @@ fn finish(t: Tally, name: &[u8]) {
     }
 }
 
-fn trials(
+// Tries them in buffers of a fixed size.
+fn try_in_buffers(
     image: &[u8],
     region: &mut [u8; REGION_SIZE],
     data: &mut [u8; CAPACITY],
@@ -228,14 +229,14 @@ fn trials(
     o: Options,
     begun: Tally,
 ) -> Tally {
-    updates(image, region, data, scratch, o, begun)
+    try_combinations(image, region, data, scratch, o, begun)
 }
 
 fn with_buffers(image: &[u8], o: Options, begun: Tally) -> Tally {
     let mut region = image::buffer();
     let mut data = data::buffer();
     let mut scratch = scratch::buffer();
-    trials(image, &mut region, &mut data, &mut scratch, o, begun)
+    try_in_buffers(image, &mut region, &mut data, &mut scratch, o, begun)
 }
 
 // Tries the updates on an image, and draws them if that is asked for.

@@ -236,7 +236,7 @@ fn legend(fd: i32) {
     legend_entry(fd, strips::NEW, NEW_X, b"load gave the new bank");
     legend_entry(
         fd,
-        strips::AGAIN,
+        strips::BEGUN_AGAIN,
         AGAIN_X,
         b"darker: the update was also begun again from there, and committed",
     );
@@ -400,7 +400,7 @@ fn strip(fd: i32, marks: &[u8], t: Target, y: u32, name: &[u8]) {
     field(fd, b"\" y=\"", wrapping_add_u32(y, CELL_TEXT));
     put(fd, b"\">");
     put(fd, name);
-    count(fd, b", bytes 1 to ", strips::bytes(t));
+    count(fd, b", bytes 1 to ", strips::operation_size(t));
     put(fd, b"</text>\n");
 }
 

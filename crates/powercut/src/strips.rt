@@ -23,7 +23,7 @@ pub const WRONG: u8 = 2;
 
 const UNTRIED: u8 = 3;
 // Added to a mark if the update was begun again.
-pub const AGAIN: u8 = 4;
+pub const BEGUN_AGAIN: u8 = 4;
 
 // Where the strips start, and how many cells each has at most.
 const STRIPS: u32 = 2048;
@@ -48,7 +48,7 @@ pub fn start(t: Target) -> u32 {
 }
 
 // How many bytes the operation of a strip has.
-pub fn bytes(t: Target) -> u32 {
+pub fn operation_size(t: Target) -> u32 {
     match t {
         Target::CommitWord => WORD_SIZE_32,
         Target::HeaderErase => SECTOR_SIZE_32,
@@ -66,7 +66,7 @@ fn cell(t: Target, index: u32) -> u32 {
 
 // How many cells a strip has.
 pub fn cells(t: Target) -> u32 {
-    wrapping_add_u32(cell(t, wrapping_sub_u32(bytes(t), 1)), 1)
+    wrapping_add_u32(cell(t, wrapping_sub_u32(operation_size(t), 1)), 1)
 }
 
 fn has_strip(t: Target) -> bool {
@@ -96,11 +96,15 @@ fn joined(old: u8, new: u8) -> u8 {
     if old == UNTRIED {
         return new;
     }
-    let again = (AGAIN <= old) | (AGAIN <= new);
-    let a = old % AGAIN;
-    let b = new % AGAIN;
+    let again = (BEGUN_AGAIN <= old) | (BEGUN_AGAIN <= new);
+    let a = old % BEGUN_AGAIN;
+    let b = new % BEGUN_AGAIN;
     let gave = if a < b { b } else { a };
-    if again { AGAIN + gave % AGAIN } else { gave }
+    if again {
+        BEGUN_AGAIN + gave % BEGUN_AGAIN
+    } else {
+        gave
+    }
 }
 
 // Notes the result of the cut after the first n bytes of an operation, if the operation has a strip.

@@ -43,7 +43,7 @@ const FIRST_BETWEEN: usize = 2;
 // An operation of fewer bytes is tried after each of them.
 const SHORT: usize = 16;
 // The update is begun again after each 509th cut inside an operation.
-const AGAIN: u32 = 509;
+const AGAIN_EVERY: u32 = 509;
 
 // The bytes of the region that an operation changes, and what it is.
 pub struct Span {
@@ -123,7 +123,7 @@ pub fn write(bank: usize, offset: u32, n: u32) -> Span {
     }
 }
 
-pub fn header(bank: usize) -> Span {
+pub fn header_write(bank: usize) -> Span {
     Span {
         target: Target::HeaderWrite,
         at: bank,
@@ -131,7 +131,7 @@ pub fn header(bank: usize) -> Span {
     }
 }
 
-pub fn word(bank: usize) -> Span {
+pub fn commit_word_write(bank: usize) -> Span {
     Span {
         target: Target::CommitWord,
         at: wrapping_add_usize(bank, COMMIT_OFFSET),
@@ -188,5 +188,5 @@ fn is_sampled_target(t: Target, done: usize) -> bool {
 pub fn is_sampled(c: Cut) -> bool {
     let s = c.span;
     let t = s.target;
-    is_sampled_target(t, c.done) | (wrapping_add_u32(c.before, 1) % AGAIN == 0)
+    is_sampled_target(t, c.done) | (wrapping_add_u32(c.before, 1) % AGAIN_EVERY == 0)
 }

@@ -48,10 +48,10 @@ use std::num::wrapping_add_u32;
 use std::num::wrapping_add_usize;
 use std::num::wrapping_sub_u32;
 
-// The update is begun again after every 97th cut, and after the last ones.
-const AGAIN: u32 = 97;
+// The update is begun again after every 97th cut between operations, and after the last seven.
+const AGAIN_EVERY: u32 = 97;
 
-const LAST_CUTS: u32 = 6;
+const LAST_CUTS: u32 = 7;
 // Progress is shown at every 16th cut.
 const SHOWN: u32 = 16;
 
@@ -228,7 +228,7 @@ fn commits(region: &mut [u8], data: &[u8], update: Kind) -> bool {
 
 // Whether the update is begun again after this cut.
 fn is_sampled(update: Kind, cut: u32) -> bool {
-    (cut % AGAIN == 0) | (kinds::operations(update) <= wrapping_add_u32(cut, LAST_CUTS))
+    (cut % AGAIN_EVERY == 0) | (kinds::operations(update) < wrapping_add_u32(cut, LAST_CUTS))
 }
 
 // `commits` on the copy in the first n bytes of the scratch buffer.
@@ -246,7 +246,13 @@ fn begun_again(region: &[u8], scratch: &mut [u8], data: &[u8], update: Kind) -> 
 }
 
 // Whether the update commits again, if that is tried.
-fn goes_on(region: &[u8], scratch: &mut [u8], data: &[u8], update: Kind, sampled: bool) -> bool {
+fn commits_if_sampled(
+    region: &[u8],
+    scratch: &mut [u8],
+    data: &[u8],
+    update: Kind,
+    sampled: bool,
+) -> bool {
     if sampled {
         return begun_again(region, scratch, data, update);
     }
@@ -325,8 +331,8 @@ fn gave(o: Outcome) -> u8 {
 
 // A cut's mark in the picture.
 fn mark(o: Outcome) -> u8 {
-    let g = gave(o) % strips::AGAIN;
-    if o.again { strips::AGAIN + g } else { g }
+    let g = gave(o) % strips::BEGUN_AGAIN;
+    if o.again { strips::BEGUN_AGAIN + g } else { g }
 }
 
 fn show_progress(p: Plan, cut: u32) {
@@ -350,7 +356,7 @@ fn look(t: Tried, p: Plan, region: &[u8], before: &[u8], data: &[u8], scratch: &
     let over = is_over(u);
     let again = is_sampled(k, c.cuts);
     let good = u.right & is_right(region, before, data, p, over);
-    let right = goes_on(region, scratch, data, k, again) & good;
+    let right = commits_if_sampled(region, scratch, data, k, again) & good;
     let o = Outcome { right, over, again };
     put_mark(scratch, c.cuts, mark(o));
     show_progress(p, c.cuts);
@@ -365,7 +371,7 @@ fn look_inside(x: Cut, c: Count, p: Plan, region: &[u8], data: &[u8], scratch: &
     let l = load(region);
     let e = p.found;
     let k = p.update;
-    let right = goes_on(region, scratch, data, k, again) & same_loaded(l, e);
+    let right = commits_if_sampled(region, scratch, data, k, again) & same_loaded(l, e);
     let o = Outcome {
         right,
         over: false,
@@ -387,7 +393,7 @@ fn after_byte(x: Cut, c: Count, p: Plan, region: &[u8], data: &[u8], scratch: &m
 }
 
 // All cuts inside an operation: byte by byte the region becomes what the operation left.
-fn bytes(
+fn cut_after_each_byte(
     s: Span,
     so_far: Count,
     p: Plan,
@@ -415,7 +421,7 @@ fn bytes(
 fn inside(s: Span, c: Count, p: Plan, region: &mut [u8], data: &[u8], scratch: &mut [u8]) -> Count {
     copy(part(region, s.at, s.size), scratch, AFTER);
     copy(part(scratch, BEFORE, s.size), region, s.at);
-    bytes(s, c, p, region, data, scratch)
+    cut_after_each_byte(s, c, p, region, data, scratch)
 }
 
 fn inside_if_tried(
@@ -482,13 +488,13 @@ fn after_step(
     let c = x.count;
     if u.flash {
         let d = operate(x, p, region, before, data, scratch);
-        return with_whole(d, is_operation(target));
+        return with_wrong_unless(d, is_operation(target));
     }
     c
 }
 
 // A step, with its cuts. The bytes that it changes are kept from before.
-fn turn(
+fn step_with_cuts(
     t: Tried,
     p: Plan,
     region: &mut [u8],
@@ -536,7 +542,7 @@ fn cuts(p: Plan, region: &mut [u8], before: &[u8], data: &[u8], scratch: &mut [u
         if ended(t) {
             return t.count;
         }
-        t = turn(t, p, region, before, data, scratch);
+        t = step_with_cuts(t, p, region, before, data, scratch);
         calls -= 1;
     }
     t.count
@@ -551,7 +557,7 @@ fn compares(region: &mut [u8], data: &[u8], update: Kind, same: bool) -> bool {
 }
 
 // Counts one more wrong, unless it is right.
-fn with_whole(c: Count, right: bool) -> Count {
+fn with_wrong_unless(c: Count, right: bool) -> Count {
     if right {
         return c;
     }
@@ -568,7 +574,7 @@ fn counted_cuts(
 ) -> Count {
     let k = p.update;
     let c = cuts(p, region, before, data, scratch);
-    with_whole(
+    with_wrong_unless(
         c,
         (c.cuts == wrapping_add_u32(kinds::operations(k), 1)) & (c.new <= 1),
     )
@@ -583,5 +589,5 @@ pub fn trial(p: Plan, region: &mut [u8], before: &[u8], data: &[u8], scratch: &m
     let first = compares(region, data, k, false);
     let c = counted_cuts(p, region, before, data, scratch);
     let second = compares(region, data, k, true);
-    with_whole(c, first & second)
+    with_wrong_unless(c, first & second)
 }

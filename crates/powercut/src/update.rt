@@ -188,7 +188,8 @@ fn close(u: Update) -> Update {
     }
 }
 
-fn header(u: Update, region: &mut [u8]) -> Update {
+// The first commit call.
+fn write_header(u: Update, region: &mut [u8]) -> Update {
     let w = u.writer;
     let s = commit::commit(w, region, Stamp::Given(STAMP), true);
     let writer = s.writer;
@@ -203,7 +204,8 @@ fn header(u: Update, region: &mut [u8]) -> Update {
     }
 }
 
-fn word(u: Update, region: &mut [u8]) -> Update {
+// The second.
+fn write_commit_word(u: Update, region: &mut [u8]) -> Update {
     let w = u.writer;
     let s = commit::commit_word(w, region);
     let writer = s.writer;
@@ -227,7 +229,7 @@ fn is_answer(a: Answer, same: bool) -> bool {
     }
 }
 
-fn ask(u: Update, region: &[u8]) -> Update {
+fn ask_unchanged(u: Update, region: &[u8]) -> Update {
     let w = u.writer;
     let s = commit::unchanged::unchanged(w, region);
     let writer = s.writer;
@@ -258,9 +260,9 @@ fn in_table(u: Update, data: &[u8]) -> Update {
 
 fn closed(u: Update, region: &mut [u8]) -> Update {
     if u.comparing {
-        return ask(u, region);
+        return ask_unchanged(u, region);
     }
-    header(u, region)
+    write_header(u, region)
 }
 
 // Makes one call.
@@ -274,7 +276,7 @@ pub fn step(u: Update, region: &mut [u8], data: &[u8]) -> Update {
         Phase::Key => in_key(u, data),
         Phase::Table => in_table(u, data),
         Phase::Closed => closed(u, region),
-        Phase::HeaderWritten => word(u, region),
+        Phase::HeaderWritten => write_commit_word(u, region),
         Phase::Over => u,
     }
 }
@@ -299,10 +301,10 @@ fn commit_span(u: Update, bank: usize) -> Span {
             if u.comparing {
                 no_operation()
             } else {
-                torn::header(bank)
+                torn::header_write(bank)
             }
         }
-        Phase::HeaderWritten => torn::word(bank),
+        Phase::HeaderWritten => torn::commit_word_write(bank),
         _ => no_operation(),
     }
 }

@@ -29,8 +29,8 @@ same-length-2 c = search needs
 returns : tie.Need-returns Inv-loop μ-loop
 returns c = search needs
 
-turn-requires : tie.Need-turn-requires Inv-loop μ-loop
-turn-requires c κs = search needs
+step-with-cuts-requires : tie.Need-step-with-cuts-requires Inv-loop μ-loop
+step-with-cuts-requires c κs = search needs
 
 sub-calls : tie.Need-sub-calls Inv-loop μ-loop
 sub-calls c = search needs
@@ -62,7 +62,7 @@ cuts-spec =
     same-length
     same-length-2
     returns
-    turn-requires
+    step-with-cuts-requires
     sub-calls
     loop-less
     loop-again

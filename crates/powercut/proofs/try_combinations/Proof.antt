@@ -3,8 +3,8 @@ use borrow.Author.Needs.{needs}
 use mathlib.Core.Path.{_≡_}
 use Prim.Native.Nat.{_-_}
 use lib.ListN.{length}
-use Rattle.powercut.proofs.updates.Statement.{statement}
-use Rattle.powercut.proofs.updates.Tie as tie
+use Rattle.powercut.proofs.try_combinations.Statement.{statement}
+use Rattle.powercut.proofs.try_combinations.Tie as tie
 
 abbrev Inv-loop : tie.InvT-loop
 Inv-loop image region₀ data₀ scratch₀ o t₀ k₀ region «data» scratch t k = (length region ≡ length region₀) × (length «data» ≡ length data₀) × (length scratch ≡ length scratch₀)
@@ -42,8 +42,8 @@ same-length-3 c = search needs
 returns : tie.Need-returns Inv-loop μ-loop
 returns c = search needs
 
-pub updates-spec : {M : Type 1} → statement M
-updates-spec =
+pub try-combinations-spec : {M : Type 1} → statement M
+try-combinations-spec =
     tie.close
     (tie.spec
     Inv-loop

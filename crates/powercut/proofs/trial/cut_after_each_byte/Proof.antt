@@ -3,8 +3,8 @@ use borrow.Author.Needs.{needs}
 use mathlib.Core.Path.{_≡_}
 use Prim.Native.Nat.{_-_}
 use lib.ListN.{length}
-use Rattle.powercut.proofs.trial.bytes.Statement.{statement}
-use Rattle.powercut.proofs.trial.bytes.Tie as tie
+use Rattle.powercut.proofs.trial.cut_after_each_byte.Statement.{statement}
+use Rattle.powercut.proofs.trial.cut_after_each_byte.Tie as tie
 
 abbrev Inv-loop : tie.InvT-loop
 Inv-loop s p region₀ «data» scratch₀ c₀ done₀ region scratch c done = (length region ≡ length region₀) × (length scratch ≡ length scratch₀)
@@ -48,8 +48,8 @@ same-length-2 c = search needs
 returns : tie.Need-returns Inv-loop μ-loop
 returns c = search needs
 
-pub bytes-spec : {M : Type 1} → statement M
-bytes-spec =
+pub cut-after-each-byte-spec : {M : Type 1} → statement M
+cut-after-each-byte-spec =
     tie.close
     (tie.spec
     Inv-loop
