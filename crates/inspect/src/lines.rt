@@ -22,13 +22,14 @@ use program::output::say;
 use record::Block;
 use record::ORIGINAL_WORDS;
 use record::Source;
+use record::TABLE_WORDS;
 use region::BANK_SIZE;
 use region::CAPACITY;
 use region::SECTOR_SIZE;
 use snapshot::freshness::FreshAnswer;
 use std::num::wrapping_add_usize;
 
-fn good(b: Bank) {
+fn bank_fields(b: Bank) {
     field(b"version ", b.version);
     field(b", generation ", b.generation);
     field(b", data length ", b.length);
@@ -44,7 +45,7 @@ fn bank_line(region: &[u8], number: u32) {
     say(b": ");
     let v = bank::validate(region, number);
     match v {
-        Validated::Good(b) => good(b),
+        Validated::Good(b) => bank_fields(b),
         Validated::Refused(r) => refused(r),
     }
 }
@@ -63,7 +64,7 @@ fn key_lines(key: &[u8]) {
     }
 }
 
-fn keys(region: &[u8], b: Bank) {
+fn bank_key_lines(region: &[u8], b: Bank) {
     let data = part(
         region,
         wrapping_add_usize(b.number as usize * BANK_SIZE, SECTOR_SIZE),
@@ -72,25 +73,23 @@ fn keys(region: &[u8], b: Bank) {
     key_lines(part(data, 0, b.key as usize));
 }
 
-// One more than the bits of all tables.
-const ALL_PRESENT: u32 = 256;
-// A table's bit, and its two original numbers.
-const BIT: u32 = 2;
+// How many values the present bits of all tables have, and one of them.
+const PRESENT_VALUES: u32 = 256;
 
-const ORIGINAL: usize = 2;
+const BIT_VALUES: u32 = 2;
 
 // The tables whose present bits are set, each after a space.
 fn present(bits: u32) {
-    if bits % ALL_PRESENT == 0 {
+    if bits % PRESENT_VALUES == 0 {
         say(b" none");
     }
     let mut rest = bits;
     let mut t: u32 = 0;
     while t <= LAST_TABLE {
-        if rest % BIT == 1 {
+        if rest % BIT_VALUES == 1 {
             say_table(t);
         }
-        rest /= BIT;
+        rest /= BIT_VALUES;
         t += 1;
     }
 }
@@ -114,8 +113,8 @@ fn table_lines(i: u32, tables: [Block; TABLES], original: [u32; ORIGINAL_WORDS])
     while t <= LAST_TABLE {
         let k = t as usize;
         let b = tables[k];
-        let crc = original[ORIGINAL * k];
-        let length = original[ORIGINAL * k + 1];
+        let crc = original[TABLE_WORDS * k];
+        let length = original[TABLE_WORDS * k + 1];
         table_line(i, t, b, crc, length);
         t += 1;
     }
@@ -184,10 +183,17 @@ fn same_key(
     }
 }
 
-fn found(region: &[u8], b: Bank, o: Options, identity: &[u8], texts: &[u8], lengths: &[u32]) {
+fn loaded_lines(
+    region: &[u8],
+    b: Bank,
+    o: Options,
+    identity: &[u8],
+    texts: &[u8],
+    lengths: &[u32],
+) {
     field(b"load: bank ", b.number);
     say(b"\n");
-    keys(region, b);
+    bank_key_lines(region, b);
     sources(region, b);
     if o.dated {
         fresh(region, b.number, o);
@@ -200,7 +206,7 @@ fn found(region: &[u8], b: Bank, o: Options, identity: &[u8], texts: &[u8], leng
     }
 }
 
-fn nothing(o: Options) {
+fn no_bank_lines(o: Options) {
     say(b"load: none\n");
     if o.dated {
         say(b"fresh: no bank\n");
@@ -214,12 +220,12 @@ fn nothing(o: Options) {
 }
 
 // All lines but the first.
-pub fn banks(region: &[u8], o: Options, identity: &[u8], texts: &[u8], lengths: &[u32]) {
+pub fn region_lines(region: &[u8], o: Options, identity: &[u8], texts: &[u8], lengths: &[u32]) {
     bank_line(region, 0);
     bank_line(region, 1);
     let l = bank::load(region);
     match l {
-        Loaded::Found(b) => found(region, b, o, identity, texts, lengths),
-        _ => nothing(o),
+        Loaded::Found(b) => loaded_lines(region, b, o, identity, texts, lengths),
+        _ => no_bank_lines(o),
     }
 }

@@ -54,7 +54,7 @@ fn inspect(o: Options, buffer: &mut [u8], texts: &[u8], lengths: &[u32]) {
         _ => first_line(i),
     }
     let m = identity(o.identity, buffer);
-    lines::banks(&region, o, part(buffer, 0, m), texts, lengths);
+    lines::region_lines(&region, o, part(buffer, 0, m), texts, lengths);
 }
 
 fn main() {

@@ -71,7 +71,7 @@ pub const DATES_SIZE: usize = DATE_SIZE + DATE_SIZE;
 pub const DATES_SIZE_32: u32 = DATES_SIZE as u32;
 
 // The original words of a table, and of all.
-const TABLE_WORDS: usize = 2;
+pub const TABLE_WORDS: usize = 2;
 
 pub const ORIGINAL_WORDS: usize = TABLES * TABLE_WORDS;
 
