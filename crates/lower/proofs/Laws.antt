@@ -13,7 +13,7 @@ use Rattle.refusal.specs.declared.Refusal.the-variants.{Argument, Full, Turn}
 use Rattle.record.specs.declared.Source.{Source}
 use Rattle.writer.specs.declared.Tables.{Tables}
 use Rattle.writer.specs.declared.Writer.{Writer}
-use Rattle.lower.specs.Ended.{isWithin, sourcesWith, sourcesEnded}
+use Rattle.lower.specs.Sources.{hasSourceAndTable, sourcesWith, sourcesEnded}
 use Rattle.base.proofs.Bools.{and-left, and-right}
 use Rattle.writer.specs.State.{did, stays, noTable, position, isOpen, begunIn, isDue, inRange, tailSize}
 use Rattle.writer.proofs.Laws.{ranged, fill-fits, position-fits, open-table, count-fits}
@@ -74,14 +74,14 @@ module _ (w : Writer) where
   end-turn e = rw e
 
   -- the numbers of an open table are within their bounds
-  pub end-within : (mayAppend w && isOpen (w .tables)) ≡ true → isWithin (w .tables) ≡ true
+  pub end-within : (mayAppend w && isOpen (w .tables)) ≡ true → hasSourceAndTable (w .tables) ≡ true
   end-within e =
       let r = ranged w (and-left (inRange w) (not (w .contents .closed)) (and-left (mayAppend w) (isOpen (w .tables)) e)) in
       let o = open-table (position (w .contents)) (w .tables) (r .tables) (and-right (mayAppend w) (isOpen (w .tables)) e) in
       rw (le-leb 1 (w .tables .count) (o .1), le-leb (w .tables .count) maxSources (count-fits (position (w .contents)) (w .tables) (r .tables)), le-leb (w .tables .table) lastTable (o .0))
 
   -- the last source has the block
-  pub end-ended : isWithin (w .tables) ≡ true → record {
+  pub end-ended : hasSourceAndTable (w .tables) ≡ true → record {
     answer = Done;
     writer = record {
       stage = w .stage;
@@ -130,7 +130,7 @@ pub takes-fits : (w : Writer) → mayAppend w ≡ true → (w .contents .fill �
 takes-fits w m = let t = ranged w (and-left (inRange w) (not (w .contents .closed)) m) .contents in (fill-fits (w .contents) t, position-fits (w .contents) t)
 
 -- the bounds of a last source and an open table
-pub within-bounds : (x : Tables) → isWithin x ≡ true → (1 ≤ x .count) × (x .count ≤ maxSources) × (x .table ≤ lastTable)
+pub within-bounds : (x : Tables) → hasSourceAndTable x ≡ true → (1 ≤ x .count) × (x .count ≤ maxSources) × (x .table ≤ lastTable)
 within-bounds x e =
     let a = leb 1 (x .count) in
     let b = leb (x .count) maxSources in

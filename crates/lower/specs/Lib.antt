@@ -1,3 +1,3 @@
 pub mod Lower
 pub mod Appended
-pub mod Ended
+pub mod Sources

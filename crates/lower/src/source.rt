@@ -5,7 +5,7 @@ ghost use Prim.Native.Nat.{ℕ};
 ghost use Rattle.record.specs.declared.Source.{Source};
 ghost use Rattle.writer.specs.Parts.{wholeOf, stepWith};
 ghost use Rattle.writer.specs.State.{isDone};
-ghost use Rattle.lower.specs.Ended as Ended;
+ghost use Rattle.lower.specs.Sources as Sources;
 ghost use Rattle.lower.specs.Lower as Lower;
 use crate::is_open;
 use crate::may_append_parts;
@@ -42,7 +42,7 @@ fn emptied(s: Source) -> Source
 
 // Begins a source. Its record is for the sources: `sources_with` stores it.
 pub fn source_parts(b: Beginning, p: Parts) -> PartsStep
-    ensures { λ r. ⌜ ((s : Source) (ss : List Source) (tail : List ℕ) → stepWith b r (Ended.sourcesWith (isDone (r .answer)) ss (p .tables) s) tail ≡ Lower.sourceStep (wholeOf b p ss tail) s) ⌝ }
+    ensures { λ r. ⌜ ((s : Source) (ss : List Source) (tail : List ℕ) → stepWith b r (Sources.sourcesWith (isDone (r .answer)) ss (p .tables) s) tail ≡ Lower.sourceStep (wholeOf b p ss tail) s) ⌝ }
 {
     let x = p.tables;
     if !may_append_parts(b, p) | is_open(x) {
@@ -68,7 +68,7 @@ pub fn sources_with(
     x: Tables,
     s: Source,
 ) -> [Source; SOURCES]
-    ensures { λ r. ⌜ r ≡ Ended.sourcesWith done sources x s ⌝ }
+    ensures { λ r. ⌜ r ≡ Sources.sourcesWith done sources x s ⌝ }
 {
     let mut ss = sources;
     if done {

@@ -8,7 +8,7 @@ ghost use Rattle.record.specs.Record.{noBlock};
 ghost use Rattle.writer.specs.declared.Beginning.{Beginning};
 ghost use Rattle.writer.specs.Parts.{wholeOf, stepWith};
 ghost use Rattle.writer.specs.State.{isDone};
-ghost use Rattle.lower.specs.Ended as Ended;
+ghost use Rattle.lower.specs.Sources as Sources;
 ghost use Prim.Native.Nat.{_≤_};
 ghost use Rattle.writer.specs.State as State;
 ghost use Rattle.lower.specs.Lower as Lower;
@@ -91,7 +91,7 @@ fn with_block(s: Source, table: u32, b: Block) -> Source
 // The block of the open table, as its end fixes it.
 fn block_of(p: Parts) -> Block
     requires { ⌜ (p .tables .start ≤ State.position (p .contents)) × (State.position (p .contents) ≤ capacity) ⌝ }
-    ensures { λ r. ⌜ r ≡ Ended.blockIn p ⌝ }
+    ensures { λ r. ⌜ r ≡ Sources.blockIn p ⌝ }
 {
     let t = p.contents;
     let x = p.tables;
@@ -110,7 +110,7 @@ pub struct EndStep {
 
 // Ends the open table. Its block is for the last source: `sources_ended` stores it.
 pub fn end_parts(b: Beginning, p: Parts) -> EndStep
-    ensures { λ r. ⌜ ((ss : List Source) (tail : List ℕ) → stepWith b (r .step) (Ended.sourcesEnded (isDone (r .step .answer)) ss (p .tables) (r .block)) tail ≡ Lower.endStep (wholeOf b p ss tail)) × (r .block ≡ pick (isDone (r .step .answer)) (Ended.blockIn p) noBlock) ⌝ }
+    ensures { λ r. ⌜ ((ss : List Source) (tail : List ℕ) → stepWith b (r .step) (Sources.sourcesEnded (isDone (r .step .answer)) ss (p .tables) (r .block)) tail ≡ Lower.endStep (wholeOf b p ss tail)) × (r .block ≡ pick (isDone (r .step .answer)) (Sources.blockIn p) noBlock) ⌝ }
 {
     if !may_append_parts(b, p) | !is_open(p.tables) {
         let step = parts_stay(p, Refusal::Turn);
@@ -133,8 +133,8 @@ pub fn end_parts(b: Beginning, p: Parts) -> EndStep
 }
 
 // Whether there are a last source and an open table.
-fn is_within(x: Tables) -> bool
-    ensures { λ r. ⌜ r ≡ Ended.isWithin x ⌝ }
+fn has_source_and_table(x: Tables) -> bool
+    ensures { λ r. ⌜ r ≡ Sources.hasSourceAndTable x ⌝ }
 {
     (1 <= x.count) & ((x.count <= SOURCES_32) & (x.table <= LAST_TABLE))
 }
@@ -146,10 +146,10 @@ pub fn sources_ended(
     x: Tables,
     block: Block,
 ) -> [Source; SOURCES]
-    ensures { λ r. ⌜ r ≡ Ended.sourcesEnded done sources x block ⌝ }
+    ensures { λ r. ⌜ r ≡ Sources.sourcesEnded done sources x block ⌝ }
 {
     let mut ss = sources;
-    if done & is_within(x) {
+    if done & has_source_and_table(x) {
         let i = (x.count - 1) as usize;
         let s = ss[i];
         let e = with_block(s, x.table, block);

@@ -18,8 +18,11 @@ firstVersion = 1
 abbrev pub secondVersion : ℕ
 secondVersion = 2
 
+abbrev pub thirdVersion : ℕ
+thirdVersion = 3
+
 abbrev pub currentVersion : ℕ
-currentVersion = 3
+currentVersion = thirdVersion
 
 -- the bytes of a record of each version
 abbrev pub firstRecordSize : ℕ
@@ -57,10 +60,10 @@ maxValidator = 64
 
 -- by version: the bytes of a record, and how many tables it has
 abbrev pub sourceSize : ℕ → ℕ
-sourceSize v = pick (ltb v secondVersion) firstRecordSize (pick (ltb v currentVersion) secondRecordSize recordSize)
+sourceSize v = pick (ltb v secondVersion) firstRecordSize (pick (ltb v thirdVersion) secondRecordSize recordSize)
 
 abbrev pub tableCount : ℕ → ℕ
-tableCount v = pick (ltb v currentVersion) earlierTables maxTables
+tableCount v = pick (ltb v thirdVersion) earlierTables maxTables
 
 -- a table's block: offset, length, CRC
 abbrev pub blockSize : ℕ

@@ -51,7 +51,9 @@ pub const FIRST_VERSION: u32 = 1;
 
 pub const SECOND_VERSION: u32 = 2;
 
-pub const VERSION: u32 = 3;
+pub const THIRD_VERSION: u32 = 3;
+
+pub const VERSION: u32 = THIRD_VERSION;
 
 // The bytes of a record of each version.
 pub const FIRST_RECORD_SIZE: usize = 160;
@@ -191,7 +193,7 @@ pub fn source_size(version: u32) -> usize
 {
     if version < SECOND_VERSION {
         FIRST_RECORD_SIZE
-    } else if version < VERSION {
+    } else if version < THIRD_VERSION {
         SECOND_RECORD_SIZE
     } else {
         RECORD_SIZE
@@ -202,7 +204,7 @@ pub fn source_size(version: u32) -> usize
 fn table_count(version: u32) -> usize
     ensures { λ r. ⌜ (r ≡ tableCount version) × (r ≤ maxTables) ⌝ }
 {
-    if version < VERSION {
+    if version < THIRD_VERSION {
         EARLIER_TABLES
     } else {
         TABLES

@@ -33,7 +33,7 @@ use Rattle.writer.specs.declared.Answer.the-variants.{Appended}
 use Rattle.lower.proofs.Laws.{bytes-appended, appended-some, takes-fits}
 use Rattle.run.specs.Run.{lowerStep, lowerOps, ranWriter, ranRegion}
 use Rattle.run.specs.Appends.{dues, appends}
-use Rattle.run.specs.Parts.{Ran, AfterAppend, countOf}
+use Rattle.run.specs.PartsRun.{Ran, AfterAppend, countOf}
 use Rattle.flash.specs.Flash.{performed}
 use Rattle.run.proofs.Laws.{quiet, quiet-flush, quiet-dues-writer, quiet-dues-ran, then-writer, then-region, fed-all-writer, fed-all-region}
 use Rattle.region.specs.Region.{capacity}

@@ -23,7 +23,7 @@ use Rattle.lower.specs.Lower.{bytesStep}
 use Rattle.due.specs.Due.{dueStep, dueOps, dueRegion, stepOf, opsOf}
 use Rattle.run.specs.Run.{Lower, bytes, due, lowerStep, lowerOps, lowerRegion, ranWriter, ranRegion}
 use Rattle.run.specs.Appends.{dues, appends}
-use Rattle.run.specs.Parts.{Ran}
+use Rattle.run.specs.PartsRun.{Ran}
 
 -- ---- what is due
 

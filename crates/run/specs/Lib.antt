@@ -1,3 +1,3 @@
 pub mod Run
 pub mod Appends
-pub mod Parts
+pub mod PartsRun

@@ -8,7 +8,7 @@ ghost use lib.ListN.{length};
 ghost use Rattle.run.specs.Run as Run;
 ghost use Rattle.run.specs.Run.{ranWriter, ranRegion};
 ghost use Rattle.run.specs.Appends as Appends;
-ghost use Rattle.run.specs.Parts as Partly;
+ghost use Rattle.run.specs.PartsRun as PartsRun;
 ghost use Rattle.writer.specs.State.{tailSize};
 use due::due_parts;
 use lower::append::append_parts;
@@ -25,7 +25,7 @@ use writer::whole;
 
 // Does the second and the third operation that are due.
 fn do_two(b: Beginning, p: Parts, tail: &[u8; TAIL_SIZE], region: &mut [u8]) -> Parts
-    ensures { λ r. ⌜ Partly.Ran (now (region .entry)) b p (now (tail .entry)) (Run.due ∷ Run.due ∷ []) r (now (tail .entry)) (now (region .exit)) ⌝ }
+    ensures { λ r. ⌜ PartsRun.Ran (now (region .entry)) b p (now (tail .entry)) (Run.due ∷ Run.due ∷ []) r (now (tail .entry)) (now (region .exit)) ⌝ }
 {
     let c = due_parts(b, p, tail, region);
     let d = due_parts(b, c.parts, tail, region);
@@ -34,7 +34,7 @@ fn do_two(b: Beginning, p: Parts, tail: &[u8; TAIL_SIZE], region: &mut [u8]) -> 
 
 // Does what is still due, at most two operations.
 fn flush_two(b: Beginning, p: Parts, tail: &[u8; TAIL_SIZE], region: &mut [u8]) -> Parts
-    ensures { λ r. ⌜ Partly.Ran (now (region .entry)) b p (now (tail .entry)) (Run.due ∷ Run.due ∷ []) r (now (tail .entry)) (now (region .exit)) ⌝ }
+    ensures { λ r. ⌜ PartsRun.Ran (now (region .entry)) b p (now (tail .entry)) (Run.due ∷ Run.due ∷ []) r (now (tail .entry)) (now (region .exit)) ⌝ }
 {
     let s = p.stage;
     match s {
@@ -47,14 +47,14 @@ fn flush_two(b: Beginning, p: Parts, tail: &[u8; TAIL_SIZE], region: &mut [u8]) 
 
 // Does what is due, at most three operations.
 fn do_due(b: Beginning, p: Parts, tail: &[u8; TAIL_SIZE], region: &mut [u8]) -> Parts
-    ensures { λ r. ⌜ Partly.Ran (now (region .entry)) b p (now (tail .entry)) Appends.dues r (now (tail .entry)) (now (region .exit)) ⌝ }
+    ensures { λ r. ⌜ PartsRun.Ran (now (region .entry)) b p (now (tail .entry)) Appends.dues r (now (tail .entry)) (now (region .exit)) ⌝ }
 {
     let a = due_parts(b, p, tail, region);
     flush_two(b, a.parts, tail, region)
 }
 
 fn flush_parts(b: Beginning, p: Parts, tail: &[u8; TAIL_SIZE], region: &mut [u8]) -> Parts
-    ensures { λ r. ⌜ Partly.Ran (now (region .entry)) b p (now (tail .entry)) Appends.dues r (now (tail .entry)) (now (region .exit)) ⌝ }
+    ensures { λ r. ⌜ PartsRun.Ran (now (region .entry)) b p (now (tail .entry)) Appends.dues r (now (tail .entry)) (now (region .exit)) ⌝ }
 {
     let s = p.stage;
     match s {
@@ -92,7 +92,7 @@ fn append_one(
     bytes: &[u8],
 ) -> AfterAppend
     requires { ⌜ 1 ≤ length (now bytes) ⌝ }
-    ensures { λ r. ⌜ Partly.AfterAppend (now (region .entry)) b p (now (tail .entry)) (now (bytes .entry)) (r .n) (r .parts) (now (tail .exit)) (now (region .exit)) ⌝ }
+    ensures { λ r. ⌜ PartsRun.AfterAppend (now (region .entry)) b p (now (tail .entry)) (now (bytes .entry)) (r .n) (r .parts) (now (tail .exit)) (now (region .exit)) ⌝ }
 {
     let one = &bytes[0..1];
     let s = append_parts(b, p, tail, one);
@@ -102,7 +102,7 @@ fn append_one(
 
 // How many bytes a call appended.
 fn count_of(a: Answer) -> usize
-    ensures { λ r. ⌜ r ≡ Partly.countOf a ⌝ }
+    ensures { λ r. ⌜ r ≡ PartsRun.countOf a ⌝ }
 {
     match a {
         Answer::Done => 0,
@@ -123,7 +123,7 @@ fn append_some(
     bytes: &[u8],
 ) -> AfterAppend
     requires { ⌜ 1 ≤ length (now bytes) ⌝ }
-    ensures { λ r. ⌜ Partly.AfterAppend (now (region .entry)) b p (now (tail .entry)) (now (bytes .entry)) (r .n) (r .parts) (now (tail .exit)) (now (region .exit)) ⌝ }
+    ensures { λ r. ⌜ PartsRun.AfterAppend (now (region .entry)) b p (now (tail .entry)) (now (bytes .entry)) (r .n) (r .parts) (now (tail .exit)) (now (region .exit)) ⌝ }
 {
     let s = append_parts(b, p, tail, bytes);
     let answer = s.answer;
@@ -142,7 +142,7 @@ fn append_all_parts(
     region: &mut [u8],
     bytes: &[u8],
 ) -> Parts
-    ensures { λ r. ⌜ Partly.Ran (now (region .entry)) b p (now (tail .entry)) (Appends.appends (now (bytes .entry))) r (now (tail .exit)) (now (region .exit)) ⌝ }
+    ensures { λ r. ⌜ PartsRun.Ran (now (region .entry)) b p (now (tail .entry)) (Appends.appends (now (bytes .entry))) r (now (tail .exit)) (now (region .exit)) ⌝ }
 {
     let mut q = p;
     let mut i: usize = 0;
@@ -174,7 +174,7 @@ fn flush_append_parts(
     region: &mut [u8],
     bytes: &[u8],
 ) -> Parts
-    ensures { λ r. ⌜ Partly.Ran (now (region .entry)) b p (now (tail .entry)) (Appends.dues ++ Appends.appends (now (bytes .entry))) r (now (tail .exit)) (now (region .exit)) ⌝ }
+    ensures { λ r. ⌜ PartsRun.Ran (now (region .entry)) b p (now (tail .entry)) (Appends.dues ++ Appends.appends (now (bytes .entry))) r (now (tail .exit)) (now (region .exit)) ⌝ }
 {
     let q = flush_parts(b, p, tail, region);
     append_all_parts(b, q, tail, region, bytes)
@@ -210,7 +210,7 @@ fn flush_append_line(
     region: &mut [u8],
     bytes: &[u8],
 ) -> Parts
-    ensures { λ r. ⌜ Partly.Ran (now (region .entry)) b p (now (tail .entry)) (Appends.dues ++ (Appends.dues ++ Appends.appends (now (bytes .entry)))) r (now (tail .exit)) (now (region .exit)) ⌝ }
+    ensures { λ r. ⌜ PartsRun.Ran (now (region .entry)) b p (now (tail .entry)) (Appends.dues ++ (Appends.dues ++ Appends.appends (now (bytes .entry)))) r (now (tail .exit)) (now (region .exit)) ⌝ }
 {
     let q = flush_parts(b, p, tail, region);
     flush_append_parts(b, q, tail, region, bytes)
@@ -225,7 +225,7 @@ fn append_short_line(
     bytes: &[u8],
 ) -> Parts
     requires { ⌜ p .contents .fill + length (now bytes) < tailSize ⌝ }
-    ensures { λ r. ⌜ Partly.Ran (now (region .entry)) b p (now (tail .entry)) (Appends.dues ++ (Appends.dues ++ Appends.appends (now (bytes .entry)))) r (now (tail .exit)) (now (region .exit)) ⌝ }
+    ensures { λ r. ⌜ PartsRun.Ran (now (region .entry)) b p (now (tail .entry)) (Appends.dues ++ (Appends.dues ++ Appends.appends (now (bytes .entry)))) r (now (tail .exit)) (now (region .exit)) ⌝ }
 {
     let s = append_parts(b, p, tail, bytes);
     let answer = s.answer;
@@ -243,7 +243,7 @@ pub fn append_line_parts(
     region: &mut [u8],
     bytes: &[u8],
 ) -> Parts
-    ensures { λ r. ⌜ Partly.Ran (now (region .entry)) b p (now (tail .entry)) (Appends.dues ++ (Appends.dues ++ Appends.appends (now (bytes .entry)))) r (now (tail .exit)) (now (region .exit)) ⌝ }
+    ensures { λ r. ⌜ PartsRun.Ran (now (region .entry)) b p (now (tail .entry)) (Appends.dues ++ (Appends.dues ++ Appends.appends (now (bytes .entry)))) r (now (tail .exit)) (now (region .exit)) ⌝ }
 {
     if leaves_tail_open(p.contents, bytes.len()) {
         return append_short_line(b, p, tail, region, bytes);

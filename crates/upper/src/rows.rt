@@ -7,7 +7,7 @@ ghost use lib.ListN.{length, take};
 ghost use Rattle.record.specs.declared.Source.{Source};
 ghost use Rattle.writer.specs.Parts.{wholeOf, stepWith};
 ghost use Rattle.run.specs.Appends as Appends;
-ghost use Rattle.run.specs.Parts as Partly;
+ghost use Rattle.run.specs.PartsRun as PartsRun;
 ghost use Rattle.upper.specs.Upper as Upper;
 ghost use Rattle.region.specs.Region.{regionSize};
 ghost use Rattle.base.specs.Table.{lastTable};
@@ -41,7 +41,7 @@ fn run_row(
     n: usize,
 ) -> Parts
     requires { ⌜ n ≤ length (now bytes) ⌝ }
-    ensures { λ r. ⌜ Partly.Ran (now (region .entry)) b p (now (tail .entry)) (Appends.dues ++ (Appends.dues ++ Appends.appends (take n (now (bytes .entry))))) r (now (tail .exit)) (now (region .exit)) ⌝ }
+    ensures { λ r. ⌜ PartsRun.Ran (now (region .entry)) b p (now (tail .entry)) (Appends.dues ++ (Appends.dues ++ Appends.appends (take n (now (bytes .entry))))) r (now (tail .exit)) (now (region .exit)) ⌝ }
 {
     let line = &bytes[0..n];
     append_line_parts(b, p, tail, region, line)

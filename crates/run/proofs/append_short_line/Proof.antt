@@ -4,7 +4,7 @@ use mathlib.Core.Path.{sym, subst, _∙_}
 use mathlib.Core.List.{List, _++_}
 use Prim.Native.Nat.{ℕ}
 use Rattle.run.specs.Appends.{dues, appends}
-use Rattle.run.specs.Parts.{Ran}
+use Rattle.run.specs.PartsRun.{Ran}
 use Rattle.run.proofs.Chunk.{line-counted, tail-kept}
 use borrow.Author.Needs.{needs}
 use Rattle.run.proofs.append_short_line.Statement.{statement}

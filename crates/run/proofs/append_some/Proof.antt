@@ -3,7 +3,7 @@
 use mathlib.Core.Path.{sym, subst, _∙_}
 use mathlib.Core.List.{List}
 use Prim.Native.Nat.{ℕ}
-use Rattle.run.specs.Parts.{AfterAppend}
+use Rattle.run.specs.PartsRun.{AfterAppend}
 use Rattle.run.proofs.Chunk.{chunk-counted, tail-kept}
 use borrow.Author.Needs.{needs}
 use Rattle.run.proofs.append_some.Statement.{statement}

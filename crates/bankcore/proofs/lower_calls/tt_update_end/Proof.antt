@@ -11,7 +11,7 @@ use Rattle.record.specs.declared.Source.{Source}
 use Rattle.writer.specs.Parts.{stepWith}
 use Rattle.bankcore.proofs.Laws.{not-done}
 use Rattle.lower.specs.Lower.{endStep}
-use Rattle.lower.specs.Ended.{sourcesEnded}
+use Rattle.lower.specs.Sources.{sourcesEnded}
 use borrow.Author.Needs.{needs}
 use Rattle.bankcore.proofs.lower_calls.tt_update_end.Statement.{statement}
 use Rattle.bankcore.proofs.lower_calls.tt_update_end.Tie as tie

@@ -11,7 +11,7 @@ use Rattle.record.specs.declared.Source.{Source}
 use Rattle.writer.specs.Parts.{stepWith}
 use Rattle.bankcore.proofs.Laws.{not-done}
 use Rattle.lower.specs.Lower.{sourceStep}
-use Rattle.lower.specs.Ended.{sourcesWith}
+use Rattle.lower.specs.Sources.{sourcesWith}
 use borrow.Author.Needs.{needs}
 use Rattle.bankcore.proofs.lower_calls.tt_update_source.Statement.{statement}
 use Rattle.bankcore.proofs.lower_calls.tt_update_source.Tie as tie

@@ -6,7 +6,7 @@ use mathlib.Core.List.{List}
 use Rattle.record.specs.declared.Source.{Source}
 use Rattle.writer.specs.Parts.{stepWith}
 use Rattle.lower.specs.Lower.{sourceStep}
-use Rattle.lower.specs.Ended.{sourcesWith}
+use Rattle.lower.specs.Sources.{sourcesWith}
 use borrow.Author.Needs.{needs}
 use Rattle.lower.proofs.source.source.Statement.{statement}
 use Rattle.lower.proofs.source.source.Tie as tie

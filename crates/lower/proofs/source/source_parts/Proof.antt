@@ -4,7 +4,7 @@ use Rattle.writer.specs.declared.PartsStep.{PartsStep}
 use Rattle.writer.specs.Parts.{wholeOf, stepWith}
 use Rattle.base.proofs.Guards.{one-fails-not, both-hold-not}
 use Rattle.writer.specs.State.{isDone}
-use Rattle.lower.specs.Ended.{sourcesWith}
+use Rattle.lower.specs.Sources.{sourcesWith}
 use Rattle.lower.proofs.Laws.{source-begun, source-done, source-full, source-turn}
 use borrow.Author.Needs.{needs}
 use Rattle.lower.proofs.source.source_parts.Statement.{statement}

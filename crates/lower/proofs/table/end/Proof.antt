@@ -6,7 +6,7 @@ use mathlib.Core.List.{List}
 use Rattle.record.specs.declared.Source.{Source}
 use Rattle.writer.specs.Parts.{stepWith}
 use Rattle.lower.specs.Lower.{endStep}
-use Rattle.lower.specs.Ended.{sourcesEnded}
+use Rattle.lower.specs.Sources.{sourcesEnded}
 use borrow.Author.Needs.{needs}
 use Rattle.lower.proofs.table.end.Statement.{statement}
 use Rattle.lower.proofs.table.end.Tie as tie

@@ -11,7 +11,7 @@ use Rattle.writer.proofs.Laws.{ranged, open-table, position-fits}
 use Rattle.base.proofs.Bools.{and-left, and-right}
 use Rattle.base.proofs.Guards.{one-fails, both-hold}
 use Rattle.lower.specs.Lower.{mayAppend}
-use Rattle.lower.specs.Ended.{blockIn, sourcesEnded}
+use Rattle.lower.specs.Sources.{blockIn, sourcesEnded}
 use Rattle.lower.proofs.Laws.{end-within, end-ended, end-done, end-turn}
 use borrow.Author.Needs.{needs}
 use Rattle.lower.proofs.table.end_parts.Statement.{statement}

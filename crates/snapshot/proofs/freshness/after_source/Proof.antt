@@ -1,5 +1,5 @@
 -- A source that gives a wanted day is counted and its days are dropped; any other changes nothing.
-use Rattle.snapshot.specs.Steps.{observed, afterSource}
+use Rattle.snapshot.specs.Steps.{observed}
 use Rattle.snapshot.specs.Freshness.{daysOf, givesAny}
 use mir.ValLaws.{toZ-ofZ}
 use mir.Syntax.{w64}

@@ -23,12 +23,12 @@ abbrev pub blockIn : Parts → Block
 blockIn p = record { offset = p .tables .start; length = position (p .contents) - p .tables .start; crc = p .tables .crc }
 
 -- there are a last source and an open table
-abbrev pub isWithin : Tables → Bool
-isWithin x = leb 1 (x .count) && (leb (x .count) maxSources && leb (x .table) lastTable)
+abbrev pub hasSourceAndTable : Tables → Bool
+hasSourceAndTable x = leb 1 (x .count) && (leb (x .count) maxSources && leb (x .table) lastTable)
 
 -- a table that is ended has its block in the last source
 abbrev pub sourcesEnded : Bool → List Source → Tables → Block → List Source
 sourcesEnded done ss x b =
-    pick (done && isWithin x)
+    pick (done && hasSourceAndTable x)
     (set ss (x .count - 1) (withBlock (getD ss (x .count - 1) pastEnd) (x .table) b))
     ss
