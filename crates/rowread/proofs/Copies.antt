@@ -16,7 +16,7 @@ use Rattle.csv.proofs.Laws.{sets-append}
 use Rattle.csv.proofs.Offsets.{field-offset}
 use Rattle.rowread.specs.Stored.{valuesOf, joined, endsOf}
 use Rattle.base.specs.Number.{pick}
-use Rattle.rowread.specs.Steps.{valueOf, restOf, IsRow, isStop, lineOf}
+use Rattle.rowread.specs.Steps.{valueOf, restOf, IsRow, isQuoteOrLf, lineOf}
 use Rattle.rowread.proofs.Lines.{no-quote, run-end, run-part}
 use Rattle.rowread.proofs.Laws.{inner-out, inner-byte, inner-twice, inner-close, past, plain-size, field-plain}
 
@@ -66,9 +66,9 @@ push-has b (got v s) r p = let e : s ≡ r = cc in (ap (got v) e, refl)
 run-has : (bs r : List ℕ) → Has (inner bs) r → Has (inner (drop (length (lineOf bs)) bs)) r × (valueOf (inner bs) ≡ lineOf bs ++ valueOf (inner (drop (length (lineOf bs)) bs)))
 unfolding inner lineOf
 run-has [] r h = (h, refl)
-run-has (b ∷ bs) r h = go (isStop b) refl (run-has bs r)
+run-has (b ∷ bs) r h = go (isQuoteOrLf b) refl (run-has bs r)
   where
-    go : (q : Bool) → isStop b ≡ q → (Has (inner bs) r → Has (inner (drop (length (lineOf bs)) bs)) r × (valueOf (inner bs) ≡ lineOf bs ++ valueOf (inner (drop (length (lineOf bs)) bs))))
+    go : (q : Bool) → isQuoteOrLf b ≡ q → (Has (inner bs) r → Has (inner (drop (length (lineOf bs)) bs)) r × (valueOf (inner bs) ≡ lineOf bs ++ valueOf (inner (drop (length (lineOf bs)) bs))))
         → Has (inner (drop (length (pick q [] (b ∷ lineOf bs))) (b ∷ bs))) r × (valueOf (inner (b ∷ bs)) ≡ pick q [] (b ∷ lineOf bs) ++ valueOf (inner (drop (length (pick q [] (b ∷ lineOf bs))) (b ∷ bs))))
     go true s f = (h, refl)
     go false s f =
@@ -77,7 +77,7 @@ run-has (b ∷ bs) r h = go (isStop b) refl (run-has bs r)
         let x = f (w .0) in
         (x .0, ap valueOf p ∙ w .1 ∙ ap (λ (l : List ℕ). b ∷ l) (x .1))
 
--- a run without delimiters, from p to e
+-- a run without quotes and LF, from p to e
 module _ (t : List ℕ) (p e : ℕ) (r : List ℕ) (h : Has (inner (drop p t)) r) (q : e ≡ p + length (lineOf (drop p t))) where
   pub run-left : Has (inner (drop e t)) r
   run-left = has-same (inner (drop (length (lineOf (drop p t))) (drop p t))) (inner (drop e t)) r (ap inner (run-end t p e q)) (run-has (drop p t) r h .0)

@@ -1,5 +1,5 @@
 -- Rows without quotes: what a turn of their loops does to what is left, and why the result is a row of the grammar. The bytes before the
--- first delimiter (a quote or LF) are plain values with commas between them: with LF after them they are a row, with a quote after a comma
+-- first quote or LF are plain values with commas between them: with LF after them they are a row, with a quote after a comma
 -- the first values of one.
 use Prim.Native.Nat.{ℕ, zero, suc, _+_, _-_, _≤_, _<_, min}
 use native.Mathlib.Decide.{decLt}
@@ -18,20 +18,20 @@ use Rattle.csv.specs.Csv.{isText, NonEscaped, none, text, Field, nonEscaped, lf
 use Rattle.csv.specs.Read.{Got, push, inner}
 use Rattle.csv.proofs.Laws.{sets-append}
 use Rattle.rowread.specs.Stored.{joined, endsOf}
-use Rattle.rowread.specs.Steps.{pieceOf, isStop, FirstStop, lineOf, commasIn, textIn, cutsIn, marksIn, anyStop, Opens, Holds}
+use Rattle.rowread.specs.Steps.{pieceOf, isQuoteOrLf, FirstQuoteOrLf, lineOf, commasIn, textIn, cutsIn, marksIn, anyQuoteOrLf, Opens, Holds}
 use Rattle.rowread.proofs.Laws.{past, add, add-push}
 
--- ---- the bytes before the first delimiter
+-- ---- the bytes before the first quote or LF
 
 pub line-out : (t : List ℕ) (i : ℕ) → length t ≤ i → i ≡ i + length (lineOf (drop i t))
 unfolding lineOf
 line-out t i h = rw (drop-of-length-le t h) (omega arith)
 
-pub line-stop : (t : List ℕ) (i : ℕ) → i < length t → isStop (getD t i 0) ≡ true → i ≡ i + length (lineOf (drop i t))
+pub line-stop : (t : List ℕ) (i : ℕ) → i < length t → isQuoteOrLf (getD t i 0) ≡ true → i ≡ i + length (lineOf (drop i t))
 unfolding lineOf
 line-stop t i h e = rw (drop-cons t i 0 h) (simp e (omega arith))
 
-pub line-turn : (t : List ℕ) (i : ℕ) → i < length t → isStop (getD t i 0) ≡ false → i + length (lineOf (drop i t)) ≡ i + 1 + length (lineOf (drop (i + 1) t))
+pub line-turn : (t : List ℕ) (i : ℕ) → i < length t → isQuoteOrLf (getD t i 0) ≡ false → i + length (lineOf (drop i t)) ≡ i + 1 + length (lineOf (drop (i + 1) t))
 unfolding lineOf
 line-turn t i h e = rw (add-one i, drop-cons t i 0 h) (simp e (omega arith))
 
@@ -44,7 +44,7 @@ pub line-in : (n : ℕ) (t : List ℕ) → length (lineOf (take n t)) < length (
 unfolding lineOf
 line-in zero t h = absurd (omega arith)
 line-in (suc n) [] h = absurd (omega arith)
-line-in (suc n) (b ∷ t) h = go (isStop b) h (line-in n t)
+line-in (suc n) (b ∷ t) h = go (isQuoteOrLf b) h (line-in n t)
   where
     go : (q : Bool) → length (pick q [] (b ∷ lineOf (take n t))) < suc (length (take n t)) → (length (lineOf (take n t)) < length (take n t) → length (lineOf t) ≡ length (lineOf (take n t)))
         → length (pick q [] (b ∷ lineOf t)) ≡ length (pick q [] (b ∷ lineOf (take n t)))
@@ -56,7 +56,7 @@ line-none : (n : ℕ) (t : List ℕ) → n ≤ length t → length (lineOf (take
 unfolding lineOf
 line-none zero t h e = omega arith
 line-none (suc n) [] h e = absurd (omega arith)
-line-none (suc n) (b ∷ t) h e = go (isStop b) e (line-none n t (omega arith))
+line-none (suc n) (b ∷ t) h e = go (isQuoteOrLf b) e (line-none n t (omega arith))
   where
     go : (q : Bool) → length (pick q [] (b ∷ lineOf (take n t))) ≡ suc (length (take n t)) → (length (lineOf (take n t)) ≡ length (take n t) → length (lineOf t) ≡ n + length (lineOf (drop n t)))
         → length (pick q [] (b ∷ lineOf t)) ≡ suc n + length (lineOf (drop n t))
@@ -70,23 +70,23 @@ stop-none t i end h g e =
     let d : length (lineOf (drop (end - i) (drop i t))) ≡ length (lineOf (drop end t)) = rw (drop-drop (end - i) i t, m) in
     omega (arith, q, d)
 
--- n is the least index of a delimiter before i, 32 if there is none
+-- n is the least index of a quote or LF before i, 32 if there is none
 abbrev pub Least : List ℕ → ℕ → ℕ → Type 0
 Least v i n = (n ≤ 32) × (n ≡ 32 → i + length (lineOf (drop i v)) ≡ length (lineOf v)) × (n < 32 → (n ≡ length (lineOf v)) × (n < i))
 
 pub least-start : (v : List ℕ) → Least v 0 32
 least-start v = (omega arith, λ e. omega arith, λ h. absurd (omega arith))
 
-pub least-turn : (v : List ℕ) (i n m : ℕ) → i < length v → length v ≤ 32 → m ≡ min (pick (isStop (getD v i 0)) i 32) n → Least v i n → Least v (i + 1) m
-least-turn v i n m h k e l = go (isStop (getD v i 0)) refl (decLt n 32) e
+pub least-turn : (v : List ℕ) (i n m : ℕ) → i < length v → length v ≤ 32 → m ≡ min (pick (isQuoteOrLf (getD v i 0)) i 32) n → Least v i n → Least v (i + 1) m
+least-turn v i n m h k e l = go (isQuoteOrLf (getD v i 0)) refl (decLt n 32) e
   where
-    go : (q : Bool) → isStop (getD v i 0) ≡ q → Dec (n < 32) → m ≡ min (pick q i 32) n → Least v (i + 1) m
+    go : (q : Bool) → isQuoteOrLf (getD v i 0) ≡ q → Dec (n < 32) → m ≡ min (pick q i 32) n → Least v (i + 1) m
     go true s (yes d) e = let p = l .2 d in (omega arith, λ z. absurd (omega (arith, p .1)), λ z. (omega (arith, p .0, p .1), omega (arith, p .1)))
     go true s (no d) e = let p = l .1 (omega (arith, l .0)) in let w = line-stop v i h s in (omega arith, λ z. absurd (omega (arith, l .0)), λ z. (omega (arith, p, w, l .0), omega (arith, l .0)))
     go false s (yes d) e = let p = l .2 d in (omega arith, λ z. absurd (omega (arith, p .1)), λ z. (omega (arith, p .0, p .1), omega (arith, p .1)))
     go false s (no d) e = let p = l .1 (omega (arith, l .0)) in let w = line-turn v i h s in (omega (arith, l .0), λ z. omega (arith, p, w), λ z. absurd (omega (arith, l .0)))
 
-pub least-end : (v : List ℕ) (i n : ℕ) → i ≤ length v → length v ≤ i → Least v i n → FirstStop v n
+pub least-end : (v : List ℕ) (i n : ℕ) → i ≤ length v → length v ≤ i → Least v i n → FirstQuoteOrLf v n
 least-end v i n h k l =
     let w = line-out v i k in
     (l .0, λ e. omega (arith, l .1 e, w), λ d. let p = l .2 d in (p .0, omega (arith, p .1)))
@@ -94,7 +94,7 @@ least-end v i n h k l =
 pub line-size : (t : List ℕ) → length (lineOf t) ≤ length t
 unfolding lineOf
 line-size [] = omega arith
-line-size (b ∷ t) = go (isStop b) (line-size t)
+line-size (b ∷ t) = go (isQuoteOrLf b) (line-size t)
   where
     go : (q : Bool) → length (lineOf t) ≤ length t → length (pick q [] (b ∷ lineOf t)) ≤ suc (length t)
     go true e = omega arith
@@ -246,8 +246,8 @@ record Begun (v : List ℕ) (c : ℕ) (r : List ℕ) (ws : List (List ℕ)) (s :
   head : NonEscaped (v ++ (c ∷ r)) (firstIn v) rest
   whole : {bs f : List ℕ} → Field bs f rest → Record bs (f ∷ (othersIn v ++ ws)) s
 
-text-of : (b : ℕ) → isStop b ≡ false → eqb b comma ≡ false → isText b ≡ true
-unfolding isStop isText
+text-of : (b : ℕ) → isQuoteOrLf b ≡ false → eqb b comma ≡ false → isText b ≡ true
+unfolding isQuoteOrLf isText
 text-of b s c = go (eqb b quote) (eqb b lineFeed) s
   where
     go : (p q : Bool) → (p || q) ≡ false → not (p || (eqb b comma || q)) ≡ true
@@ -257,36 +257,36 @@ text-of b s c = go (eqb b quote) (eqb b lineFeed) s
 
 -- after v: a row of its last value and ws, once that value is a field
 module _ (c : ℕ) (r : List ℕ) (ws : List (List ℕ)) (s : List ℕ) (following : (bs f : List ℕ) → Field bs f (c ∷ r) → Record bs (f ∷ ws) s) where
-  begun : (v : List ℕ) → anyStop v ≡ false → Begun v c r ws s
-  unfolding anyStop firstIn othersIn
+  begun : (v : List ℕ) → anyQuoteOrLf v ≡ false → Begun v c r ws s
+  unfolding anyQuoteOrLf firstIn othersIn
   begun [] e = record { rest = c ∷ r; head = none; whole = λ {bs} {f} h. following bs f h }
-  begun (b ∷ v) e = go (eqb b comma) refl (begun v (neither (isStop b) (anyStop v) e .1))
+  begun (b ∷ v) e = go (eqb b comma) refl (begun v (neither (isQuoteOrLf b) (anyQuoteOrLf v) e .1))
     where
       go : (q : Bool) → eqb b comma ≡ q → Begun v c r ws s → Begun (b ∷ v) c r ws s
       go true d w =
           let k : b ≡ comma = eqb-true b comma d in
           rw k (record { rest = comma ∷ (v ++ (c ∷ r)); head = none; whole = λ f. more f (w .whole (nonEscaped (w .head))) })
       go false d w =
-          let n : isText b ≡ true = text-of b (neither (isStop b) (anyStop v) e .0) d in
+          let n : isText b ≡ true = text-of b (neither (isQuoteOrLf b) (anyQuoteOrLf v) e .0) d in
           let h : NonEscaped (b ∷ (v ++ (c ∷ r))) (b ∷ firstIn v) (w .rest) = text n (w .head) in
           record { rest = w .rest; head = rw d h; whole = rw d (w .whole) }
 
-  plain-row : (v : List ℕ) → anyStop v ≡ false → Record (v ++ (c ∷ r)) (valuesIn v ++ ws) s
+  plain-row : (v : List ℕ) → anyQuoteOrLf v ≡ false → Record (v ++ (c ∷ r)) (valuesIn v ++ ws) s
   plain-row v e = let b = begun v e in b .whole (nonEscaped (b .head))
 
-pub line-clean : (t : List ℕ) → anyStop (lineOf t) ≡ false
-unfolding anyStop lineOf
+pub line-clean : (t : List ℕ) → anyQuoteOrLf (lineOf t) ≡ false
+unfolding anyQuoteOrLf lineOf
 line-clean [] = refl
-line-clean (b ∷ t) = go (isStop b) refl (line-clean t)
+line-clean (b ∷ t) = go (isQuoteOrLf b) refl (line-clean t)
   where
-    go : (q : Bool) → isStop b ≡ q → anyStop (lineOf t) ≡ false → anyStop (pick q [] (b ∷ lineOf t)) ≡ false
+    go : (q : Bool) → isQuoteOrLf b ≡ q → anyQuoteOrLf (lineOf t) ≡ false → anyQuoteOrLf (pick q [] (b ∷ lineOf t)) ≡ false
     go true s e = refl
     go false s e = rw s e
 
 line-all : (t : List ℕ) → lineOf t ++ drop (length (lineOf t)) t ≡ t
 unfolding lineOf
 line-all [] = refl
-line-all (b ∷ t) = go (isStop b) (line-all t)
+line-all (b ∷ t) = go (isQuoteOrLf b) (line-all t)
   where
     go : (q : Bool) → lineOf t ++ drop (length (lineOf t)) t ≡ t → pick q [] (b ∷ lineOf t) ++ drop (length (pick q [] (b ∷ lineOf t))) (b ∷ t) ≡ b ∷ t
     go true e = refl
@@ -295,7 +295,7 @@ line-all (b ∷ t) = go (isStop b) (line-all t)
 pub line-take : (t : List ℕ) → take (length (lineOf t)) t ≡ lineOf t
 unfolding lineOf
 line-take [] = refl
-line-take (b ∷ t) = go (isStop b) (line-take t)
+line-take (b ∷ t) = go (isQuoteOrLf b) (line-take t)
   where
     go : (q : Bool) → take (length (lineOf t)) t ≡ lineOf t → take (length (pick q [] (b ∷ lineOf t))) (b ∷ t) ≡ pick q [] (b ∷ lineOf t)
     go true e = refl
@@ -305,11 +305,11 @@ line-take (b ∷ t) = go (isStop b) (line-take t)
 pub front-part : (t : List ℕ) (n : ℕ) → take (n - 0) (drop 0 t) ≡ take n t
 front-part t n = let m : n - 0 ≡ n = omega arith in rw m
 
--- the bytes before the first delimiter, as a part of t
+-- the bytes before the first quote or LF, as a part of t
 pub line-part : (t : List ℕ) (n : ℕ) → n ≡ length (lineOf t) → take (n - 0) (drop 0 t) ≡ lineOf t
 line-part t n e = let m : n - 0 ≡ length (lineOf t) = omega (arith, e) in rw m (line-take t)
 
--- a run without delimiters, from p to e
+-- a run without quotes and LF, from p to e
 module _ (t : List ℕ) (p e : ℕ) (q : e ≡ p + length (lineOf (drop p t))) where
   pub run-end : drop (length (lineOf (drop p t))) (drop p t) ≡ drop e t
   run-end = drop-drop (length (lineOf (drop p t))) p t ∙ ap (λ (x : ℕ). drop x t) (sym q)
@@ -323,18 +323,18 @@ module _ (t : List ℕ) (p e : ℕ) (q : e ≡ p + length (lineOf (drop p t))) w
 pub line-parts : (t : List ℕ) (e : ℕ) → e ≡ length (lineOf t) → (e ≤ length t) × (length (take (e - 0) (drop 0 t)) ≡ e) × (length (textIn (take (e - 0) (drop 0 t))) + commasIn (take (e - 0) (drop 0 t)) ≡ e)
 line-parts t e p = let m : length (take (e - 0) (drop 0 t)) ≡ e = ap length (line-part t e p) ∙ sym p in (omega (arith, p, line-size t), m, text-size (take (e - 0) (drop 0 t)) ∙ m)
 
--- ---- a quoted value, from delimiter to delimiter
+-- ---- a quoted value, from one quote or LF to the next
 
-pub no-quote : (b : ℕ) → isStop b ≡ false → eqb b quote ≡ false
-unfolding isStop
+pub no-quote : (b : ℕ) → isQuoteOrLf b ≡ false → eqb b quote ≡ false
+unfolding isQuoteOrLf
 no-quote b e = neither (eqb b quote) (eqb b lineFeed) e .0
 
 run-piece : (bs : List ℕ) (k n : ℕ) → add k (pieceOf n (inner bs)) ≡ add (k + length (lineOf bs)) (pieceOf n (inner (drop (length (lineOf bs)) bs)))
 unfolding inner lineOf
 run-piece [] k n = refl
-run-piece (b ∷ bs) k n = go (isStop b) refl (run-piece bs (k + 1) n)
+run-piece (b ∷ bs) k n = go (isQuoteOrLf b) refl (run-piece bs (k + 1) n)
   where
-    go : (q : Bool) → isStop b ≡ q → add (k + 1) (pieceOf n (inner bs)) ≡ add (k + 1 + length (lineOf bs)) (pieceOf n (inner (drop (length (lineOf bs)) bs)))
+    go : (q : Bool) → isQuoteOrLf b ≡ q → add (k + 1) (pieceOf n (inner bs)) ≡ add (k + 1 + length (lineOf bs)) (pieceOf n (inner (drop (length (lineOf bs)) bs)))
         → add k (pieceOf n (inner (b ∷ bs))) ≡ add (k + length (pick q [] (b ∷ lineOf bs))) (pieceOf n (inner (drop (length (pick q [] (b ∷ lineOf bs))) (b ∷ bs))))
     go true s f = ap (λ (x : ℕ). add x (pieceOf n (inner (b ∷ bs)))) (sym (add-zero k))
     go false s f =
@@ -364,12 +364,12 @@ cuts-comma n (b ∷ u) = go (eqb b comma) (cuts-comma n u) (cuts-comma (n + 1) u
     go true e f = ap (λ (l : List ℕ). n ∷ l) e
     go false e f = let y : n + suc (length (textIn u)) ≡ n + 1 + length (textIn u) = omega arith in rw y f
 
-clean-front : (u w : List ℕ) → anyStop (u ++ w) ≡ false → anyStop u ≡ false
-unfolding anyStop
+clean-front : (u w : List ℕ) → anyQuoteOrLf (u ++ w) ≡ false → anyQuoteOrLf u ≡ false
+unfolding anyQuoteOrLf
 clean-front [] w e = refl
-clean-front (b ∷ u) w e = let p = neither (isStop b) (anyStop (u ++ w)) e in rw (p .0) (clean-front u w (p .1))
+clean-front (b ∷ u) w e = let p = neither (isQuoteOrLf b) (anyQuoteOrLf (u ++ w)) e in rw (p .0) (clean-front u w (p .1))
 
--- before the first delimiter
+-- before the first quote or LF
 pub opens : (t : List ℕ) (e n : ℕ) → e ≡ length (lineOf t) → ((e ≡ 0 → ⊥) → getD t (e - 1) 0 ≡ comma) → n ≡ commasIn (take (e - 0) (drop 0 t)) → Opens t e n
 opens t e n p q r =
     let m : take e t ≡ lineOf t = rw p (line-take t) in
@@ -403,7 +403,7 @@ before t (suc m) n o =
     let g : getD t m 0 ≡ comma = rw z at (o .afterComma (λ q. absurd (omega arith))) in
     let w : take (suc m) t ≡ u ++ (comma ∷ []) = rw g at (take-suc t m 0 h) in
     let a : t ≡ u ++ (comma ∷ drop (suc m) t) = rw g at (split-at t m 0 h) in
-    let c : anyStop u ≡ false = clean-front u (comma ∷ []) (rw w at (o .clean)) in
+    let c : anyQuoteOrLf u ≡ false = clean-front u (comma ∷ []) (rw w at (o .clean)) in
     let k : commasIn u + 1 ≡ n =
     omega (arith, o .count, ap commasIn w, text-size u, text-size (u ++ (comma ∷ [])), ap length (text-comma u), length-append u (comma ∷ [])) in
     record {

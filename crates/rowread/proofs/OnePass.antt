@@ -23,7 +23,7 @@ use Rattle.rowread.specs.declared.scan.Scan.the-variants.{Whole, Broken}
 use Rattle.rowread.specs.declared.fast.Fast.{Fast}
 use Rattle.rowread.specs.declared.fast.Fast.the-variants.{Read, Not}
 use Rattle.rowread.specs.Stored.{joined, endsOf}
-use Rattle.rowread.specs.Steps.{isStop, lineOf, anyStop, textIn, cutsIn, Opens, Closes, Into, ValueRead, Holds, RowRead, Within, Handed, Quickly}
+use Rattle.rowread.specs.Steps.{isQuoteOrLf, lineOf, anyQuoteOrLf, textIn, cutsIn, Opens, Closes, Into, ValueRead, Holds, RowRead, Within, Handed, Quickly}
 use Rattle.rowread.proofs.Laws.{past, plain-size, field-plain}
 use Rattle.rowread.proofs.Lines.{neither, no-quote, line-clean, stop-inside, run-split, run-part, more-of, before, front-part}
 use Rattle.rowread.proofs.Calls.{length-ends}
@@ -34,10 +34,10 @@ use Rattle.rowread.proofs.Calls.{length-ends}
 at-place : (t : List ℕ) (p b : ℕ) → getD t p 0 ≡ suc b → drop p t ≡ suc b ∷ drop (p + 1) t
 at-place t p b e = rw (add-one p) (drop-cons t p 0 (past t p b e) ∙ rw e)
 
-inner-run : (w : List ℕ) {bs v r : List ℕ} → anyStop w ≡ false → Inner bs v r → Inner (w ++ bs) (w ++ v) r
-unfolding anyStop
+inner-run : (w : List ℕ) {bs v r : List ℕ} → anyQuoteOrLf w ≡ false → Inner bs v r → Inner (w ++ bs) (w ++ v) r
+unfolding anyQuoteOrLf
 inner-run [] e i = i
-inner-run (b ∷ w) e i = let p = neither (isStop b) (anyStop w) e in byte (no-quote b (p .0)) (inner-run w (p .1) i)
+inner-run (b ∷ w) e i = let p = neither (isQuoteOrLf b) (anyQuoteOrLf w) e in byte (no-quote b (p .0)) (inner-run w (p .1) i)
 
 -- a part of the value was put out: what follows continues it
 pub record Gone (t : List ℕ) (from : ℕ) (out : List ℕ) (to : ℕ) (o : List ℕ) (p n : ℕ) : Type 0 where
@@ -77,7 +77,7 @@ module _ {t : List ℕ} {from : ℕ} {out : List ℕ} {to : ℕ} {o : List ℕ} 
       let h : p + 1 < length t = past t (p + 1) 33 f in
       rw e (gone-more (quote ∷ []) (p + 1 + 1) (λ v r i. rw (at-place t p 33 e, at-place t (p + 1) 33 f) (twice i)) (omega arith) (omega arith))
 
-  -- a run without delimiters, as it was put out
+  -- a run without quotes and LF, as it was put out
   pub gone-run : (e m : ℕ) (q : List ℕ) → e ≡ p + length (lineOf (drop p t)) → (m ≡ n + (e - p)) × (q ≡ sets o n (take (e - p) (drop p t))) → Gone t from out to q e m
   gone-run e m q h x =
       let k : length (lineOf (drop p t)) ≡ e - p = omega (arith, h) in
@@ -208,7 +208,7 @@ module _ (t : List ℕ) (e n : ℕ) (h : Opens t e n) (out ends o s : List ℕ) 
   read-value-before width p q (Whole next size) w = holds-before w
   read-value-before width p q Broken w = tt
 
-  -- from there on: one quoted value with no delimiter inside
+  -- from there on: one quoted value with no quote or LF inside
   pub quote-before : (c size : ℕ) (p : List ℕ) → getD t e 0 ≡ quote → Closes t e c → size ≡ to + (c - (e + 1)) → p ≡ sets o to (take (c - (e + 1)) (drop (e + 1) t)) → size ≤ length out → n < length ends
       → Holds t 0 0 0 (n + 1) out ends p (set s n size) (c + 2) size
   quote-before c size p q k z w l r =

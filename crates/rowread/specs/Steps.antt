@@ -17,7 +17,7 @@ use Rattle.rowread.specs.declared.fast.Fast.{Fast}
 use Rattle.rowread.specs.declared.fast.Fast.the-variants.{Read, Not}
 use Rattle.rowread.specs.Stored.{joined, endsOf}
 
--- how many bytes are counted at once, and how many are searched for a delimiter
+-- how many bytes are counted at once, and how many are searched for a quote or LF
 abbrev pub atOnce : ℕ
 atOnce = 64
 
@@ -62,18 +62,18 @@ IsRow malformed = ⊥
 
 -- ---- a row without quotes
 
--- a delimiter, before which a line without quotes ends: a quote or LF
-unfoldable pub isStop : ℕ → Bool
-isStop b = eqb b quote || eqb b lineFeed
+-- a quote or LF, before which a line without quotes ends
+unfoldable pub isQuoteOrLf : ℕ → Bool
+isQuoteOrLf b = eqb b quote || eqb b lineFeed
 
--- the bytes before the first delimiter
+-- the bytes before the first quote or LF
 unfoldable pub lineOf : List ℕ → List ℕ
 lineOf [] = []
-lineOf (b ∷ t) = pick (isStop b) [] (b ∷ lineOf t)
+lineOf (b ∷ t) = pick (isQuoteOrLf b) [] (b ∷ lineOf t)
 
--- n is the index of the first delimiter, the chunk's size if there is none
-abbrev pub FirstStop : List ℕ → ℕ → Type 0
-FirstStop v n = (n ≤ searched) × (n ≡ searched → length (lineOf v) ≡ length v) × (n < searched → (n ≡ length (lineOf v)) × (n < length v))
+-- n is the index of the first quote or LF, the chunk's size if there is none
+abbrev pub FirstQuoteOrLf : List ℕ → ℕ → Type 0
+FirstQuoteOrLf v n = (n ≤ searched) × (n ≡ searched → length (lineOf v) ≡ length v) × (n < searched → (n ≡ length (lineOf v)) × (n < length v))
 
 -- of bytes without quotes: how many are commas; the others; and where in these the values end, those that a comma follows, and all
 unfoldable pub commasIn : List ℕ → ℕ
@@ -93,18 +93,18 @@ marksIn n v = cutsIn n v ++ ((n + length (textIn v)) ∷ [])
 
 -- ---- a row with quotes, in one pass
 
-unfoldable pub anyStop : List ℕ → Bool
-anyStop [] = false
-anyStop (b ∷ v) = isStop b || anyStop v
+unfoldable pub anyQuoteOrLf : List ℕ → Bool
+anyQuoteOrLf [] = false
+anyQuoteOrLf (b ∷ v) = isQuoteOrLf b || anyQuoteOrLf v
 
 -- before offset e there are n values without quotes, each with its comma
 pub record Opens (t : List ℕ) (e n : ℕ) : Type 0 where
   pub inside : e ≤ length t
-  pub clean : anyStop (take e t) ≡ false
+  pub clean : anyQuoteOrLf (take e t) ≡ false
   pub afterComma : (e ≡ 0 → ⊥) → getD t (e - 1) 0 ≡ comma
   pub count : n ≡ commasIn (take e t)
 
--- the value whose opening quote is at e is closed at c, has no delimiter inside, and ends the row
+-- the value whose opening quote is at e is closed at c, has no quote or LF inside, and ends the row
 abbrev pub Closes : List ℕ → ℕ → ℕ → Type 0
 Closes t e c = (c ≡ e + 1 + length (lineOf (drop (e + 1) t))) × (getD t c 0 ≡ quote) × (getD t (c + 1) 0 ≡ lineFeed)
 

@@ -17,9 +17,9 @@ use crate::scan::Piece;
 use crate::scan::Scan;
 use crate::scan::byte_at;
 use crate::scan::count_in_block;
-use crate::scan::delimiter_from;
 use crate::scan::end_within;
 use crate::scan::has_few_quotes;
+use crate::scan::quote_or_lf_from;
 use csv::COMMA;
 use csv::LF;
 use csv::MAX_COLUMNS;
@@ -50,7 +50,7 @@ fn buffer_bytes(t: &[u8], from: usize, buffer: &mut [u8], to: usize) -> Piece
     Piece::Bad
 }
 
-// The same, from delimiter to delimiter.
+// The same, from one quote or LF to the next.
 fn buffer_runs(t: &[u8], from: usize, buffer: &mut [u8], to: usize) -> Piece
     requires { ⌜ (from ≤ length (now t)) × (to + (length (now t) - from) ≤ length (now buffer)) ⌝ }
     ensures { λ r. ⌜ ValueRead Inner (now (t .entry)) from (now (buffer .entry)) to (now (buffer .exit)) r ⌝ }
@@ -58,7 +58,7 @@ fn buffer_runs(t: &[u8], from: usize, buffer: &mut [u8], to: usize) -> Piece
     let mut p = from;
     let mut n = to;
     while p < t.len() {
-        let e = delimiter_from(t, p);
+        let e = quote_or_lf_from(t, p);
         n = copy_part(t, p, e, buffer, n);
         if e == t.len() {
             return Piece::Bad;
@@ -129,9 +129,9 @@ fn buffer_rest(
         to += n;
         marks[k] = to;
         k += 1;
-        let behind = byte_at(t, next);
+        let following = byte_at(t, next);
         if k == width {
-            if behind == LF {
+            if following == LF {
                 return Scan::Whole {
                     next: next + 1,
                     size: to,
@@ -139,7 +139,7 @@ fn buffer_rest(
             }
             return Scan::Broken;
         }
-        if behind != COMMA {
+        if following != COMMA {
             return Scan::Broken;
         }
         from = next + 1;

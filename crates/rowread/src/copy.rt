@@ -7,9 +7,9 @@ ghost use Rattle.csv.specs.Read.{plainValue, inner, fieldAt, values};
 ghost use Rattle.rowread.specs.Stored.{valuesOf, joined, endsOf};
 ghost use Rattle.rowread.specs.Steps.{valueOf, restOf, IsGot, IsRow};
 use crate::scan::byte_at;
-use crate::scan::delimiter_from;
 use crate::scan::has_few_quotes;
 use crate::scan::is_text;
+use crate::scan::quote_or_lf_from;
 use csv::QUOTE;
 
 // Where a copied value ends: in the row, and in the output.
@@ -74,7 +74,7 @@ fn copy_bytes(t: &[u8], from: usize, out: &mut [u8], to: usize) -> Copied
     Copied { next: p, to: n }
 }
 
-// The same, from delimiter to delimiter.
+// The same, from one quote or LF to the next.
 fn copy_runs(t: &[u8], from: usize, out: &mut [u8], to: usize) -> Copied
     requires { ⌜ (from ≤ length (now t)) × IsGot (inner (drop from (now t))) × (to + length (valueOf (inner (drop from (now t)))) ≤ length (now out)) ⌝ }
     ensures { λ r. ⌜ (now (out .exit) ≡ sets (now (out .entry)) to (valueOf (inner (drop from (now (t .entry)))))) × (r .next ≡ length (now (t .entry)) - length (restOf (inner (drop from (now (t .entry)))))) × (r .to ≡ to + length (valueOf (inner (drop from (now (t .entry)))))) ⌝ }
@@ -82,7 +82,7 @@ fn copy_runs(t: &[u8], from: usize, out: &mut [u8], to: usize) -> Copied
     let mut p = from;
     let mut n = to;
     while p < t.len() {
-        let e = delimiter_from(t, p);
+        let e = quote_or_lf_from(t, p);
         n = copy_part(t, p, e, out, n);
         let last = t[e];
         p = e + 1;

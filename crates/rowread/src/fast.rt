@@ -11,7 +11,7 @@ use crate::line::copy_line;
 use crate::line::count_commas;
 use crate::line::last_quoted;
 use crate::scan::byte_at;
-use crate::scan::delimiter_from;
+use crate::scan::quote_or_lf_from;
 use csv::LF;
 use csv::QUOTE;
 
@@ -21,7 +21,7 @@ pub(crate) enum Fast {
     Not,
 }
 
-// A row whose first delimiter, at e, is a quote.
+// A row whose first quote or LF, at e, is a quote.
 fn fast_quoted(t: &[u8], width: usize, e: usize, out: &mut [u8], ends: &mut [usize]) -> Fast
     requires { ⌜ (length (now t) ≤ maxRow) × (e ≡ length (lineOf (now t))) × (getD (now t) e 0 ≡ quote) ⌝ }
     ensures { λ r. ⌜ Quickly (now (t .entry)) width (now (out .entry)) (now (ends .entry)) (now (out .exit)) (now (ends .exit)) r ⌝ }
@@ -42,7 +42,7 @@ fn fast_quoted(t: &[u8], width: usize, e: usize, out: &mut [u8], ends: &mut [usi
     with_buffer(t, width, e, n, out, ends)
 }
 
-// A row whose first delimiter, at e, is its LF.
+// A row whose first quote or LF, at e, is its LF.
 fn fast_line(t: &[u8], width: usize, e: usize, out: &mut [u8], ends: &mut [usize]) -> Fast
     requires { ⌜ (length (now t) ≤ maxRow) × (e ≡ length (lineOf (now t))) × (getD (now t) e 0 ≡ lineFeed) ⌝ }
     ensures { λ r. ⌜ Quickly (now (t .entry)) width (now (out .entry)) (now (ends .entry)) (now (out .exit)) (now (ends .exit)) r ⌝ }
@@ -69,7 +69,7 @@ pub(crate) fn fast_row(t: &[u8], width: usize, out: &mut [u8], ends: &mut [usize
     requires { ⌜ length (now t) ≤ maxRow ⌝ }
     ensures { λ r. ⌜ Quickly (now (t .entry)) width (now (out .entry)) (now (ends .entry)) (now (out .exit)) (now (ends .exit)) r ⌝ }
 {
-    let e = delimiter_from(t, 0);
+    let e = quote_or_lf_from(t, 0);
     let first = byte_at(t, e);
     if first == LF {
         return fast_line(t, width, e, out, ends);

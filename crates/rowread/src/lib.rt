@@ -18,13 +18,13 @@ use crate::scan::scan_row;
 use csv::MAX_ROW;
 use refusal::Refusal;
 
-// How many bytes are counted at once, and how many are searched for a delimiter.
+// How many bytes are counted at once, and how many are searched for a quote or LF.
 const AT_ONCE: usize = 64;
 
 const SEARCHED: usize = 32;
 
-// The index that means that a chunk has no delimiter.
-const NO_DELIMITER: u8 = SEARCHED as u8;
+// The index that means that a chunk has no quote or LF.
+const NOT_FOUND: u8 = SEARCHED as u8;
 
 // From how many bytes without a quote on the search is faster.
 const WITHOUT_QUOTE: usize = 16;

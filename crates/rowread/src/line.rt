@@ -11,7 +11,7 @@ use crate::ROW_END;
 use crate::copy::copy_part;
 use crate::fast::Fast;
 use crate::scan::byte_at;
-use crate::scan::delimiter_from;
+use crate::scan::quote_or_lf_from;
 use csv::COMMA;
 use csv::LF;
 use csv::QUOTE;
@@ -90,12 +90,12 @@ pub(crate) fn after_comma(t: &[u8], e: usize) -> bool
     t[e - 1] == COMMA
 }
 
-// Where the value whose opening quote is at e is closed, if it has no delimiter inside and ends the row; else 0.
+// Where the value whose opening quote is at e is closed, if it has no quote or LF inside and ends the row; else 0.
 pub(crate) fn closing_quote(t: &[u8], e: usize) -> usize
     requires { ⌜ e < length (now t) ⌝ }
     ensures { λ r. ⌜ ((r ≡ 0 → ⊥) → Closes (now (t .entry)) e r) ⌝ }
 {
-    let c = delimiter_from(t, e + 1);
+    let c = quote_or_lf_from(t, e + 1);
     if byte_at(t, c) == QUOTE {
         if byte_at(t, c + 1) == LF {
             return c;

@@ -1,12 +1,12 @@
-// Where a row's values end: delimiters, quoted and plain fields, the row's end.
+// Where a row's values end: quotes and LF, quoted and plain fields, the row's end.
 ghost use mathlib.Core.Path.{_≡_};
 ghost use Prim.Native.Nat.{_+_, _-_, _≤_, _<_, min};
 ghost use lib.ListN.{length, drop, getD};
 ghost use Rattle.base.specs.Number.{pick};
 ghost use Rattle.csv.specs.Csv.{isText};
 ghost use Rattle.csv.specs.Read.{plainValue, inner, fieldAt, rowEnd};
-ghost use Rattle.rowread.specs.Steps.{pieceOf, scanOf, isStop, FirstStop, lineOf, atOnce, searched};
-use crate::NO_DELIMITER;
+ghost use Rattle.rowread.specs.Steps.{pieceOf, scanOf, isQuoteOrLf, FirstQuoteOrLf, lineOf, atOnce, searched};
+use crate::NOT_FOUND;
 use crate::SEARCHED;
 use crate::WITHOUT_QUOTE;
 use csv::COMMA;
@@ -54,9 +54,9 @@ fn plain_end(t: &[u8], from: usize) -> usize
     i
 }
 
-// Whether a byte is a delimiter, before which a line without quotes ends: a quote or LF.
-fn is_delimiter(b: u8) -> bool
-    ensures { λ r. ⌜ r ≡ isStop b ⌝ }
+// Whether a byte is a quote or LF, before which a line without quotes ends.
+fn is_quote_or_lf(b: u8) -> bool
+    ensures { λ r. ⌜ r ≡ isQuoteOrLf b ⌝ }
 {
     (b == QUOTE) | (b == LF)
 }
@@ -69,10 +69,10 @@ pub(crate) fn end_within(len: usize, i: usize, most: usize) -> usize
     if len - i < most { len } else { i + most }
 }
 
-fn delimiter_index(b: u8, i: u8) -> u8
-    ensures { λ r. ⌜ r ≡ pick (isStop b) i searched ⌝ }
+fn quote_or_lf_index(b: u8, i: u8) -> u8
+    ensures { λ r. ⌜ r ≡ pick (isQuoteOrLf b) i searched ⌝ }
 {
-    if is_delimiter(b) { i } else { NO_DELIMITER }
+    if is_quote_or_lf(b) { i } else { NOT_FOUND }
 }
 
 fn least(a: u8, b: u8) -> u8
@@ -81,30 +81,30 @@ fn least(a: u8, b: u8) -> u8
     if a < b { a } else { b }
 }
 
-// The index of the first delimiter of at most 32 bytes, or 32. It is computed as a minimum, so that many are tested at once.
-fn first_delimiter(v: &[u8]) -> u8
+// The index of the first quote or LF of at most 32 bytes, or 32. It is computed as a minimum, so that many are tested at once.
+fn first_quote_or_lf(v: &[u8]) -> u8
     requires { ⌜ length (now v) ≤ searched ⌝ }
-    ensures { λ r. ⌜ FirstStop (now (v .entry)) r ⌝ }
+    ensures { λ r. ⌜ FirstQuoteOrLf (now (v .entry)) r ⌝ }
 {
-    let mut n: u8 = NO_DELIMITER;
+    let mut n: u8 = NOT_FOUND;
     let mut i: usize = 0;
     while i < v.len() {
-        n = least(delimiter_index(v[i], i as u8), n);
+        n = least(quote_or_lf_index(v[i], i as u8), n);
         i += 1;
     }
     n
 }
 
-// The offset of the first delimiter from an offset on, or the end.
-pub(crate) fn delimiter_from(t: &[u8], from: usize) -> usize
+// The offset of the first quote or LF from an offset on, or the end.
+pub(crate) fn quote_or_lf_from(t: &[u8], from: usize) -> usize
     requires { ⌜ from ≤ length (now t) ⌝ }
     ensures { λ r. ⌜ r ≡ from + length (lineOf (drop from (now (t .entry)))) ⌝ }
 {
     let mut i = from;
     while i < t.len() {
         let end = end_within(t.len(), i, SEARCHED);
-        let n = first_delimiter(&t[i..end]);
-        if n < NO_DELIMITER {
+        let n = first_quote_or_lf(&t[i..end]);
+        if n < NOT_FOUND {
             return i + n as usize;
         }
         i = end;
@@ -128,7 +128,7 @@ pub(crate) fn count_in_block(v: &[u8], b: u8) -> u8
     n
 }
 
-// Whether to read from delimiter to delimiter: the next 16 bytes have no quote. Both give the same value.
+// Whether to read from one quote or LF to the next: the next 16 bytes have no quote. Both give the same value.
 pub(crate) fn has_few_quotes(t: &[u8], from: usize) -> bool
     requires { ⌜ from ≤ length (now t) ⌝ }
 {
@@ -159,7 +159,7 @@ fn inner_bytes(t: &[u8], from: usize) -> Piece
     Piece::Bad
 }
 
-// The same, from delimiter to delimiter.
+// The same, from one quote or LF to the next.
 fn inner_runs(t: &[u8], from: usize) -> Piece
     requires { ⌜ from ≤ length (now t) ⌝ }
     ensures { λ r. ⌜ r ≡ pieceOf (length (now (t .entry))) (inner (drop from (now (t .entry)))) ⌝ }
@@ -167,7 +167,7 @@ fn inner_runs(t: &[u8], from: usize) -> Piece
     let mut i = from;
     let mut size: usize = 0;
     while i < t.len() {
-        let mut e = delimiter_from(t, i);
+        let mut e = quote_or_lf_from(t, i);
         if e == t.len() {
             return Piece::Bad;
         }

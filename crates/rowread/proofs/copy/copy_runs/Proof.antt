@@ -1,4 +1,4 @@
--- As `copy_bytes`; a turn first copies all bytes before the next delimiter (`run-sets`), then looks at that one.
+-- As `copy_bytes`; a turn first copies all bytes before the next quote or LF (`run-sets`), then looks at that one.
 use mathlib.Core.Path.{_≡_, refl, sym, ap, _∙_}
 use mathlib.Core.Logic.{⊎-elim}
 use Prim.Native.Nat.{_≤_, _-_, _+_}
@@ -22,16 +22,16 @@ abbrev μ-loop : tie.MeasureT-loop
 loop-holds : tie.Need-loop-holds Inv-loop μ-loop
 loop-holds c = (omega arith, refl, c .before .before .pre .1, refl, refl)
 
-delimiter-from-requires : tie.Need-delimiter-from-requires Inv-loop μ-loop
-delimiter-from-requires c κs = search needs
+quote-or-lf-from-requires : tie.Need-quote-or-lf-from-requires Inv-loop μ-loop
+quote-or-lf-from-requires c κs = search needs
 
 copy-part-requires : tie.Need-copy-part-requires Inv-loop μ-loop
 copy-part-requires c κs =
     let l = c .before .before .before .loop in
     let s = c .before .before .before .before .before .before in
     let t = s .args .t .now in
-    let e = c .before .delimiter-from .result in
-    let q = c .before .delimiter-from .ensures in
+    let e = c .before .quote-or-lf-from .result in
+    let q = c .before .quote-or-lf-from .ensures in
     let r = restOf (inner (drop (s .args .from) t)) in
     let j = stop-inside t (l .p) e (l .inv .0) q in
     (j .0, j .1, omega (arith, s .pre .2, l .inv .1, l .inv .3, run-size t (l .p) e r (l .inv .2) q))
@@ -41,8 +41,8 @@ shared-slice-read-last c =
     let l = c .before .before .before .before .before .before .before .loop in
     let s = c .before .before .before .before .before .before .before .before .before .before in
     let t = s .args .t .now in
-    let e = c .before .before .before .before .before .delimiter-from .result in
-    let q = c .before .before .before .before .before .delimiter-from .ensures in
+    let e = c .before .before .before .before .before .quote-or-lf-from .result in
+    let q = c .before .before .before .before .before .quote-or-lf-from .ensures in
     let r = restOf (inner (drop (s .args .from) t)) in
     let h = run-left t (l .p) e r (l .inv .2) q in
     omega (arith, copy-inside t e r h)
@@ -52,8 +52,8 @@ add-p c =
     let l = c .before .before .before .before .before .before .before .loop in
     let s = c .before .before .before .before .before .before .before .before .before .before in
     let t = s .args .t .now in
-    let e = c .before .before .before .before .before .delimiter-from .result in
-    let q = c .before .before .before .before .before .delimiter-from .ensures in
+    let e = c .before .before .before .before .before .quote-or-lf-from .result in
+    let q = c .before .before .before .before .before .quote-or-lf-from .ensures in
     let r = restOf (inner (drop (s .args .from) t)) in
     let h = run-left t (l .p) e r (l .inv .2) q in
     omega (arith, copy-inside t e r h)
@@ -66,8 +66,8 @@ same-length c =
     let l = c .before .before .before .before .before .before .before .before .before .before .loop in
     let s = c .before .before .before .before .before .before .before .before .before .before .before .before .before in
     let t = s .args .t .now in
-    let e = c .before .before .before .before .before .before .before .before .delimiter-from .result in
-    let q = c .before .before .before .before .before .before .before .before .delimiter-from .ensures in
+    let e = c .before .before .before .before .before .before .before .before .quote-or-lf-from .result in
+    let q = c .before .before .before .before .before .before .before .before .quote-or-lf-from .ensures in
     let r = restOf (inner (drop (s .args .from) t)) in
     let h = run-left t (l .p) e r (l .inv .2) q in
     let z = run-size t (l .p) e r (l .inv .2) q in
@@ -80,8 +80,8 @@ returns c =
     let l = c .before .before .before .before .before .before .before .before .before .before .loop in
     let s = c .before .before .before .before .before .before .before .before .before .before .before .before .before in
     let t = s .args .t .now in
-    let e = c .before .before .before .before .before .before .before .before .delimiter-from .result in
-    let q = c .before .before .before .before .before .before .before .before .delimiter-from .ensures in
+    let e = c .before .before .before .before .before .before .before .before .quote-or-lf-from .result in
+    let q = c .before .before .before .before .before .before .before .before .quote-or-lf-from .ensures in
     let r = restOf (inner (drop (s .args .from) t)) in
     let h = run-left t (l .p) e r (l .inv .2) q in
     let z = run-size t (l .p) e r (l .inv .2) q in
@@ -95,8 +95,8 @@ add-p-2 c =
     let l = c .before .before .before .before .before .before .before .before .before .before .loop in
     let s = c .before .before .before .before .before .before .before .before .before .before .before .before .before in
     let t = s .args .t .now in
-    let e = c .before .before .before .before .before .before .before .before .delimiter-from .result in
-    let q = c .before .before .before .before .before .before .before .before .delimiter-from .ensures in
+    let e = c .before .before .before .before .before .before .before .before .quote-or-lf-from .result in
+    let q = c .before .before .before .before .before .before .before .before .quote-or-lf-from .ensures in
     let r = restOf (inner (drop (s .args .from) t)) in
     let h = run-left t (l .p) e r (l .inv .2) q in
     let x = copy-twice t e r h (c .before .before .if1 .taken) (sym (c .before .byte-at .ensures) ∙ c .if2 .left) in
@@ -107,8 +107,8 @@ slice-write-out c =
     let l = c .before .before .before .before .before .before .before .before .loop in
     let s = c .before .before .before .before .before .before .before .before .before .before .before in
     let t = s .args .t .now in
-    let e = c .before .before .before .before .before .before .delimiter-from .result in
-    let q = c .before .before .before .before .before .before .delimiter-from .ensures in
+    let e = c .before .before .before .before .before .before .quote-or-lf-from .result in
+    let q = c .before .before .before .before .before .before .quote-or-lf-from .ensures in
     let r = restOf (inner (drop (s .args .from) t)) in
     let h = run-left t (l .p) e r (l .inv .2) q in
     let z = run-size t (l .p) e r (l .inv .2) q in
@@ -128,8 +128,8 @@ add-n c =
     let l = c .before .before .before .before .before .before .before .before .loop in
     let s = c .before .before .before .before .before .before .before .before .before .before .before in
     let t = s .args .t .now in
-    let e = c .before .before .before .before .before .before .delimiter-from .result in
-    let q = c .before .before .before .before .before .before .delimiter-from .ensures in
+    let e = c .before .before .before .before .before .before .quote-or-lf-from .result in
+    let q = c .before .before .before .before .before .before .quote-or-lf-from .ensures in
     let r = restOf (inner (drop (s .args .from) t)) in
     let h = run-left t (l .p) e r (l .inv .2) q in
     let z = run-size t (l .p) e r (l .inv .2) q in
@@ -149,8 +149,8 @@ loop-less c =
     let l = c .before .before .before .before .before .before .before .before .loop in
     let s = c .before .before .before .before .before .before .before .before .before .before .before in
     let t = s .args .t .now in
-    let e = c .before .before .before .before .before .before .delimiter-from .result in
-    let q = c .before .before .before .before .before .before .delimiter-from .ensures in
+    let e = c .before .before .before .before .before .before .quote-or-lf-from .result in
+    let q = c .before .before .before .before .before .before .quote-or-lf-from .ensures in
     let r = restOf (inner (drop (s .args .from) t)) in
     let h = run-left t (l .p) e r (l .inv .2) q in
     let j = stop-inside t (l .p) e (l .inv .0) q in
@@ -162,8 +162,8 @@ loop-again c =
     let l = c .before .before .before .before .before .before .before .before .loop in
     let s = c .before .before .before .before .before .before .before .before .before .before .before in
     let t = s .args .t .now in
-    let e = c .before .before .before .before .before .before .delimiter-from .result in
-    let q = c .before .before .before .before .before .before .delimiter-from .ensures in
+    let e = c .before .before .before .before .before .before .quote-or-lf-from .result in
+    let q = c .before .before .before .before .before .before .quote-or-lf-from .ensures in
     let r = restOf (inner (drop (s .args .from) t)) in
     let h = run-left t (l .p) e r (l .inv .2) q in
     let z = run-size t (l .p) e r (l .inv .2) q in
@@ -199,7 +199,7 @@ copy-runs-spec =
     Inv-loop
     μ-loop
     loop-holds
-    delimiter-from-requires
+    quote-or-lf-from-requires
     copy-part-requires
     shared-slice-read-last
     add-p

@@ -1,4 +1,4 @@
--- The values before the first quote are plain (`opens`). If the last value alone is quoted, with no delimiter inside, it is copied at once;
+-- The values before the first quote are plain (`opens`). If the last value alone is quoted, with no quote or LF inside, it is copied at once;
 -- else the row goes through a buffer.
 use native.Mathlib.Omega.{arith}
 use borrow.Author.Tests.{not-false}

@@ -1,4 +1,4 @@
--- As `inner_bytes`; a turn first counts all bytes before the next delimiter (`turn-run`), then looks at that one.
+-- As `inner_bytes`; a turn first counts all bytes before the next quote or LF (`turn-run`), then looks at that one.
 use mathlib.Core.Path.{_≡_, sym, _∙_}
 use mathlib.Core.Logic.{⊎-elim}
 use Prim.Native.Nat.{_≤_, _-_, _+_, _<_}
@@ -22,26 +22,26 @@ abbrev μ-loop : tie.MeasureT-loop
 loop-holds : tie.Need-loop-holds Inv-loop μ-loop
 loop-holds c = (omega arith, omega arith, add-zero-piece _)
 
-delimiter-from-requires : tie.Need-delimiter-from-requires Inv-loop μ-loop
-delimiter-from-requires c κs = search needs
+quote-or-lf-from-requires : tie.Need-quote-or-lf-from-requires Inv-loop μ-loop
+quote-or-lf-from-requires c κs = search needs
 
 returns : tie.Need-returns Inv-loop μ-loop
 returns c =
     let l = c .before .before .before .loop in
     let t = c .before .before .before .before .before .args .t .now in
-    let e = c .before .delimiter-from .result in
-    let q = c .before .delimiter-from .ensures in
+    let e = c .before .quote-or-lf-from .result in
+    let q = c .before .quote-or-lf-from .ensures in
     turn-out t e (l .size + (e - l .i)) (omega (arith, c .if1 .taken)) ∙ sym (l .inv .2 ∙ turn-run t (l .i) e (l .size) q)
 
 sub-size : tie.Need-sub-size Inv-loop μ-loop
-sub-size c = omega (arith, c .before .delimiter-from .ensures)
+sub-size c = omega (arith, c .before .quote-or-lf-from .ensures)
 
 add-size : tie.Need-add-size Inv-loop μ-loop
 add-size c =
     let l = c .before .before .before .loop in
     let t = c .before .before .before .before .before .args .t .now in
-    let e = c .before .delimiter-from .result in
-    let q = c .before .delimiter-from .ensures in
+    let e = c .before .quote-or-lf-from .result in
+    let q = c .before .quote-or-lf-from .ensures in
     let j = stop-inside t (l .i) e (l .inv .0) q in
     omega (arith, l .inv .1, j .0, j .1)
 
@@ -49,16 +49,16 @@ shared-slice-read-if2 : tie.Need-shared-slice-read-if2 Inv-loop μ-loop
 shared-slice-read-if2 c =
     let l = c .before .before .before .before .loop in
     let t = c .before .before .before .before .before .before .args .t .now in
-    let e = c .before .before .delimiter-from .result in
-    let q = c .before .before .delimiter-from .ensures in
+    let e = c .before .before .quote-or-lf-from .result in
+    let q = c .before .before .quote-or-lf-from .ensures in
     omega (arith, stop-less t (l .i) e (l .inv .0) q (c .before .if1 .left))
 
 add-e : tie.Need-add-e Inv-loop μ-loop
 add-e c =
     let l = c .before .before .before .before .before .loop in
     let t = c .before .before .before .before .before .before .before .args .t .now in
-    let e = c .before .before .before .delimiter-from .result in
-    let q = c .before .before .before .delimiter-from .ensures in
+    let e = c .before .before .before .quote-or-lf-from .result in
+    let q = c .before .before .before .quote-or-lf-from .ensures in
     omega (arith, stop-less t (l .i) e (l .inv .0) q (c .before .before .if1 .left))
 
 byte-at-requires : tie.Need-byte-at-requires Inv-loop μ-loop
@@ -68,8 +68,8 @@ returns-2 : tie.Need-returns-2 Inv-loop μ-loop
 returns-2 c =
     let l = c .before .before .before .before .before .before .before .loop in
     let t = c .before .before .before .before .before .before .before .before .before .args .t .now in
-    let e = c .before .before .before .before .before .delimiter-from .result in
-    let q = c .before .before .before .before .before .delimiter-from .ensures in
+    let e = c .before .before .before .before .before .quote-or-lf-from .result in
+    let q = c .before .before .before .before .before .quote-or-lf-from .ensures in
     let h = stop-less t (l .i) e (l .inv .0) q (c .before .before .before .before .if1 .left) in
     turn-close t e (l .size + (e - l .i)) h (c .before .before .if2 .taken) (λ z. c .if3 .taken (c .before .byte-at .ensures ∙ z)) ∙ sym (l .inv .2 ∙ turn-run t (l .i) e (l .size) q)
 
@@ -77,8 +77,8 @@ add-i : tie.Need-add-i Inv-loop μ-loop
 add-i c =
     let l = c .before .before .before .before .before .before .loop in
     let t = c .before .before .before .before .before .before .before .before .args .t .now in
-    let e = c .before .before .before .before .delimiter-from .result in
-    let q = c .before .before .before .before .delimiter-from .ensures in
+    let e = c .before .before .before .before .quote-or-lf-from .result in
+    let q = c .before .before .before .before .quote-or-lf-from .ensures in
     let j = stop-inside t (l .i) e (l .inv .0) q in
     let h = stop-less t (l .i) e (l .inv .0) q (c .before .before .before .if1 .left) in
     ⊎-elim (λ w. omega (arith, h, w .3)) (λ w. omega (arith, h, w .1)) (c .before .if2 .came)
@@ -87,8 +87,8 @@ add-size-2 : tie.Need-add-size-2 Inv-loop μ-loop
 add-size-2 c =
     let l = c .before .before .before .before .before .before .loop in
     let t = c .before .before .before .before .before .before .before .before .args .t .now in
-    let e = c .before .before .before .before .delimiter-from .result in
-    let q = c .before .before .before .before .delimiter-from .ensures in
+    let e = c .before .before .before .before .quote-or-lf-from .result in
+    let q = c .before .before .before .before .quote-or-lf-from .ensures in
     let j = stop-inside t (l .i) e (l .inv .0) q in
     let h = stop-less t (l .i) e (l .inv .0) q (c .before .before .before .if1 .left) in
     omega (arith, l .inv .1, j .0, h)
@@ -97,8 +97,8 @@ loop-less : tie.Need-loop-less Inv-loop μ-loop
 loop-less c =
     let l = c .before .before .before .before .before .before .loop in
     let t = c .before .before .before .before .before .before .before .before .args .t .now in
-    let e = c .before .before .before .before .delimiter-from .result in
-    let q = c .before .before .before .before .delimiter-from .ensures in
+    let e = c .before .before .before .before .quote-or-lf-from .result in
+    let q = c .before .before .before .before .quote-or-lf-from .ensures in
     let j = stop-inside t (l .i) e (l .inv .0) q in
     let h = stop-less t (l .i) e (l .inv .0) q (c .before .before .before .if1 .left) in
     ⊎-elim (λ w. omega (arith, j .0, h, w .3)) (λ w. omega (arith, j .0, h, w .1)) (c .before .if2 .came)
@@ -107,8 +107,8 @@ loop-again : tie.Need-loop-again Inv-loop μ-loop
 loop-again c =
     let l = c .before .before .before .before .before .before .loop in
     let t = c .before .before .before .before .before .before .before .before .args .t .now in
-    let e = c .before .before .before .before .delimiter-from .result in
-    let q = c .before .before .before .before .delimiter-from .ensures in
+    let e = c .before .before .before .before .quote-or-lf-from .result in
+    let q = c .before .before .before .before .quote-or-lf-from .ensures in
     let j = stop-inside t (l .i) e (l .inv .0) q in
     let h = stop-less t (l .i) e (l .inv .0) q (c .before .before .before .if1 .left) in
     let k = l .size + (e - l .i) in
@@ -133,7 +133,7 @@ inner-runs-spec =
     Inv-loop
     μ-loop
     loop-holds
-    delimiter-from-requires
+    quote-or-lf-from-requires
     returns
     sub-size
     add-size
