@@ -28,7 +28,7 @@ use key::KeyAnswer;
 use key::SameKey;
 use record::RECORD_SIZE;
 use refusal::Refusal;
-use refusal::number_of;
+use refusal::number_u32;
 use row::column_count;
 use snapshot::Outcome;
 use snapshot::freshness::Day;
@@ -131,7 +131,7 @@ fn of_validated(v: Validated) -> BankNumbers
 {
     match v {
         Validated::Good(b) => of_bank(b),
-        Validated::Refused(r) => no_bank(number_of(r)),
+        Validated::Refused(r) => no_bank(number_u32(r)),
     }
 }
 
@@ -141,7 +141,7 @@ fn of_loaded(l: Loaded) -> BankNumbers
     match l {
         Loaded::Found(b) => of_bank(b),
         Loaded::Nothing => no_bank(0),
-        Loaded::Refused(r) => no_bank(number_of(r)),
+        Loaded::Refused(r) => no_bank(number_u32(r)),
     }
 }
 
@@ -155,7 +155,7 @@ fn of_fresh(f: FreshAnswer) -> FreshNumbers
             updated: f.updated,
         },
         FreshAnswer::Refused(r) => FreshNumbers {
-            refusal: number_of(r),
+            refusal: number_u32(r),
             checked: i64::MIN,
             updated: i64::MIN,
         },
@@ -171,7 +171,7 @@ fn of_key(k: KeyAnswer) -> KeyNumbers
             length: n,
         },
         KeyAnswer::Refused(r) => KeyNumbers {
-            refusal: number_of(r),
+            refusal: number_u32(r),
             length: 0,
         },
     }
@@ -190,7 +190,7 @@ fn of_match(m: SameKey) -> MatchNumbers
             same: 0,
         },
         SameKey::Refused(r) => MatchNumbers {
-            refusal: number_of(r),
+            refusal: number_u32(r),
             same: 0,
         },
     }
@@ -216,7 +216,7 @@ fn of_turn(t: Turn) -> TurnNumbers
     match p {
         Progress::Hashed(n) => turn_of(t.next, 0, 0, n),
         Progress::Yes => turn_of(t.next, 0, 1, 0),
-        Progress::Refused(r) => turn_of(t.next, number_of(r), 0, 0),
+        Progress::Refused(r) => turn_of(t.next, number_u32(r), 0, 0),
     }
 }
 
@@ -354,11 +354,11 @@ pub extern "C" fn tt_fresh(
     of_fresh(snapshot::freshness::fresh(region, bank, days, at))
 }
 
-fn fits(capacity: usize) -> u32
+fn refusal_of_capacity(capacity: usize) -> u32
     ensures { λ r. ⌜ r ≡ pick (leb recordSize capacity) 0 (numberOf Small) ⌝ }
 {
     if capacity < RECORD_SIZE {
-        return number_of(Refusal::Small);
+        return number_u32(Refusal::Small);
     }
     0
 }
@@ -369,7 +369,7 @@ pub extern "C" fn tt_source(region: &[u8], bank: u32, index: u32, out: &mut [u8]
     ensures { λ r. ⌜ r ≡ Answers.refusalOf (length (now (out .entry))) (Sources.sourceAnswer (now (region .entry)) bank index .outcome) ⌝ }
     ensures { λ _. ⌜ now (out .exit) ≡ Answers.outputOf (now (out .entry)) (Sources.sourceAnswer (now (region .entry)) bank index) (Sources.sourceAnswer (now (region .entry)) bank index .outcome) ⌝ }
 {
-    let small = fits(out.len());
+    let small = refusal_of_capacity(out.len());
     let a = snapshot::source::source(region, bank, index);
     let o = a.outcome;
     match o {
@@ -377,7 +377,7 @@ pub extern "C" fn tt_source(region: &[u8], bank: u32, index: u32, out: &mut [u8]
             record::encode(a.source, out, 0);
             small
         }
-        Outcome::Refused(r) => number_of(r),
+        Outcome::Refused(r) => number_u32(r),
     }
 }
 
@@ -404,6 +404,6 @@ pub extern "C" fn tt_bank_row(
             // called here, and not `read_row`, so that the reader has one caller and is inlined there
             of_bank_row(tt_read_row(stored, width, place, out, ends))
         }
-        BlockAnswer::Refused(r) => no_bank_row(number_of(r)),
+        BlockAnswer::Refused(r) => no_bank_row(number_u32(r)),
     }
 }

@@ -8,7 +8,7 @@ ghost use Rattle.rowread.specs.Stored as Stored;
 ghost use Rattle.bloom.specs.Bloom as Bloom;
 ghost use Rattle.bankcore.specs.RowAnswers as Answers;
 use bloom::Filter;
-use refusal::number_of;
+use refusal::number_u32;
 use row::RowAnswer;
 use rowread::ReadAnswer;
 
@@ -42,7 +42,7 @@ fn of_row(a: RowAnswer) -> RowNumbers
             length: n,
         },
         RowAnswer::Refused(r) => RowNumbers {
-            refusal: number_of(r),
+            refusal: number_u32(r),
             length: 0,
         },
     }
@@ -70,7 +70,7 @@ fn of_read(a: ReadAnswer) -> ReadNumbers
             size,
         },
         ReadAnswer::End => no_row(0),
-        ReadAnswer::Refused(r) => no_row(number_of(r)),
+        ReadAnswer::Refused(r) => no_row(number_u32(r)),
     }
 }
 
@@ -87,7 +87,7 @@ fn of_filter(a: Filter) -> FilterNumbers
             present: 0,
         },
         Filter::Refused(r) => FilterNumbers {
-            refusal: number_of(r),
+            refusal: number_u32(r),
             present: 0,
         },
     }

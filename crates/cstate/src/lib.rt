@@ -10,7 +10,7 @@ use header::Bank;
 use header::SOURCES;
 use record::Source;
 use refusal::Refusal;
-use refusal::number_of;
+use refusal::number_u32;
 use writer::Answer;
 use writer::Beginning;
 use writer::Contents;
@@ -343,7 +343,7 @@ fn of_answer(a: Answer) -> UpdateNumbers
         Answer::NoneDue => done(ANSWER_NONE_DUE, 0),
         Answer::Same => done(ANSWER_SAME, 0),
         Answer::Different => done(ANSWER_DIFFERENT, 0),
-        Answer::Refused(r) => refused(number_of(r)),
+        Answer::Refused(r) => refused(number_u32(r)),
     }
 }
 

@@ -28,7 +28,7 @@ use Rattle.header.specs.declared.Bank.{Bank}
 use Rattle.header.specs.declared.Validated.the-variants.{Good, Refused}
 use Rattle.header.specs.Header.{numbersOf, recordAt, recordsOf, magic, commitWord, marked, headerCrc, sealed, spanOk, sourceOk, judge, headerOf, maxSources, headerSize}
 use Rattle.header.proofs.Laws.{span-count, not-marked}
-use Rattle.header.specs.WriteHeader.{firstBytes, secondBytes, numberBytes, recordBytes, crcOf, headerBytes, blankWord, commitBytes, passes, textOk, isFit}
+use Rattle.header.specs.WriteHeader.{magicToLength, crcToChecked, numberBytes, recordBytes, crcOf, headerBytes, blankWord, commitBytes, passes, textOk, isFit}
 use Rattle.header.specs.Types.{Bytes, TextBytes, Proper, Numbers}
 use Rattle.header.specs.Claims.{BlankRefused, numbered, HeaderBack, Committed}
 use Rattle.header.proofs.Writing.{length-numbers, judge-is}
@@ -153,15 +153,15 @@ bytes-records ss ps =
     let n = (3 - length ss) * 384 in
     bytes-append (puts sourceBytes ss) (fill 0 n) (bytes-puts sourceBytes Proper bytes-source ss ps) (bytes-fill 0 n (omega arith))
 
-bytes-first : (b : Bank) → Bytes (firstBytes b)
-unfolding firstBytes
+bytes-first : (b : Bank) → Bytes (magicToLength b)
+unfolding magicToLength
 bytes-first b =
     bytes-append (le32 magic) (le32 (b .version) ++ (le32 (b .generation) ++ le32 (b .length))) (bytes-le32 magic)
     (bytes-append (le32 (b .version)) (le32 (b .generation) ++ le32 (b .length)) (bytes-le32 (b .version))
     (bytes-append (le32 (b .generation)) (le32 (b .length)) (bytes-le32 (b .generation)) (bytes-le32 (b .length))))
 
-bytes-second : (b : Bank) → Bytes (secondBytes b)
-unfolding secondBytes
+bytes-second : (b : Bank) → Bytes (crcToChecked b)
+unfolding crcToChecked
 bytes-second b =
     bytes-append (le32 (b .crc)) (le32 (b .count) ++ (le32 (b .key) ++ (le32 0 ++ le64 (b .checked)))) (bytes-le32 (b .crc))
     (bytes-append (le32 (b .count)) (le32 (b .key) ++ (le32 0 ++ le64 (b .checked))) (bytes-le32 (b .count))
@@ -171,7 +171,7 @@ bytes-second b =
 pub bytes-top : (b : Bank) (ss : List Source) → Bytes (topBytes b ss)
 unfolding topBytes
 bytes-top b ss =
-    bytes-append (numberBytes b) (le32 (crcOf b ss)) (bytes-append (firstBytes b) (secondBytes b) (bytes-first b) (bytes-second b)) (bytes-le32 (crcOf b ss))
+    bytes-append (numberBytes b) (le32 (crcOf b ss)) (bytes-append (magicToLength b) (crcToChecked b) (bytes-first b) (bytes-second b)) (bytes-le32 (crcOf b ss))
 
 pub bytes-header : (b : Bank) (ss : List Source) (w : List ℕ) → All Proper ss → Bytes w → Bytes (headerBytes b ss w)
 bytes-header b ss w ps h =
@@ -194,12 +194,12 @@ no-magic l e =
     rw (ne-eqb (word l 0) magic ne)
 
 pub byte-47 : (b : Bank) (ss : List Source) (rest : List ℕ) → byte (headerBytes b ss blankWord ++ rest) 47 ≡ 255
-unfolding headerBytes firstBytes secondBytes le32 le64 blankWord fill
+unfolding headerBytes magicToLength crcToChecked le32 le64 blankWord fill
 byte-47 b ss rest = refl
 
 -- a write of the header leaves byte 47 blank
 pub blank-47 : (b : Bank) (ss : List Source) → getD (headerBytes b ss blankWord) 47 255 ≡ 255
-unfolding headerBytes firstBytes secondBytes le32 le64 blankWord fill
+unfolding headerBytes magicToLength crcToChecked le32 le64 blankWord fill
 blank-47 b ss = refl
 
 pub blank-unmarked : (b : Bank) (ss : List Source) (rest : List ℕ) → marked (headerBytes b ss blankWord ++ rest) ≡ false
@@ -250,7 +250,7 @@ module _ (b : Bank) (ss : List Source) (v : b .version ≡ 3) (r : Numbers b) (p
   all-is = simp append-assoc
 
   length-top-is : length top ≡ 48
-  unfolding top firstBytes secondBytes le32 le64 commitBytes
+  unfolding top magicToLength crcToChecked le32 le64 commitBytes
   length-top-is = refl
 
   records-there : take 1152 (drop 48 all) ≡ recordBytes ss
@@ -269,7 +269,7 @@ module _ (b : Bank) (ss : List Source) (v : b .version ≡ 3) (r : Numbers b) (p
       rw g (records-back ss ps top (fill 0 ((3 - length ss) * 384) ++ rest) 48 length-top-is)
 
   pub numbers-back : (k : ℕ) → numbersOf k (headerBytes b ss commitBytes ++ rest) ≡ numbered k b
-  unfolding headerBytes firstBytes secondBytes numbersOf word time le32 le64
+  unfolding headerBytes magicToLength crcToChecked numbersOf word time le32 le64
   numbers-back k =
       λ i. record {
         number = k;
@@ -287,15 +287,15 @@ module _ (b : Bank) (ss : List Source) (v : b .version ≡ 3) (r : Numbers b) (p
   crc-fits = crc32-lt 0 (numberBytes b ++ (fill 0 8 ++ recordBytes ss))
 
   word-40 : word all 40 ≡ crc
-  unfolding all headerBytes firstBytes secondBytes word le32 le64 crc
+  unfolding all headerBytes magicToLength crcToChecked word le32 le64 crc
   word-40 = word-front crc [] crc-fits
 
   word-0 : word all 0 ≡ magic
-  unfolding all headerBytes firstBytes word le32
+  unfolding all headerBytes magicToLength word le32
   word-0 = refl
 
   word-44 : word all 44 ≡ commitWord
-  unfolding all headerBytes firstBytes secondBytes word le32 le64 commitBytes
+  unfolding all headerBytes magicToLength crcToChecked word le32 le64 commitBytes
   word-44 = refl
 
   word-4 : word all 4 ≡ 3

@@ -22,7 +22,7 @@ use Rattle.refusal.specs.declared.Refusal.the-variants.{Span, Source as BadSour
 use Rattle.header.specs.declared.Bank.{Bank}
 use Rattle.header.specs.declared.Validated.the-variants.{Good, Refused}
 use Rattle.header.specs.Header.{magic, spanOk, sourceOk, judge, headerSize}
-use Rattle.header.specs.WriteHeader.{firstBytes, secondBytes, numberBytes, recordBytes, crcOf, headerBytes, blankWord, passes}
+use Rattle.header.specs.WriteHeader.{magicToLength, crcToChecked, numberBytes, recordBytes, crcOf, headerBytes, blankWord, passes}
 
 -- a number that fits in 1,200 bytes is stored, and they are still 1,200
 put-fits : (l : List ℕ) (at n : ℕ) → length l ≡ headerSize → at + 4 ≤ headerSize → written l at (le32 n) ≡ sets l at (le32 n)
@@ -39,8 +39,8 @@ unfolding word
 magic-is = refl
 
 first-is : (l : List ℕ) (b : Bank)
-    → sets (sets (sets (sets l 0 (le32 magic)) 4 (le32 (b .version))) 8 (le32 (b .generation))) 12 (le32 (b .length)) ≡ sets l 0 (firstBytes b)
-unfolding firstBytes le32
+    → sets (sets (sets (sets l 0 (le32 magic)) 4 (le32 (b .version))) 8 (le32 (b .generation))) 12 (le32 (b .length)) ≡ sets l 0 (magicToLength b)
+unfolding magicToLength le32
 first-is l b =
     let m = le32 magic in
     let v = le32 (b .version) in
@@ -51,8 +51,8 @@ first-is l b =
     ∙ next l (m ++ v ++ g) n 0 12 refl
 
 second-is : (l : List ℕ) (b : Bank)
-    → sets (sets (sets (sets (sets l 16 (le32 (b .crc))) 20 (le32 (b .count))) 24 (le32 (b .key))) 28 (le32 0)) 32 (le64 (b .checked)) ≡ sets l 16 (secondBytes b)
-unfolding secondBytes le32
+    → sets (sets (sets (sets (sets l 16 (le32 (b .crc))) 20 (le32 (b .count))) 24 (le32 (b .key))) 28 (le32 0)) 32 (le64 (b .checked)) ≡ sets l 16 (crcToChecked b)
+unfolding crcToChecked le32
 second-is l b =
     let d = le32 (b .crc) in
     let n = le32 (b .count) in
@@ -64,9 +64,9 @@ second-is l b =
     ∙ ap (λ (x : List ℕ). sets x 32 t) (next l (d ++ n ++ k) z 16 12 refl)
     ∙ next l (d ++ n ++ k ++ z) t 16 16 refl
 
-pub first-written : (l : List ℕ) (b : Bank) → length l ≡ headerSize
-    → written (written (written (written l 0 (le32 1128682580)) 4 (le32 (b .version))) 8 (le32 (b .generation))) 12 (le32 (b .length)) ≡ sets l 0 (firstBytes b)
-first-written l b e =
+pub magic-to-length-written : (l : List ℕ) (b : Bank) → length l ≡ headerSize
+    → written (written (written (written l 0 (le32 1128682580)) 4 (le32 (b .version))) 8 (le32 (b .generation))) 12 (le32 (b .length)) ≡ sets l 0 (magicToLength b)
+magic-to-length-written l b e =
     let l₁ = sets l 0 (le32 magic) in
     let l₂ = sets l₁ 4 (le32 (b .version)) in
     let l₃ = sets l₂ 8 (le32 (b .generation)) in
@@ -82,9 +82,9 @@ first-written l b e =
     )
     (first-is l b)
 
-pub second-written : (l : List ℕ) (b : Bank) → length l ≡ headerSize
-    → written (written (written (written (written l 16 (le32 (b .crc))) 20 (le32 (b .count))) 24 (le32 (b .key))) 28 (le32 0)) 32 (le64 (b .checked)) ≡ sets l 16 (secondBytes b)
-second-written l b e =
+pub crc-to-checked-written : (l : List ℕ) (b : Bank) → length l ≡ headerSize
+    → written (written (written (written (written l 16 (le32 (b .crc))) 20 (le32 (b .count))) 24 (le32 (b .key))) 28 (le32 0)) 32 (le64 (b .checked)) ≡ sets l 16 (crcToChecked b)
+crc-to-checked-written l b e =
     let l₁ = sets l 16 (le32 (b .crc)) in
     let l₂ = sets l₁ 20 (le32 (b .count)) in
     let l₃ = sets l₂ 24 (le32 (b .key)) in
@@ -103,12 +103,12 @@ second-written l b e =
     (second-is l b)
 
 pub length-numbers : (b : Bank) → length (numberBytes b) ≡ 40
-unfolding firstBytes secondBytes le32 le64
+unfolding magicToLength crcToChecked le32 le64
 length-numbers b = refl
 
-pub numbers-are : (l : List ℕ) (b : Bank) → sets (sets l 0 (firstBytes b)) 16 (secondBytes b) ≡ sets l 0 (numberBytes b)
-unfolding firstBytes le32
-numbers-are l b = next l (firstBytes b) (secondBytes b) 0 16 refl
+pub numbers-are : (l : List ℕ) (b : Bank) → sets (sets l 0 (magicToLength b)) 16 (crcToChecked b) ≡ sets l 0 (numberBytes b)
+unfolding magicToLength le32
+numbers-are l b = next l (magicToLength b) (crcToChecked b) 0 16 refl
 
 -- 40 bytes, and m from 48 on, stored into 1,200 zeros
 bare-over : (f r : List ℕ) (m k : ℕ) → length f ≡ 40 → length r ≡ m → m + k ≡ 1152 → sets (sets (fill 0 headerSize) 0 f) 48 r ≡ f ++ (fill 0 8 ++ (r ++ fill 0 k))
@@ -181,16 +181,16 @@ below-count ss n e = by-size (leb n 3) refl
 -- ---- the whole header
 
 pub header-written : (b : Bank) (ss : List Source) (n : ℕ) (l : List ℕ) → length ss ≡ 3 → n ≡ min (b .count) 3 → length (puts sourceBytes (take n ss)) ≡ n * 384
-    → l ≡ sets (sets (sets (fill 0 headerSize) 0 (firstBytes b)) 16 (secondBytes b)) 48 (puts sourceBytes (take n ss))
+    → l ≡ sets (sets (sets (fill 0 headerSize) 0 (magicToLength b)) 16 (crcToChecked b)) 48 (puts sourceBytes (take n ss))
     → written (written l 40 (le32 (crc32 0 l))) 44 (le32 4294967295) ≡ headerBytes b (take (b .count) ss) blankWord
 unfolding crcOf
 header-written b ss n l three en m e =
     let t = take n ss in
     let k : length t ≡ n = length-take-le n ss (omega arith) in
     let z : List ℕ = fill 0 headerSize in
-    let l₁ = sets z 0 (firstBytes b) in
-    let l₂ = sets l₁ 16 (secondBytes b) in
-    let e₂ = kept l₁ 16 (secondBytes b) (kept z 0 (firstBytes b) (length-fill {A = ℕ} 0 headerSize)) in
+    let l₁ = sets z 0 (magicToLength b) in
+    let l₂ = sets l₁ 16 (crcToChecked b) in
+    let e₂ = kept l₁ 16 (crcToChecked b) (kept z 0 (magicToLength b) (length-fill {A = ℕ} 0 headerSize)) in
     let e₃ : length l ≡ headerSize = ap length e ∙ kept l₂ 48 (puts sourceBytes t) e₂ in
     let bare : l ≡ numberBytes b ++ (fill 0 8 ++ recordBytes t) = e ∙ ap (λ (x : List ℕ). sets x 48 (puts sourceBytes t)) (numbers-are z b) ∙ bare-is b t (m ∙ ap (λ (j : ℕ). j * 384) (sym k)) (omega arith) in
     let s = le32 (crc32 0 l) in

@@ -16,15 +16,15 @@ use Rattle.region.specs.Region.{erasedByte}
 use Rattle.header.specs.Header.{maxSources, recordsOffset, crcOffset, magic, commitWord, judge}
 
 -- bytes 0 to 15: "TTFC", version, generation, data length
-unfoldable pub firstBytes : Bank → List ℕ
-firstBytes b = le32 magic ++ (le32 (b .version) ++ (le32 (b .generation) ++ le32 (b .length)))
+unfoldable pub magicToLength : Bank → List ℕ
+magicToLength b = le32 magic ++ (le32 (b .version) ++ (le32 (b .generation) ++ le32 (b .length)))
 
 -- bytes 16 to 39: data CRC, source count, key length, zero at 28 to 31, checked time
-unfoldable pub secondBytes : Bank → List ℕ
-secondBytes b = le32 (b .crc) ++ (le32 (b .count) ++ (le32 (b .key) ++ (le32 0 ++ le64 (b .checked))))
+unfoldable pub crcToChecked : Bank → List ℕ
+crcToChecked b = le32 (b .crc) ++ (le32 (b .count) ++ (le32 (b .key) ++ (le32 0 ++ le64 (b .checked))))
 
 abbrev pub numberBytes : Bank → List ℕ
-numberBytes b = firstBytes b ++ secondBytes b
+numberBytes b = magicToLength b ++ crcToChecked b
 
 -- three records of version 3, those past the sources zeros
 unfoldable pub recordBytes : List Source → List ℕ

@@ -8,8 +8,8 @@ ghost use Rattle.record.specs.Record.{recordSize, tableWords, sourceBytes, stam
 ghost use Rattle.base.specs.Lists.{puts, fill};
 ghost use Rattle.header.specs.Header.{headerSize, maxSources, dataCrcOffset, recordsOffset};
 ghost use Rattle.header.specs.WriteHeader.{
-  firstBytes,
-  secondBytes,
+  magicToLength,
+  crcToChecked,
   headerBytes,
   blankWord,
   commitBytes,
@@ -70,9 +70,10 @@ fn zeros() -> [u8; HEADER_SIZE]
     [0u8; HEADER_SIZE]
 }
 
-fn put_first(out: &mut [u8], b: Bank)
+// Bytes 0 to 15.
+fn put_magic_to_length(out: &mut [u8], b: Bank)
     requires { ⌜ length (now out) ≡ headerSize ⌝ }
-    ensures { λ _. ⌜ now (out .exit) ≡ sets (now (out .entry)) 0 (firstBytes b) ⌝ }
+    ensures { λ _. ⌜ now (out .exit) ≡ sets (now (out .entry)) 0 (magicToLength b) ⌝ }
 {
     put(out, MAGIC_OFFSET, MAGIC);
     put(out, VERSION_OFFSET, b.version);
@@ -80,9 +81,10 @@ fn put_first(out: &mut [u8], b: Bank)
     put(out, LENGTH_OFFSET, b.length);
 }
 
-fn put_second(out: &mut [u8], b: Bank)
+// Bytes 16 to 39.
+fn put_crc_to_checked(out: &mut [u8], b: Bank)
     requires { ⌜ length (now out) ≡ headerSize ⌝ }
-    ensures { λ _. ⌜ now (out .exit) ≡ sets (now (out .entry)) dataCrcOffset (secondBytes b) ⌝ }
+    ensures { λ _. ⌜ now (out .exit) ≡ sets (now (out .entry)) dataCrcOffset (crcToChecked b) ⌝ }
 {
     put(out, DATA_CRC_OFFSET, b.crc);
     put(out, COUNT_OFFSET, b.count);
@@ -131,8 +133,8 @@ fn put_header(out: &mut [u8], b: Bank, ss: [Source; SOURCES])
     requires { ⌜ (length (now out) ≡ headerSize) × (now out ≡ fill 0 headerSize) ⌝ }
     ensures { λ _. ⌜ now (out .exit) ≡ headerBytes b (take (b .count) ss) blankWord ⌝ }
 {
-    put_first(out, b);
-    put_second(out, b);
+    put_magic_to_length(out, b);
+    put_crc_to_checked(out, b);
     let n = records(b.count);
     put_records(out, ss, n);
     let crc = crc32(0, out);

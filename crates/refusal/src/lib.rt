@@ -60,8 +60,8 @@ pub fn number(r: Refusal) -> u8
     }
 }
 
-// The number in 32 bits, as C gets it.
-pub fn number_of(r: Refusal) -> u32
+// The same number in 32 bits, as C gets it.
+pub fn number_u32(r: Refusal) -> u32
     ensures { λ n. ⌜ n ≡ numberOf r ⌝ }
 {
     u8_to_u32(number(r))

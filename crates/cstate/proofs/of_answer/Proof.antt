@@ -38,8 +38,8 @@ done-requires-5 c κs = search needs
 enum-known-a-2 : tie.Need-enum-known-a-2
 enum-known-a-2 c = search needs
 
-number-of-requires : tie.Need-number-of-requires
-number-of-requires c κs = search needs
+number-u32-requires : tie.Need-number-u32-requires
+number-u32-requires c κs = search needs
 
 refused-requires : tie.Need-refused-requires
 refused-requires c κs = search needs
@@ -60,7 +60,7 @@ returns-5 : tie.Need-returns-5
 returns-5 c = c .done5 .ensures ∙ sym (ap ofAnswer (c .before .enum-told4 .given .1))
 
 returns-6 : tie.Need-returns-6
-returns-6 c = c .refused .ensures ∙ ap refused (c .before .number-of .ensures) ∙ sym (ap ofAnswer (c .before .before .before .a2 .given .1))
+returns-6 c = c .refused .ensures ∙ ap refused (c .before .number-u32 .ensures) ∙ sym (ap ofAnswer (c .before .before .before .a2 .given .1))
 
 pub of-answer-spec : {M : Type 1} → statement M
 of-answer-spec =
@@ -77,7 +77,7 @@ of-answer-spec =
     enum-told-4
     done-requires-5
     enum-known-a-2
-    number-of-requires
+    number-u32-requires
     refused-requires
     returns
     returns-2

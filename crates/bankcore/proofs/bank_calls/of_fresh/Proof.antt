@@ -15,8 +15,8 @@ enum-known-f c = search needs
 enum-known-f-2 : tie.Need-enum-known-f-2
 enum-known-f-2 c = search needs
 
-number-of-requires : tie.Need-number-of-requires
-number-of-requires c κs = search needs
+number-u32-requires : tie.Need-number-u32-requires
+number-u32-requires c κs = search needs
 
 returns : tie.Need-returns
 returns c =
@@ -27,8 +27,8 @@ returns c =
     (λ i. record { refusal = 0; checked = x i; updated = y i }) ∙ sym (ap ofFresh (c .before .before .f .given .1))
 
 returns-2 : tie.Need-returns-2
-returns-2 c = ap (λ (n : ℕ). record { refusal = n; checked = unknown; updated = unknown }) (c .number-of .ensures) ∙ sym (ap ofFresh (c .before .before .f2 .given .1))
+returns-2 c = ap (λ (n : ℕ). record { refusal = n; checked = unknown; updated = unknown }) (c .number-u32 .ensures) ∙ sym (ap ofFresh (c .before .before .f2 .given .1))
 
 pub of-fresh-spec : {M : Type 1} → statement M
 of-fresh-spec =
-    tie.close (tie.spec enum-known-f enum-known-f-2 number-of-requires returns returns-2)
+    tie.close (tie.spec enum-known-f enum-known-f-2 number-u32-requires returns returns-2)

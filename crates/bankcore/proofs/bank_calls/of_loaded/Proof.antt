@@ -20,8 +20,8 @@ no-bank-requires c κs = search needs
 enum-known-l-2 : tie.Need-enum-known-l-2
 enum-known-l-2 c = search needs
 
-number-of-requires : tie.Need-number-of-requires
-number-of-requires c κs = search needs
+number-u32-requires : tie.Need-number-u32-requires
+number-u32-requires c κs = search needs
 
 no-bank-requires-2 : tie.Need-no-bank-requires-2
 no-bank-requires-2 c κs = search needs
@@ -33,7 +33,7 @@ returns-2 : tie.Need-returns-2
 returns-2 c = c .no-bank .ensures ∙ sym (ap ofLoaded (c .before .enum-told .given .1))
 
 returns-3 : tie.Need-returns-3
-returns-3 c = c .no-bank2 .ensures ∙ ap noBank (c .before .number-of .ensures) ∙ sym (ap ofLoaded (c .before .before .before .l2 .given .1))
+returns-3 c = c .no-bank2 .ensures ∙ ap noBank (c .before .number-u32 .ensures) ∙ sym (ap ofLoaded (c .before .before .before .l2 .given .1))
 
 pub of-loaded-spec : {M : Type 1} → statement M
 of-loaded-spec =
@@ -44,7 +44,7 @@ of-loaded-spec =
     enum-told
     no-bank-requires
     enum-known-l-2
-    number-of-requires
+    number-u32-requires
     no-bank-requires-2
     returns
     returns-2

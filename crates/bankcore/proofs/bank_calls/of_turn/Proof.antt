@@ -22,8 +22,8 @@ turn-of-requires-2 c κs = search needs
 enum-known-p-2 : tie.Need-enum-known-p-2
 enum-known-p-2 c = search needs
 
-number-of-requires : tie.Need-number-of-requires
-number-of-requires c κs = search needs
+number-u32-requires : tie.Need-number-u32-requires
+number-u32-requires c κs = search needs
 
 turn-of-requires-3 : tie.Need-turn-of-requires-3
 turn-of-requires-3 c κs = search needs
@@ -41,7 +41,7 @@ returns-2 c =
 returns-3 : tie.Need-returns-3
 returns-3 c =
     let s = c .before .before .before .before .before .args in
-    c .turn-of3 .ensures ∙ ap (λ (n : ℕ). record { refusal = n; verdict = 0; count = 0; bank = s .t .next .bank; position = s .t .next .position; crc = s .t .next .crc }) (c .before .number-of .ensures)
+    c .turn-of3 .ensures ∙ ap (λ (n : ℕ). record { refusal = n; verdict = 0; count = 0; bank = s .t .next .bank; position = s .t .next .position; crc = s .t .next .crc }) (c .before .number-u32 .ensures)
     ∙ sym (ap (λ (p : Progress). ofTurn (record { progress = p; next = s .t .next })) (c .before .before .before .p2 .given .1))
 
 pub of-turn-spec : {M : Type 1} → statement M
@@ -53,7 +53,7 @@ of-turn-spec =
     enum-told
     turn-of-requires-2
     enum-known-p-2
-    number-of-requires
+    number-u32-requires
     turn-of-requires-3
     returns
     returns-2

@@ -14,8 +14,8 @@ of-bank-requires c κs = search needs
 enum-known-v-2 : tie.Need-enum-known-v-2
 enum-known-v-2 c = search needs
 
-number-of-requires : tie.Need-number-of-requires
-number-of-requires c κs = search needs
+number-u32-requires : tie.Need-number-u32-requires
+number-u32-requires c κs = search needs
 
 no-bank-requires : tie.Need-no-bank-requires
 no-bank-requires c κs = search needs
@@ -24,7 +24,7 @@ returns : tie.Need-returns
 returns c = c .of-bank .ensures ∙ sym (ap ofValidated (c .before .before .v .given .1))
 
 returns-2 : tie.Need-returns-2
-returns-2 c = c .no-bank .ensures ∙ ap noBank (c .before .number-of .ensures) ∙ sym (ap ofValidated (c .before .before .before .v2 .given .1))
+returns-2 c = c .no-bank .ensures ∙ ap noBank (c .before .number-u32 .ensures) ∙ sym (ap ofValidated (c .before .before .before .v2 .given .1))
 
 pub of-validated-spec : {M : Type 1} → statement M
 of-validated-spec =
@@ -33,7 +33,7 @@ of-validated-spec =
     enum-known-v
     of-bank-requires
     enum-known-v-2
-    number-of-requires
+    number-u32-requires
     no-bank-requires
     returns
     returns-2)

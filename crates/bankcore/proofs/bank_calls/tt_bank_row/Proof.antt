@@ -33,8 +33,8 @@ of-bank-row-requires c κs = search needs
 enum-known-a-2 : tie.Need-enum-known-a-2
 enum-known-a-2 c = search needs
 
-number-of-requires : tie.Need-number-of-requires
-number-of-requires c κs = search needs
+number-u32-requires : tie.Need-number-u32-requires
+number-u32-requires c κs = search needs
 
 no-bank-row-requires : tie.Need-no-bank-row-requires
 no-bank-row-requires c κs = search needs
@@ -63,7 +63,7 @@ returns-2 c =
     let a = c .before .before .before .before .before .before .before .before .before .args in
     let k = block-refused (a .region .now) (a .bank) (a .source) (a .table) (a .place) (length (a .out .now)) (length (a .ends .now)) _ (sym (c .before .before .before .before .before .table-block .ensures) ∙ c .before .before .before .a2 .given .1) in
     let values = valuesIn (a .region .now) (a .bank) (a .source) (a .table) (a .place) in (
-      c .no-bank-row .ensures ∙ ap noBankRow (c .before .number-of .ensures) ∙ ap ofBankRow k,
+      c .no-bank-row .ensures ∙ ap noBankRow (c .before .number-u32 .ensures) ∙ ap ofBankRow k,
       (ap (λ (x : ReadAnswer). after x (joined values) (a .out .now)) k, ap (λ (x : ReadAnswer). after x (endsOf 0 values) (a .ends .now)) k),
     )
 
@@ -78,7 +78,7 @@ tt-bank-row-spec =
     tt-read-row-requires
     of-bank-row-requires
     enum-known-a-2
-    number-of-requires
+    number-u32-requires
     no-bank-row-requires
     same-length
     same-length-2

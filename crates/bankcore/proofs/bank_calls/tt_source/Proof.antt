@@ -11,8 +11,8 @@ use borrow.Author.Needs.{needs}
 use Rattle.bankcore.proofs.bank_calls.tt_source.Statement.{statement}
 use Rattle.bankcore.proofs.bank_calls.tt_source.Tie as tie
 
-fits-requires : tie.Need-fits-requires
-fits-requires c κs = search needs
+refusal-of-capacity-requires : tie.Need-refusal-of-capacity-requires
+refusal-of-capacity-requires c κs = search needs
 
 source-requires : tie.Need-source-requires
 source-requires c κs = search needs
@@ -26,8 +26,8 @@ encode-requires c κs = search needs
 enum-known-o : tie.Need-enum-known-o
 enum-known-o c = search needs
 
-number-of-requires : tie.Need-number-of-requires
-number-of-requires c κs = search needs
+number-u32-requires : tie.Need-number-u32-requires
+number-u32-requires c κs = search needs
 
 same-length : tie.Need-same-length
 same-length c = search needs
@@ -41,7 +41,7 @@ returns c =
     let a = f .before .before .before .args in
     let out = a .out .now in
     let e = sym (ap (λ (x : SourceAnswer). x .outcome) (s .source .ensures)) ∙ t .enum-told .given .1 in (
-      f .fits2 .ensures ∙ sym (ap (refusalOf (length out)) e),
+      f .refusal-of-capacity .ensures ∙ sym (ap (refusalOf (length out)) e),
       k .encode .ensures ∙ ap (λ (x : SourceAnswer). written out 0 (sourceBytes (x .source))) (s .source .ensures) ∙ sym (ap (outputOf out (sourceAnswer (a .region .now) (a .bank) (a .index))) e),
     )
 
@@ -52,18 +52,18 @@ returns-2 c =
     let a = s .before .before .before .before .args in
     let out = a .out .now in
     let e = sym (ap (λ (x : SourceAnswer). x .outcome) (s .source .ensures)) ∙ o .o .given .1 in
-    (c .number-of .ensures ∙ sym (ap (refusalOf (length out)) e), sym (ap (outputOf out (sourceAnswer (a .region .now) (a .bank) (a .index))) e))
+    (c .number-u32 .ensures ∙ sym (ap (refusalOf (length out)) e), sym (ap (outputOf out (sourceAnswer (a .region .now) (a .bank) (a .index))) e))
 
 pub tt-source-spec : {M : Type 1} → statement M
 tt-source-spec =
     tie.close
     (tie.spec
-    fits-requires
+    refusal-of-capacity-requires
     source-requires
     enum-told
     encode-requires
     enum-known-o
-    number-of-requires
+    number-u32-requires
     same-length
     returns
     returns-2)

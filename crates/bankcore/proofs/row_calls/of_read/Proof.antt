@@ -17,8 +17,8 @@ no-row-requires c κs = search needs
 enum-known-a-2 : tie.Need-enum-known-a-2
 enum-known-a-2 c = search needs
 
-number-of-requires : tie.Need-number-of-requires
-number-of-requires c κs = search needs
+number-u32-requires : tie.Need-number-u32-requires
+number-u32-requires c κs = search needs
 
 no-row-requires-2 : tie.Need-no-row-requires-2
 no-row-requires-2 c κs = search needs
@@ -30,7 +30,7 @@ returns-2 : tie.Need-returns-2
 returns-2 c = c .no-row .ensures ∙ sym (ap ofRead (c .before .enum-told .given .1))
 
 returns-3 : tie.Need-returns-3
-returns-3 c = c .no-row2 .ensures ∙ ap noRow (c .before .number-of .ensures) ∙ sym (ap ofRead (c .before .before .before .a2 .given .1))
+returns-3 c = c .no-row2 .ensures ∙ ap noRow (c .before .number-u32 .ensures) ∙ sym (ap ofRead (c .before .before .before .a2 .given .1))
 
 pub of-read-spec : {M : Type 1} → statement M
 of-read-spec =
@@ -40,7 +40,7 @@ of-read-spec =
     enum-told
     no-row-requires
     enum-known-a-2
-    number-of-requires
+    number-u32-requires
     no-row-requires-2
     returns
     returns-2

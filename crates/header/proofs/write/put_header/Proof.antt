@@ -6,11 +6,11 @@ use borrow.Author.Needs.{needs}
 use Rattle.header.proofs.write.put_header.Statement.{statement}
 use Rattle.header.proofs.write.put_header.Tie as tie
 
-put-first-requires : tie.Need-put-first-requires
-put-first-requires c κs = search needs
+put-magic-to-length-requires : tie.Need-put-magic-to-length-requires
+put-magic-to-length-requires c κs = search needs
 
-put-second-requires : tie.Need-put-second-requires
-put-second-requires c κs = search needs
+put-crc-to-checked-requires : tie.Need-put-crc-to-checked-requires
+put-crc-to-checked-requires c κs = search needs
 
 records-requires : tie.Need-records-requires
 records-requires c κs = search needs
@@ -43,14 +43,14 @@ returns c =
     w .put2 .ensures
     ∙ rw (p .put .ensures, h .crc32 .ensures)
     (header-written (s .args .b) (s .args .ss) (n .records .result) (r .put-records .last .0) (r .put-records .ensures .2) (n .records .ensures) (r .put-records .ensures .1)
-    (r .put-records .ensures .0 ∙ rw (t .put-second .ensures, f .put-first .ensures, s .pre .1)))
+    (r .put-records .ensures .0 ∙ rw (t .put-crc-to-checked .ensures, f .put-magic-to-length .ensures, s .pre .1)))
 
 pub put-header-spec : {M : Type 1} → statement M
 put-header-spec =
     tie.close
     (tie.spec
-    put-first-requires
-    put-second-requires
+    put-magic-to-length-requires
+    put-crc-to-checked-requires
     records-requires
     put-records-requires
     crc32-requires

@@ -1,9 +1,9 @@
--- Four numbers written one after the other are the first 16 bytes (`first-written`).
+-- Four numbers written one after the other are the first 16 bytes (`magic-to-length-written`).
 use mathlib.Core.Path.{_∙_}
-use Rattle.header.proofs.Writing.{first-written}
+use Rattle.header.proofs.Writing.{magic-to-length-written}
 use borrow.Author.Needs.{needs}
-use Rattle.header.proofs.write.put_first.Statement.{statement}
-use Rattle.header.proofs.write.put_first.Tie as tie
+use Rattle.header.proofs.write.put_magic_to_length.Statement.{statement}
+use Rattle.header.proofs.write.put_magic_to_length.Tie as tie
 
 put-requires : tie.Need-put-requires
 put-requires c κs = search needs
@@ -27,9 +27,9 @@ returns c =
     let p₂ = p₃ .before .before .before .before in
     let p₁ = p₂ .before .before .before .before in
     let s = p₁ .before .before .before in
-    p₄ .put4 .ensures ∙ rw (p₃ .put3 .ensures, p₂ .put2 .ensures, p₁ .put .ensures) (first-written (s .args .out .now) (s .args .b) (s .pre))
+    p₄ .put4 .ensures ∙ rw (p₃ .put3 .ensures, p₂ .put2 .ensures, p₁ .put .ensures) (magic-to-length-written (s .args .out .now) (s .args .b) (s .pre))
 
-pub put-first-spec : {M : Type 1} → statement M
-put-first-spec =
+pub put-magic-to-length-spec : {M : Type 1} → statement M
+put-magic-to-length-spec =
     tie.close
     (tie.spec put-requires put-requires-2 put-requires-3 put-requires-4 same-length returns)

@@ -1,12 +1,12 @@
--- Five numbers written one after the other are bytes 16 to 39 (`second-written`).
+-- Five numbers written one after the other are bytes 16 to 39 (`crc-to-checked-written`).
 use mathlib.Core.Path.{_≡_, _∙_}
 use mir.Syntax.{w64}
 use mir.Val.{toZ, ofZ}
 use mir.ValLaws.{toZ-ofZ}
-use Rattle.header.proofs.Writing.{second-written}
+use Rattle.header.proofs.Writing.{crc-to-checked-written}
 use borrow.Author.Needs.{needs}
-use Rattle.header.proofs.write.put_second.Statement.{statement}
-use Rattle.header.proofs.write.put_second.Tie as tie
+use Rattle.header.proofs.write.put_crc_to_checked.Statement.{statement}
+use Rattle.header.proofs.write.put_crc_to_checked.Tie as tie
 
 put-requires : tie.Need-put-requires
 put-requires c κs = search needs
@@ -35,10 +35,10 @@ returns c =
     let p₁ = p₂ .before .before .before .before in
     let s = p₁ .before .before .before in
     let u : toZ w64 (ofZ w64 (s .args .b .checked)) ≡ s .args .b .checked = toZ-ofZ w64 (s .args .b .checked) (record { sfits = p₅ .before .struct-told .given .1 .1 .1 .1 .1 .1 .1 .0 .1 }) in
-    p₅ .put-time .ensures ∙ rw (u, p₄ .put4 .ensures, p₃ .put3 .ensures, p₂ .put2 .ensures, p₁ .put .ensures) (second-written (s .args .out .now) (s .args .b) (s .pre))
+    p₅ .put-time .ensures ∙ rw (u, p₄ .put4 .ensures, p₃ .put3 .ensures, p₂ .put2 .ensures, p₁ .put .ensures) (crc-to-checked-written (s .args .out .now) (s .args .b) (s .pre))
 
-pub put-second-spec : {M : Type 1} → statement M
-put-second-spec =
+pub put-crc-to-checked-spec : {M : Type 1} → statement M
+put-crc-to-checked-spec =
     tie.close
     (tie.spec
     put-requires
