@@ -34,6 +34,10 @@ rotation = 13
 abbrev pub maxSigned : ℕ
 maxSigned = 9223372036854775807
 
+-- the largest unsigned one
+abbrev pub maxUnsigned : ℕ
+maxUnsigned = 18446744073709551615
+
 -- the low 32 bits of a number
 abbrev pub wrap32 : ℕ → ℕ
 wrap32 n = n % wordValues

@@ -32,6 +32,9 @@ pub const FOURTH_BYTE_64: u64 = FOURTH_BYTE as u64;
 // How many values a 32-bit number has: what the upper half of a 64-bit one counts.
 pub const WORD_VALUES: u64 = 4294967296;
 
+// The lowest 64-bit number that is negative if read as signed.
+pub const SIGN_BIT: u64 = 9223372036854775808;
+
 // x * 2^13, and x / 2^19: the two parts of a rotation by 13 bits.
 const UP_13: u32 = 8192;
 

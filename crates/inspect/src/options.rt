@@ -1,6 +1,8 @@
 // The arguments.
 use crate::tables::Choice;
 use crate::tables::table_named;
+use base::number::SIGN_BIT;
+use base::number::WORD_VALUES;
 use base::slice::part;
 use base::slice::same_bytes;
 use key::FIELDS;
@@ -9,8 +11,6 @@ use leaf::bytes::get8;
 use program::arguments::follow;
 use program::bytes::copy;
 use program::lengths;
-use program::number::NUMBERS_32;
-use program::number::SIGN_BIT;
 use program::number::low32;
 use program::number::signed;
 use program::text::Number;
@@ -218,7 +218,7 @@ fn number32(s: &[u8]) -> Number {
     let Number::Is(v) = digits(s) else {
         return Number::None;
     };
-    if v < NUMBERS_32 {
+    if v < WORD_VALUES {
         return Number::Is(v);
     }
     Number::None

@@ -1,11 +1,11 @@
 // Pieces of a line on standard output.
+use base::number::SIGN_BIT;
 use base::number::u8_to_u64;
 use base::number::u32_to_u64;
 use base::slice::part;
 use leaf::bytes::get8;
 use libc::STDOUT_FILENO;
 use program::bytes::put8;
-use program::number::SIGN_BIT;
 use program::number::bits;
 use program::output;
 use program::output::long_field;

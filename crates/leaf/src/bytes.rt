@@ -10,6 +10,7 @@ ghost use Rattle.base.specs.Number as Number;
 use base::number::BYTE_VALUES_32;
 use base::number::FOURTH_BYTE;
 use base::number::SECOND_BYTE;
+use base::number::SIGN_BIT;
 use base::number::THIRD_BYTE;
 use base::number::WORD_VALUES;
 use base::number::u8_to_u32;
@@ -19,9 +20,6 @@ use base::number::u32_to_u64;
 pub const WORD_SIZE: usize = 4;
 
 pub const TIME_SIZE: usize = 8;
-
-// The lowest 64-bit number that is negative if read as signed.
-const SIGN_BIT: u64 = 9223372036854775808;
 
 // The byte at offset i, 0 past the end.
 pub fn get8(b: &[u8], i: usize) -> u8

@@ -13,7 +13,6 @@ use bank::Loaded;
 use bank::turns::Checking;
 use bank::turns::Progress;
 use bank::turns::Turn;
-use base::number::u8_to_u32;
 use base::slice::part;
 use header::Bank;
 use header::SOURCES;
@@ -23,6 +22,7 @@ use program::lengths;
 use record::RECORD_SIZE;
 use record::Source;
 use refusal::Refusal;
+use refusal::number_u32;
 use snapshot::Outcome;
 use snapshot::freshness::Day;
 use snapshot::freshness::Days;
@@ -42,7 +42,7 @@ fn is_number(a: &[u8], k: u8, n: u32) -> bool {
 
 // Whether an answer is a refusal's number and nothing else.
 fn is_refusal(a: &[u8], r: Refusal) -> bool {
-    is_number(a, 0, u8_to_u32(refusal::number(r))) & (words(a) == 1)
+    is_number(a, 0, number_u32(r)) & (words(a) == 1)
 }
 
 // Whether an answer starts with these three numbers.
@@ -161,7 +161,7 @@ fn is_progress(a: &[u8], p: Progress) -> bool {
     match p {
         Progress::Hashed(n) => starts_with(a, 0, 0, n),
         Progress::Yes => starts_with(a, 0, 1, 0),
-        Progress::Refused(r) => starts_with(a, u8_to_u32(refusal::number(r)), 0, 0),
+        Progress::Refused(r) => starts_with(a, number_u32(r), 0, 0),
     }
 }
 

@@ -1,5 +1,6 @@
 // The kinds of lines that the list has answers of.
 ghost use Prim.Native.Nat.{_<_};
+ghost use Rattle.replay.specs.Sizes.{kindCount};
 use crate::text::starts;
 
 // Leaves and keys, banks, rows and filter; unknown is none of them.
@@ -40,7 +41,7 @@ const NAME_SIZE: usize = 11;
 
 // Where a kind is counted.
 pub fn index(k: Kind) -> usize
-    ensures { λ r. ⌜ r < 28 ⌝ }
+    ensures { λ r. ⌜ r < kindCount ⌝ }
 {
     match k {
         Kind::ValidDate => 0,

@@ -11,6 +11,7 @@ mod text;
 
 ghost use mathlib.Core.Path.{_≡_};
 ghost use lib.ListN.{length};
+ghost use Rattle.replay.specs.Sizes.{listSize};
 use crate::kinds::KINDS;
 use crate::kinds::Kind;
 use libc::STDOUT_FILENO;
@@ -146,7 +147,7 @@ fn report(c: Counts) {
 
 // A buffer of zeros for the list.
 fn list_buffer() -> [u8; LIST_SIZE]
-    ensures { λ r. ⌜ 524288 ≡ length r ⌝ }
+    ensures { λ r. ⌜ listSize ≡ length r ⌝ }
 {
     [0; LIST_SIZE]
 }

@@ -1,5 +1,6 @@
 // The words of a line, and the numbers and bytes in them.
 ghost use Prim.Native.Nat.{_<_};
+ghost use Rattle.base.specs.Number.{maxUnsigned};
 use base::slice::part;
 use base::slice::same_bytes;
 use leaf::bytes::get8;
@@ -19,8 +20,6 @@ const HEX: u64 = 16;
 const LAST_HEX: u64 = 15;
 // A byte has two digits.
 const DIGITS: usize = 2;
-
-const HIGHEST: usize = 18446744073709551615;
 
 // Where the next word starts.
 fn next_word(s: &[u8], from: usize) -> usize {
@@ -130,12 +129,12 @@ pub fn is_word(l: &[u8], k: u8, bytes: &[u8]) -> bool {
 
 // The index after an end, and in any case after i.
 pub fn index_after(end: usize, i: usize) -> usize
-    ensures { λ r. ⌜ (i < 18446744073709551615 → i < r) ⌝ }
+    ensures { λ r. ⌜ (i < maxUnsigned → i < r) ⌝ }
 {
     if i <= end {
-        if end < HIGHEST {
+        if end < usize::MAX {
             return end + 1;
         }
     }
-    if i < HIGHEST { i + 1 } else { i }
+    if i < usize::MAX { i + 1 } else { i }
 }
