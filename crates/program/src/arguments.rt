@@ -2,7 +2,7 @@
 ghost use mathlib.Core.Path.{_≡_};
 ghost use Prim.Native.Nat.{_+_, _≤_};
 ghost use lib.Dec.{ltb};
-ghost use lib.ListN.{length};
+ghost use lib.ListN.{length, replicate};
 ghost use Rattle.program.specs.Arguments.{argumentSize};
 use crate::bytes::copy;
 
@@ -16,7 +16,7 @@ const DEFAULT_IMAGE: [u8; DEFAULT_IMAGE_SIZE] = *b"samples/two-good.img";
 
 // A buffer of zeros for an argument.
 pub fn buffer() -> [u8; ARGUMENT_SIZE]
-    ensures { λ r. ⌜ argumentSize ≡ length r ⌝ }
+    ensures { λ r. ⌜ (r ≡ replicate argumentSize 0) × (argumentSize ≡ length r) ⌝ }
 {
     [0; ARGUMENT_SIZE]
 }

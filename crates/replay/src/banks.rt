@@ -66,14 +66,17 @@ fn is_validated(a: &[u8], v: Validated) -> bool {
     }
 }
 
+// `validate BANK ANSWER`
 pub fn validate(l: &[u8], region: &[u8]) -> bool {
     is_validated(rest(l, 2), bank::validate(region, number32(l, word(l, 1))))
 }
 
+// `header BANK ANSWER`
 pub fn header(l: &[u8], region: &[u8]) -> bool {
     is_validated(rest(l, 2), bank::header(region, number32(l, word(l, 1))))
 }
 
+// `load ANSWER`
 pub fn load(l: &[u8], region: &[u8]) -> bool {
     let a = rest(l, 1);
     let x = bank::load(region);
@@ -103,7 +106,7 @@ fn among(region: &[u8], number: u32, i: u32) -> Source {
     }
 }
 
-// A source's record, asked for alone and with all the others.
+// `source BANK INDEX ANSWER`: a source's record, asked for alone and with all the others.
 pub fn source(l: &[u8], region: &[u8]) -> bool {
     let a = rest(l, 3);
     let n = number32(l, word(l, 1));
@@ -124,7 +127,7 @@ fn day(l: &[u8], k: u8, wanted: u64) -> Day {
     }
 }
 
-// Three days, and a number whose lowest bits say which of them are wanted.
+// The three days of a `fresh` line, and a number whose lowest bits say which of them are wanted.
 fn days(l: &[u8]) -> Days {
     let wanted = number(l, word(l, 5));
     Days {
@@ -142,6 +145,7 @@ fn is_times(a: &[u8], checked: i64, updated: i64) -> bool {
         & (signed(a, word(a, 2)) == updated)
 }
 
+// `fresh BANK DAY DAY DAY WANTED NOW ANSWER`
 pub fn fresh(l: &[u8], region: &[u8]) -> bool {
     let a = rest(l, 7);
     let x = snapshot::freshness::fresh(
@@ -171,6 +175,7 @@ fn is_turn(a: &[u8], t: Turn) -> bool {
     (words(a) == 6) & is_progress(a, p) & starts_with(rest(a, 3), s.bank, s.position, s.crc)
 }
 
+// `start BANK ANSWER`
 pub fn check_start(l: &[u8], region: &[u8]) -> bool {
     is_turn(
         rest(l, 2),
@@ -178,6 +183,7 @@ pub fn check_start(l: &[u8], region: &[u8]) -> bool {
     )
 }
 
+// `turn BANK POSITION CRC COUNT ANSWER`
 pub fn check_turn(l: &[u8], region: &[u8]) -> bool {
     let s = Checking {
         bank: number32(l, word(l, 1)),
@@ -213,6 +219,7 @@ fn matches(l: &[u8], region: &[u8], identity: &[u8], texts: &[u8]) -> bool {
     }
 }
 
+// `bankkey BANK IDENTITY TEXTS LENGTHS ANSWER`
 pub fn same_key(l: &[u8], region: &[u8]) -> bool {
     let mut a = io::buffer();
     let identity: &mut [u8] = &mut a;

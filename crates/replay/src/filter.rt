@@ -26,6 +26,7 @@ fn insert_in(region: &mut [u8], n: usize, id: &[u8]) -> Filter {
     bloom::insert(region, id)
 }
 
+// `insert SIZE ID ANSWER`
 pub fn insert(l: &[u8], region: &mut [u8]) -> bool {
     let mut space = io::buffer();
     let id: &mut [u8] = &mut space;
@@ -33,6 +34,7 @@ pub fn insert(l: &[u8], region: &mut [u8]) -> bool {
     is_answer(l, insert_in(region, offset(l, word(l, 1)), part(id, 0, n)))
 }
 
+// `query SIZE ID ANSWER`
 pub fn query(l: &[u8], region: &[u8]) -> bool {
     let mut space = io::buffer();
     let id: &mut [u8] = &mut space;
@@ -43,7 +45,7 @@ pub fn query(l: &[u8], region: &[u8]) -> bool {
     )
 }
 
-// Whether the region's bytes at an offset are the line's.
+// `holds OFFSET BYTES`: whether the region's bytes at an offset are the line's.
 pub fn holds(l: &[u8], region: &[u8]) -> bool {
     let mut space = io::buffer();
     let want: &mut [u8] = &mut space;
@@ -52,7 +54,7 @@ pub fn holds(l: &[u8], region: &[u8]) -> bool {
     (0 < n) & is_word(l, 2, bytes)
 }
 
-// Whether the CRC-32 of the region's bytes at an offset is the line's.
+// `sum OFFSET COUNT ANSWER`: whether the CRC-32 of the region's bytes at an offset is the line's.
 pub fn sum(l: &[u8], region: &[u8]) -> bool {
     let bytes = part(region, offset(l, word(l, 1)), offset(l, word(l, 2)));
     leaf::crc::crc32(0, bytes) == number32(l, word(l, 3))

@@ -1,4 +1,5 @@
 // The lines that build the region.
+use crate::text::BYTE_VALUES;
 use crate::text::number;
 use crate::text::offset;
 use crate::text::starts;
@@ -7,20 +8,18 @@ use crate::text::word;
 use program::bytes;
 use std::num::wrapping_add_usize;
 
-const BYTES: u64 = 256;
-
 // Word k as a byte.
 fn byte(l: &[u8], k: u8) -> u8 {
-    (number(l, word(l, k)) % BYTES) as u8
+    (number(l, word(l, k)) % BYTE_VALUES) as u8
 }
 
-// Sets all bytes to the same.
+// `region BYTE`: sets all bytes to the same.
 fn fill_region(l: &[u8], region: &mut [u8]) -> bool {
     bytes::fill(region, 0, region.len(), byte(l, 1));
     true
 }
 
-// Writes hexadecimal bytes at an offset; whether all of them fit.
+// `at OFFSET BYTES`: writes hexadecimal bytes at an offset; whether all of them fit.
 fn write_bytes(l: &[u8], region: &mut [u8]) -> bool {
     let from = offset(l, word(l, 1));
     let digits = word(l, 2);
@@ -31,7 +30,7 @@ fn write_bytes(l: &[u8], region: &mut [u8]) -> bool {
     false
 }
 
-// Sets bytes from an offset on to the same; whether all of them fit.
+// `fill OFFSET COUNT BYTE`: sets bytes from an offset on to the same; whether all of them fit.
 fn fill_bytes(l: &[u8], region: &mut [u8]) -> bool {
     let from = offset(l, word(l, 1));
     let n = offset(l, word(l, 2));

@@ -42,6 +42,7 @@ fn key_of(l: &[u8], identity: &[u8], texts: &[u8]) -> bool {
     }
 }
 
+// `key IDENTITY TEXTS LENGTHS ANSWER`
 pub fn key(l: &[u8]) -> bool {
     let mut a = io::buffer();
     let identity: &mut [u8] = &mut a;
@@ -76,6 +77,7 @@ fn stored_key(l: &[u8], stored: &[u8]) -> bool {
     answers(l, stored, part(identity, 0, n), part(texts, 0, m))
 }
 
+// `samekey STORED IDENTITY TEXTS LENGTHS ANSWER`
 pub fn same_key(l: &[u8]) -> bool {
     let mut space = io::buffer();
     let stored: &mut [u8] = &mut space;

@@ -1,9 +1,10 @@
-// One line of the list: whether the core's answer is the line's.
+// One line of the list: whether the core's answer is the line's. Above each function is the form of its line; word 0 is the kind.
 use crate::banks;
 use crate::filter;
 use crate::keys;
 use crate::kinds::Kind;
 use crate::rows;
+use crate::text::BYTE_VALUES;
 use crate::text::is_word;
 use crate::text::number;
 use crate::text::number32;
@@ -15,15 +16,15 @@ use base::slice::part;
 use leaf::date::Date;
 use leaf::date::NewDate;
 
-const NUMBERS_16: u64 = 65536;
-
-const NUMBERS_8: u64 = 256;
+// How many values 16 bits have.
+const SHORT_VALUES: u64 = BYTE_VALUES * BYTE_VALUES;
 
 // Whether a yes or no is the list's 1 or 0.
 fn agrees(is: bool, want: u64) -> bool {
     if is { want == 1 } else { want == 0 }
 }
 
+// `date NUMBER ANSWER`
 fn date(l: &[u8]) -> bool {
     agrees(
         leaf::date::valid_date(number32(l, word(l, 1))),
@@ -31,10 +32,11 @@ fn date(l: &[u8]) -> bool {
     )
 }
 
+// `new YEAR MONTH DAY ANSWER`
 fn new(l: &[u8]) -> bool {
-    let year = (number(l, word(l, 1)) % NUMBERS_16) as u16;
-    let month = (number(l, word(l, 2)) % NUMBERS_8) as u8;
-    let day = (number(l, word(l, 3)) % NUMBERS_8) as u8;
+    let year = (number(l, word(l, 1)) % SHORT_VALUES) as u16;
+    let month = (number(l, word(l, 2)) % BYTE_VALUES) as u8;
+    let day = (number(l, word(l, 3)) % BYTE_VALUES) as u8;
     let want = number32(l, word(l, 4));
     match Date::new(year, month, day) {
         NewDate::Made(d) => d.0 == want,
@@ -42,19 +44,23 @@ fn new(l: &[u8]) -> bool {
     }
 }
 
+// `newer A B ANSWER`
 fn newer(l: &[u8]) -> bool {
     let is = leaf::generation::newer(number32(l, word(l, 1)), number32(l, word(l, 2)));
     agrees(is, number(l, word(l, 3)))
 }
 
+// `next GENERATION ANSWER`
 fn next(l: &[u8]) -> bool {
     leaf::generation::next(number32(l, word(l, 1))) == number32(l, word(l, 2))
 }
 
+// `rotate NUMBER ANSWER`
 fn rotate(l: &[u8]) -> bool {
     base::number::rotate13(number32(l, word(l, 1))) == number32(l, word(l, 2))
 }
 
+// `crc START BYTES ANSWER`
 fn crc(l: &[u8]) -> bool {
     let mut space = io::buffer();
     let bytes: &mut [u8] = &mut space;
@@ -62,6 +68,7 @@ fn crc(l: &[u8]) -> bool {
     leaf::crc::crc32(number32(l, word(l, 1)), part(bytes, 0, n)) == number32(l, word(l, 3))
 }
 
+// `get BYTES OFFSET ANSWER`
 fn get(l: &[u8]) -> bool {
     let mut space = io::buffer();
     let bytes: &mut [u8] = &mut space;
@@ -69,6 +76,7 @@ fn get(l: &[u8]) -> bool {
     leaf::bytes::get(part(bytes, 0, n), offset(l, word(l, 2))) == number32(l, word(l, 3))
 }
 
+// `time BYTES OFFSET ANSWER`
 fn time(l: &[u8]) -> bool {
     let mut space = io::buffer();
     let bytes: &mut [u8] = &mut space;
@@ -76,6 +84,7 @@ fn time(l: &[u8]) -> bool {
     leaf::bytes::get_time(part(bytes, 0, n), offset(l, word(l, 2))) == signed(l, word(l, 3))
 }
 
+// `put BYTES OFFSET NUMBER ANSWER`
 fn put(l: &[u8]) -> bool {
     let mut space = io::buffer();
     let bytes: &mut [u8] = &mut space;
@@ -84,6 +93,7 @@ fn put(l: &[u8]) -> bool {
     is_word(l, 4, part(bytes, 0, n))
 }
 
+// `puttime BYTES OFFSET TIME ANSWER`
 fn put_time(l: &[u8]) -> bool {
     let mut space = io::buffer();
     let bytes: &mut [u8] = &mut space;

@@ -5,6 +5,7 @@ use crate::text::offset;
 use crate::text::unhex;
 use crate::text::word;
 use crate::text::words;
+use base::number::SECOND_BYTE;
 use base::number::u8_to_u32;
 use base::slice::part;
 use leaf::bytes::get8;
@@ -18,8 +19,7 @@ const VALUES: usize = 16;
 // A 16-bit number has two bytes.
 const PAIR: usize = 2;
 
-const BYTES: u32 = 256;
-
+// `names TABLE ANSWER`
 pub fn names_line(l: &[u8]) -> bool {
     let mut space = io::buffer();
     let out: &mut [u8] = &mut space;
@@ -32,7 +32,7 @@ pub fn names_line(l: &[u8]) -> bool {
 
 // The 16-bit number at an offset.
 fn pair(bytes: &[u8], at: usize) -> u32 {
-    u8_to_u32(get8(bytes, at)) + u8_to_u32(get8(bytes, wrapping_add_usize(at, 1))) * BYTES
+    u8_to_u32(get8(bytes, at)) + u8_to_u32(get8(bytes, wrapping_add_usize(at, 1))) * SECOND_BYTE
 }
 
 // The 16-bit numbers of bytes, 0 past the end.
@@ -70,6 +70,7 @@ fn row_of(l: &[u8], texts: &[u8]) -> bool {
     }
 }
 
+// `row TABLE TEXTS LENGTHS ANSWER`
 pub fn row(l: &[u8]) -> bool {
     let mut space = io::large_buffer();
     let texts: &mut [u8] = &mut space;
@@ -125,7 +126,7 @@ fn read_in(l: &[u8], table: &[u8]) -> bool {
     }
 }
 
-// Reads a row of a table that is in the region.
+// `read FROM LENGTH WIDTH OFFSET NEXT ENDS VALUES`, or `-` after OFFSET at the end: reads a row of a table that is in the region.
 pub fn read_row(l: &[u8], region: &[u8]) -> bool {
     read_in(
         l,

@@ -9,6 +9,9 @@ use program::number::signed as signed_of;
 use program::text::digit;
 use program::text::find;
 
+// How many values a byte has.
+pub const BYTE_VALUES: u64 = base::number::BYTE_VALUES as u64;
+
 const TEN: u64 = 10;
 
 const LAST_DECIMAL: u64 = 9;
