@@ -11,6 +11,16 @@
 #include <stddef.h>
 #include <stdint.h>
 
+/* Lengths and offsets have 64 bits, as in the proofs. There is no core for a target whose
+   pointers have another size, so none is declared there (docs/FIRMWARE.md). */
+#ifdef __cplusplus
+static_assert(sizeof(size_t) == 8 && sizeof(void *) == 8,
+    "bankcore: pointers and lengths must have 64 bits");
+#else
+_Static_assert(sizeof(size_t) == 8 && sizeof(void *) == 8,
+    "bankcore: pointers and lengths must have 64 bits");
+#endif
+
 #ifdef __cplusplus
 extern "C" {
 #endif
@@ -100,7 +110,7 @@ typedef struct TtTurnNumbers {
 
 typedef struct TtKeyNumbers {
     uint32_t refusal;
-    size_t length;
+    uint64_t length;
 } TtKeyNumbers;
 
 typedef struct TtMatchNumbers {
@@ -118,21 +128,21 @@ typedef struct TtFreshNumbers {
 typedef struct TtBankRowNumbers {
     uint32_t refusal;
     uint32_t found;
-    size_t next;
-    size_t size;
+    uint64_t next;
+    uint64_t size;
 } TtBankRowNumbers;
 
 typedef struct TtRowNumbers {
     uint32_t refusal;
-    size_t length;
+    uint64_t length;
 } TtRowNumbers;
 
 /* A row, if found: the place of the next one, and how many bytes its values have. */
 typedef struct TtReadNumbers {
     uint32_t refusal;
     uint32_t found;
-    size_t next;
-    size_t size;
+    uint64_t next;
+    uint64_t size;
 } TtReadNumbers;
 
 typedef struct TtFilterNumbers {
@@ -225,19 +235,19 @@ typedef struct TtUpdateStep {
 /* ---- The leaves: numbers in bytes, CRC-32, generations, dates. */
 
 /* The 32-bit number at offset i, little-endian; bytes past the end read 0. */
-uint32_t tt_get(const uint8_t *b, size_t b_length, size_t i);
+uint32_t tt_get(const uint8_t *b, uint64_t b_length, uint64_t i);
 
 /* Writes the number n at offset i, four bytes little-endian; if they don't fit nothing changes. */
-void tt_put(uint8_t *b, size_t b_length, size_t i, uint32_t n);
+void tt_put(uint8_t *b, uint64_t b_length, uint64_t i, uint32_t n);
 
 /* The signed 64-bit time at offset i, little-endian; bytes past the end read 0. */
-int64_t tt_get_time(const uint8_t *b, size_t b_length, size_t i);
+int64_t tt_get_time(const uint8_t *b, uint64_t b_length, uint64_t i);
 
 /* Writes the time z at offset i, eight bytes little-endian; if they don't fit nothing changes. */
-void tt_put_time(uint8_t *b, size_t b_length, size_t i, int64_t z);
+void tt_put_time(uint8_t *b, uint64_t b_length, uint64_t i, int64_t z);
 
 /* The CRC-32 of bytes, continued from the CRC of those before; start is 0 if there are none. */
-uint32_t tt_crc32(uint32_t start, const uint8_t *bytes, size_t bytes_length);
+uint32_t tt_crc32(uint32_t start, const uint8_t *bytes, uint64_t bytes_length);
 
 /* Whether generation a is newer than b, wrapping. */
 bool tt_newer(uint32_t a, uint32_t b);
@@ -257,22 +267,22 @@ uint32_t tt_rotate13(uint32_t x);
 /* ---- Keys, and banks: load and the calls on a loaded bank. */
 
 /* Tests a bank except for its data's CRC, refusals 1 to 6, and gives its numbers. */
-TtBankNumbers tt_header(const uint8_t *region, size_t region_length, uint32_t bank);
+TtBankNumbers tt_header(const uint8_t *region, uint64_t region_length, uint32_t bank);
 
 /* Tests a bank, refusals 1 to 7, and gives its numbers. */
-TtBankNumbers tt_validate(const uint8_t *region, size_t region_length, uint32_t bank);
+TtBankNumbers tt_validate(const uint8_t *region, uint64_t region_length, uint32_t bank);
 
 /* The bank in use: the first to pass, the newer one tried first; found is 0 if none passes. */
-TtBankNumbers tt_load(const uint8_t *region, size_t region_length);
+TtBankNumbers tt_load(const uint8_t *region, uint64_t region_length);
 
 /* Begins checking a bank's data in turns. */
-TtTurnNumbers tt_check_start(const uint8_t *region, size_t region_length, uint32_t bank);
+TtTurnNumbers tt_check_start(const uint8_t *region, uint64_t region_length, uint32_t bank);
 
 /* One turn of at most n bytes from the state passed; with nothing left it gives the verdict, 1
    or refusal 7. */
 TtTurnNumbers tt_check_turn(
     const uint8_t *region,
-    size_t region_length,
+    uint64_t region_length,
     uint32_t bank,
     uint32_t position,
     uint32_t crc,
@@ -282,31 +292,31 @@ TtTurnNumbers tt_check_turn(
    code, stop, stop name. */
 TtKeyNumbers tt_key(
     const uint8_t *identity,
-    size_t identity_length,
+    uint64_t identity_length,
     const uint8_t *texts,
-    size_t texts_length,
+    uint64_t texts_length,
     const uint32_t *lengths,
-    size_t lengths_length,
+    uint64_t lengths_length,
     uint8_t *out,
-    size_t out_length);
+    uint64_t out_length);
 
 /* Whether a bank's key is that of an identity and picks. */
 TtMatchNumbers tt_same_key(
     const uint8_t *region,
-    size_t region_length,
+    uint64_t region_length,
     uint32_t bank,
     const uint8_t *identity,
-    size_t identity_length,
+    uint64_t identity_length,
     const uint8_t *texts,
-    size_t texts_length,
+    uint64_t texts_length,
     const uint32_t *lengths,
-    size_t lengths_length);
+    uint64_t lengths_length);
 
 /* When a bank was checked and the sources of the wanted days were updated; the lowest number
    means unknown. */
 TtFreshNumbers tt_fresh(
     const uint8_t *region,
-    size_t region_length,
+    uint64_t region_length,
     uint32_t bank,
     uint32_t day0,
     uint32_t day1,
@@ -319,69 +329,69 @@ TtFreshNumbers tt_fresh(
 /* Writes a source's record to the first 384 bytes of out, in version 3's form. */
 uint32_t tt_source(
     const uint8_t *region,
-    size_t region_length,
+    uint64_t region_length,
     uint32_t bank,
     uint32_t index,
     uint8_t *out,
-    size_t out_length);
+    uint64_t out_length);
 
 /* Reads the row at a place of a source's table: its values, joined, to out, and where each ends
    to ends. */
 TtBankRowNumbers tt_bank_row(
     const uint8_t *region,
-    size_t region_length,
+    uint64_t region_length,
     uint32_t bank,
     uint32_t source,
     uint32_t table,
-    size_t place,
+    uint64_t place,
     uint8_t *out,
-    size_t out_length,
-    size_t *ends,
-    size_t ends_length);
+    uint64_t out_length,
+    uint64_t *ends,
+    uint64_t ends_length);
 
 /* ---- Rows and the trip filter. */
 
 /* How many columns a table has; 0 above table 7. */
-size_t tt_column_count(uint32_t table);
+uint64_t tt_column_count(uint32_t table);
 
 /* Writes a table's names line to out. */
-TtRowNumbers tt_names_line(uint32_t table, uint8_t *out, size_t out_length);
+TtRowNumbers tt_names_line(uint32_t table, uint8_t *out, uint64_t out_length);
 
 /* Writes the row of a table's values to out; a length for each value. */
 TtRowNumbers tt_row(
     uint32_t table,
     const uint8_t *texts,
-    size_t texts_length,
+    uint64_t texts_length,
     const uint32_t *lengths,
-    size_t lengths_length,
+    uint64_t lengths_length,
     uint8_t *out,
-    size_t out_length);
+    uint64_t out_length);
 
 /* Reads the row of width values at a place of a stored table: its values, joined, to out, and
    where each ends to ends. */
 TtReadNumbers tt_read_row(
     const uint8_t *table,
-    size_t table_length,
-    size_t width,
-    size_t place,
+    uint64_t table_length,
+    uint64_t width,
+    uint64_t place,
     uint8_t *out,
-    size_t out_length,
-    size_t *ends,
-    size_t ends_length);
+    uint64_t out_length,
+    uint64_t *ends,
+    uint64_t ends_length);
 
 /* Whether a trip id may be in the filter. */
 TtFilterNumbers tt_filter_query(
     const uint8_t *bits,
-    size_t bits_length,
+    uint64_t bits_length,
     const uint8_t *id,
-    size_t id_length);
+    uint64_t id_length);
 
 /* Inserts a trip id into the filter, and says whether it may have been there before. */
 TtFilterNumbers tt_filter_insert(
     uint8_t *bits,
-    size_t bits_length,
+    uint64_t bits_length,
     const uint8_t *id,
-    size_t id_length);
+    uint64_t id_length);
 
 /* ---- An update's lower calls. The state is passed by value, as numbers; any numbers are
    allowed. */
@@ -389,19 +399,19 @@ TtFilterNumbers tt_filter_insert(
 /* Begins an update: loads the region; in comparing mode nothing is written. It appends no key. */
 TtUpdateStep tt_update_begin(
     const uint8_t *region,
-    size_t region_length,
+    uint64_t region_length,
     bool comparing,
     int64_t at,
     TtState state);
 
 /* Begins a source; its record is version 3's, 384 bytes, and its blocks start as zero. */
-TtUpdateStep tt_update_source(TtState state, const uint8_t *bytes, size_t bytes_length);
+TtUpdateStep tt_update_source(TtState state, const uint8_t *bytes, uint64_t bytes_length);
 
 /* Begins a table of the last source. */
 TtUpdateStep tt_update_table(TtState state, uint32_t table);
 
 /* Appends bytes until the tail is full, and says how many; none while an operation is due. */
-TtUpdateStep tt_update_bytes(TtState state, const uint8_t *bytes, size_t bytes_length);
+TtUpdateStep tt_update_bytes(TtState state, const uint8_t *bytes, uint64_t bytes_length);
 
 /* Ends the open table. */
 TtUpdateStep tt_update_end(TtState state);
@@ -410,65 +420,65 @@ TtUpdateStep tt_update_end(TtState state);
 TtUpdateStep tt_update_close(TtState state);
 
 /* Does the erase, write or comparison that is due, or says that none is. */
-TtUpdateStep tt_update_due(uint8_t *region, size_t region_length, TtState state);
+TtUpdateStep tt_update_due(uint8_t *region, uint64_t region_length, TtState state);
 
 /* Whether the update that was compared is the same as the active bank. */
-TtUpdateStep tt_update_unchanged(const uint8_t *region, size_t region_length, TtState state);
+TtUpdateStep tt_update_unchanged(const uint8_t *region, uint64_t region_length, TtState state);
 
 /* The first write of a commit: the header with 255 in the commit word. */
 TtUpdateStep tt_update_commit(
     uint8_t *region,
-    size_t region_length,
+    uint64_t region_length,
     TtState state,
     bool stamped,
     int64_t stamp,
     bool current);
 
 /* The second write of a commit: the commit word. */
-TtUpdateStep tt_update_commit_word(uint8_t *region, size_t region_length, TtState state);
+TtUpdateStep tt_update_commit_word(uint8_t *region, uint64_t region_length, TtState state);
 
 /* ---- An update's upper calls. Several texts are passed joined, with their lengths. */
 
 /* Begins an update and appends the key of an identity and picks; five lengths to a pick. */
 TtUpdateStep tt_upper_begin(
     uint8_t *region,
-    size_t region_length,
+    uint64_t region_length,
     bool comparing,
     int64_t at,
     const uint8_t *identity,
-    size_t identity_length,
+    uint64_t identity_length,
     const uint8_t *texts,
-    size_t texts_length,
+    uint64_t texts_length,
     const uint32_t *lengths,
-    size_t lengths_length,
+    uint64_t lengths_length,
     TtState state);
 
 /* Begins a source and appends its dates; its record is version 3's, 384 bytes. */
 TtUpdateStep tt_upper_source(
     uint8_t *region,
-    size_t region_length,
+    uint64_t region_length,
     TtState state,
     const uint8_t *bytes,
-    size_t bytes_length);
+    uint64_t bytes_length);
 
 /* Begins a table of the last source and appends its names line. */
-TtUpdateStep tt_upper_table(uint8_t *region, size_t region_length, TtState state, uint32_t table);
+TtUpdateStep tt_upper_table(uint8_t *region, uint64_t region_length, TtState state, uint32_t table);
 
 /* Appends a row of the open table; a length for each value. */
 TtUpdateStep tt_upper_row(
     uint8_t *region,
-    size_t region_length,
+    uint64_t region_length,
     TtState state,
     const uint8_t *texts,
-    size_t texts_length,
+    uint64_t texts_length,
     const uint32_t *lengths,
-    size_t lengths_length);
+    uint64_t lengths_length);
 
 /* Ends the open table. */
-TtUpdateStep tt_upper_end(uint8_t *region, size_t region_length, TtState state);
+TtUpdateStep tt_upper_end(uint8_t *region, uint64_t region_length, TtState state);
 
 /* Closes the update: the bytes in the tail are written, or compared in comparing mode. */
-TtUpdateStep tt_upper_close(uint8_t *region, size_t region_length, TtState state);
+TtUpdateStep tt_upper_close(uint8_t *region, uint64_t region_length, TtState state);
 
 #ifdef __cplusplus
 }

@@ -1,5 +1,6 @@
 /* Loads a board's image and shows the bank in use: its numbers, its sources, its tables' rows.
    show IMAGE */
+#include <inttypes.h>
 #include <stdio.h>
 #include <stdlib.h>
 
@@ -12,34 +13,34 @@ static const char *const tables[8] = {
 };
 
 /* The file's bytes, at most one more than a region has; how many there were. */
-static size_t read_image(const char *name, uint8_t *image)
+static uint64_t read_image(const char *name, uint8_t *image)
 {
     FILE *file = fopen(name, "rb");
     if (!file) {
         fprintf(stderr, "show: %s can't be read\n", name);
         exit(2);
     }
-    size_t n = fread(image, 1, REGION + 1, file);
+    uint64_t n = fread(image, 1, REGION + 1, file);
     fclose(file);
     return n;
 }
 
-static void show_bank(const uint8_t *image, size_t n, uint32_t bank)
+static void show_bank(const uint8_t *image, uint64_t n, uint32_t bank)
 {
     TtBankNumbers b = tt_validate(image, n, bank);
     if (b.refusal)
-        printf("bank %u: refusal %u %s\n", bank, b.refusal, tt_refusal_word(b.refusal));
+        printf("bank %" PRIu32 ": refusal %" PRIu32 " %s\n", bank, b.refusal, tt_refusal_word(b.refusal));
     else
-        printf("bank %u: generation %u\n", bank, b.generation);
+        printf("bank %" PRIu32 ": generation %" PRIu32 "\n", bank, b.generation);
 }
 
 /* How many rows a table has after its names line, and whether one is malformed. */
-static void show_table(const uint8_t *image, size_t n, uint32_t bank, uint32_t source, uint32_t table)
+static void show_table(const uint8_t *image, uint64_t n, uint32_t bank, uint32_t source, uint32_t table)
 {
     static uint8_t values[8192];
-    size_t ends[COLUMNS];
-    size_t place = 0;
-    size_t rows = 0;
+    uint64_t ends[COLUMNS];
+    uint64_t place = 0;
+    uint64_t rows = 0;
     TtBankRowNumbers row;
     for (;;) {
         row = tt_bank_row(image, n, bank, source, table, place, values, sizeof values, ends, COLUMNS);
@@ -49,20 +50,21 @@ static void show_table(const uint8_t *image, size_t n, uint32_t bank, uint32_t s
         place = row.next;
     }
     if (row.refusal)
-        printf("  %s: refusal %u %s at %zu\n", tables[table], row.refusal, tt_refusal_word(row.refusal), place);
+        printf("  %s: refusal %" PRIu32 " %s at %" PRIu64 "\n", tables[table], row.refusal, tt_refusal_word(row.refusal), place);
     else if (rows)
-        printf("  %s: rows %zu\n", tables[table], rows - 1);
+        printf("  %s: rows %" PRIu64 "\n", tables[table], rows - 1);
 }
 
-static void show_source(const uint8_t *image, size_t n, uint32_t bank, uint32_t source)
+static void show_source(const uint8_t *image, uint64_t n, uint32_t bank, uint32_t source)
 {
     uint8_t record[RECORD];
     uint32_t refusal = tt_source(image, n, bank, source, record, sizeof record);
     if (refusal) {
-        printf("source %u: refusal %u %s\n", source, refusal, tt_refusal_word(refusal));
+        printf("source %" PRIu32 ": refusal %" PRIu32 " %s\n", source, refusal, tt_refusal_word(refusal));
         return;
     }
-    printf("source %u: %u to %u\n", source, tt_get(record, sizeof record, 0), tt_get(record, sizeof record, 4));
+    uint32_t start = tt_get(record, sizeof record, 0), end = tt_get(record, sizeof record, 4);
+    printf("source %" PRIu32 ": %" PRIu32 " to %" PRIu32 "\n", source, start, end);
     for (uint32_t table = 0; table < 8; table++)
         show_table(image, n, bank, source, table);
 }
@@ -74,10 +76,10 @@ int main(int argc, char **argv)
         fprintf(stderr, "show: name one image, of 983040 bytes\n");
         return 2;
     }
-    size_t n = read_image(argv[1], image);
+    uint64_t n = read_image(argv[1], image);
     TtBankNumbers bank = tt_load(image, n);
     if (bank.refusal) {
-        printf("load: refusal %u %s\n", bank.refusal, tt_refusal_word(bank.refusal));
+        printf("load: refusal %" PRIu32 " %s\n", bank.refusal, tt_refusal_word(bank.refusal));
         return 1;
     }
     show_bank(image, n, 0);
@@ -86,8 +88,9 @@ int main(int argc, char **argv)
         printf("load: none\n");
         return 0;
     }
-    printf("load: bank %u, generation %u, %u bytes, ", bank.number, bank.generation, bank.length);
-    printf("sources %u, key length %u, checked %lld\n", bank.count, bank.key, (long long)bank.checked);
+    printf("load: bank %" PRIu32 ", generation %" PRIu32 ", ", bank.number, bank.generation);
+    printf("%" PRIu32 " bytes, sources %" PRIu32 ", ", bank.length, bank.count);
+    printf("key length %" PRIu32 ", checked %" PRId64 "\n", bank.key, bank.checked);
     for (uint32_t source = 0; source < bank.count; source++)
         show_source(image, n, bank.number, source);
     return 0;

@@ -1,5 +1,6 @@
 /* An update with at most one flash operation a turn of the main loop: cut after each number of
    operations, then whole, then cut inside each operation. update IMAGE */
+#include <inttypes.h>
 #include <stdio.h>
 #include <stdlib.h>
 #include <string.h>
@@ -16,16 +17,16 @@ static const int64_t now = 1790000000;
 /* What the host passes, and how much of it is done. */
 typedef struct Host {
     uint8_t key[64], record[RECORD], dates[8], table[1024];
-    size_t key_length, table_length;
+    uint64_t key_length, table_length;
     int next;
-    size_t taken;
+    uint64_t taken;
     TtState state;
 } Host;
 
 static void refused(uint32_t refusal)
 {
     if (refusal) {
-        printf("refusal %u %s\n", refusal, tt_refusal_word(refusal));
+        printf("refusal %" PRIu32 " %s\n", refusal, tt_refusal_word(refusal));
         exit(1);
     }
 }
@@ -64,7 +65,7 @@ static TtUpdateNumbers keep(Host *h, TtUpdateStep step)
 }
 
 /* Passes bytes, as many as are appended; whether that was all. */
-static bool append(Host *h, const uint8_t *bytes, size_t n)
+static bool append(Host *h, const uint8_t *bytes, uint64_t n)
 {
     h->taken += keep(h, tt_update_bytes(h->state, bytes + h->taken, n - h->taken)).count;
     if (h->taken < n)
@@ -124,7 +125,7 @@ static TtBankNumbers load(const uint8_t *region)
 static void give(TtBankNumbers bank)
 {
     if (bank.found)
-        printf("load gives bank %u, generation %u", bank.number, bank.generation);
+        printf("load gives bank %" PRIu32 ", generation %" PRIu32, bank.number, bank.generation);
     else
         printf("load gives none");
 }
@@ -142,8 +143,14 @@ static void show(const char *what, int done, const uint8_t *region)
 /* The bytes of the region that a turn erases or writes. */
 typedef struct Span {
     const char *what;
-    size_t offset, size;
+    uint64_t offset, size;
 } Span;
+
+static Span span(const char *what, uint64_t offset, uint64_t size)
+{
+    Span s = {what, offset, size};
+    return s;
+}
 
 /* The flash operation of the next turn; its size is 0 if it does none. The state has the one that
    is due: of an erase the number of its sector, of a write its offset in the data and its length
@@ -151,16 +158,16 @@ typedef struct Span {
 static Span operation(const Host *h)
 {
     const TtState *s = &h->state;
-    size_t bank = s->active == 1 && s->bank.number == 0 ? BANK : 0;
+    uint64_t bank = s->active == 1 && s->bank.number == 0 ? BANK : 0;
     if (s->stage == ERASE)
-        return (Span){"erase", bank + (size_t)s->first * SECTOR, SECTOR};
+        return span("erase", bank + (uint64_t)s->first * SECTOR, SECTOR);
     if (s->stage == WRITE)
-        return (Span){"write", bank + SECTOR + s->first, ((size_t)s->second + 3) / 4 * 4};
+        return span("write", bank + SECTOR + s->first, ((uint64_t)s->second + 3) / 4 * 4);
     if (h->next == 7)
-        return (Span){"header", bank, HEADER};
+        return span("header", bank, HEADER);
     if (h->next == 8)
-        return (Span){"commit word", bank + WORD, WORD_SIZE};
-    return (Span){"", 0, 0};
+        return span("commit word", bank + WORD, WORD_SIZE);
+    return span("", 0, 0);
 }
 
 static bool same(TtBankNumbers a, TtBankNumbers b)
@@ -170,26 +177,26 @@ static bool same(TtBankNumbers a, TtBankNumbers b)
 
 /* The power fails inside an operation, after each of its bytes: those so far are as the operation
    leaves them, the others as they were. The commit word is shown byte by byte. */
-static void cut_inside(int number, Span span, uint8_t *torn, const uint8_t *after)
+static void cut_inside(int number, Span cut, uint8_t *torn, const uint8_t *after)
 {
     TtBankNumbers old = load(torn);
-    bool word = span.offset % BANK == WORD;
-    size_t kept = 0;
-    for (size_t j = 1; j <= span.size; j++) {
-        torn[span.offset + j - 1] = after[span.offset + j - 1];
+    bool word = cut.offset % BANK == WORD;
+    uint64_t kept = 0;
+    for (uint64_t j = 1; j <= cut.size; j++) {
+        torn[cut.offset + j - 1] = after[cut.offset + j - 1];
         TtBankNumbers found = load(torn);
-        kept += j < span.size && same(found, old);
+        kept += j < cut.size && same(found, old);
         if (word) {
-            printf("operation %d, %s at %zu, ", number, span.what, span.offset);
-            printf("%zu of %zu bytes: ", j, span.size);
+            printf("operation %d, %s at %" PRIu64 ", ", number, cut.what, cut.offset);
+            printf("%" PRIu64 " of %" PRIu64 " bytes: ", j, cut.size);
             give(found);
             printf("\n");
         }
     }
     if (!word) {
-        printf("inside operation %d, %s at %zu: ", number, span.what, span.offset);
+        printf("inside operation %d, %s at %" PRIu64 ": ", number, cut.what, cut.offset);
         give(old);
-        printf(" at %zu of %zu cuts\n", kept, span.size - 1);
+        printf(" at %" PRIu64 " of %" PRIu64 " cuts\n", kept, cut.size - 1);
     }
 }
 

@@ -1,6 +1,7 @@
-//! The answers of the calls on banks, as they cross the C interface. A refusal is
-//! its number, 0 for none; beside one the other numbers are 0, times are unknown,
-//! and a state is the one that was passed.
+//! The answers of the calls on banks, as they cross the C interface; a length, which
+//! has 64 bits there, is a `usize` here. A refusal is its number, 0 for none; beside
+//! one the other numbers are 0, times are unknown, and a state is the one that was
+//! passed.
 pub use crate::refusal::Refusal;
 
 /// A time that isn't known.
@@ -31,7 +32,6 @@ pub struct FreshAnswer {
     pub updated: i64,
 }
 
-#[repr(C)]
 #[derive(Clone, Copy, Debug, PartialEq, Eq)]
 pub struct KeyAnswer {
     pub refusal: u32,
@@ -58,7 +58,6 @@ pub struct TurnAnswer {
 }
 
 /// A stored row: `found` is 1 if there is one, 0 at the table's end.
-#[repr(C)]
 #[derive(Clone, Copy, Debug, PartialEq, Eq)]
 pub struct BankRowAnswer {
     pub refusal: u32,

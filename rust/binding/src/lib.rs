@@ -4,39 +4,61 @@
 //! with the numbers of the C interface.
 #![no_std]
 
+// A length has 64 bits in the core's proofs, and so in these declarations. There is
+// no core for a target whose pointers have another size, and `ends` are lent as they
+// are: docs/FIRMWARE.md.
+const _: () = assert!(
+    size_of::<usize>() == 8 && align_of::<usize>() == align_of::<u64>(),
+    "bankcore: pointers and lengths must have 64 bits"
+);
+
 pub mod cache;
 pub mod refusal;
 pub use refusal::Refusal;
 
 /// The core's C interface, all declarations. A slice is a pointer and a length.
 mod core_interface {
-    use crate::answers::*;
+    use crate::answers::{BankAnswer, FreshAnswer, SameKeyAnswer, TurnAnswer};
+
+    #[repr(C)]
+    pub struct KeyNumbers {
+        pub refusal: u32,
+        pub length: u64,
+    }
+
+    #[repr(C)]
+    pub struct BankRowNumbers {
+        pub refusal: u32,
+        pub found: u32,
+        pub next: u64,
+        pub size: u64,
+    }
 
     unsafe extern "C" {
-        pub fn tt_get(b: *const u8, n: usize, i: usize) -> u32;
-        pub fn tt_put(b: *mut u8, n: usize, i: usize, v: u32);
-        pub fn tt_get_time(b: *const u8, n: usize, i: usize) -> i64;
-        pub fn tt_put_time(b: *mut u8, n: usize, i: usize, v: i64);
-        pub fn tt_crc32(start: u32, b: *const u8, n: usize) -> u32;
+        pub fn tt_get(b: *const u8, n: u64, i: u64) -> u32;
+        pub fn tt_put(b: *mut u8, n: u64, i: u64, v: u32);
+        pub fn tt_get_time(b: *const u8, n: u64, i: u64) -> i64;
+        pub fn tt_put_time(b: *mut u8, n: u64, i: u64, v: i64);
+        pub fn tt_crc32(start: u32, b: *const u8, n: u64) -> u32;
         pub safe fn tt_newer(a: u32, b: u32) -> bool;
         pub safe fn tt_next(g: u32) -> u32;
         pub safe fn tt_date_new(year: u16, month: u8, day: u8) -> u32;
         pub safe fn tt_valid_date(d: u32) -> bool;
         pub safe fn tt_rotate13(x: u32) -> u32;
-        pub fn tt_validate(region: *const u8, n: usize, bank: u32) -> BankAnswer;
-        pub fn tt_header(region: *const u8, n: usize, bank: u32) -> BankAnswer;
-        pub fn tt_load(region: *const u8, n: usize) -> BankAnswer;
+        pub fn tt_validate(region: *const u8, n: u64, bank: u32) -> BankAnswer;
+        pub fn tt_header(region: *const u8, n: u64, bank: u32) -> BankAnswer;
+        pub fn tt_load(region: *const u8, n: u64) -> BankAnswer;
         pub fn tt_source(
             region: *const u8,
-            n: usize,
+            n: u64,
             bank: u32,
             index: u32,
             out: *mut u8,
-            room: usize,
+            room: u64,
         ) -> u32;
         pub fn tt_fresh(
             region: *const u8,
-            n: usize,
+            n: u64,
             bank: u32,
             day0: u32,
             day1: u32,
@@ -48,29 +70,29 @@ mod core_interface {
         ) -> FreshAnswer;
         pub fn tt_key(
             identity: *const u8,
-            identity_length: usize,
+            identity_length: u64,
             texts: *const u8,
-            texts_length: usize,
+            texts_length: u64,
             lengths: *const u32,
-            lengths_length: usize,
+            lengths_length: u64,
             out: *mut u8,
-            room: usize,
-        ) -> KeyAnswer;
+            room: u64,
+        ) -> KeyNumbers;
         pub fn tt_same_key(
             region: *const u8,
-            n: usize,
+            n: u64,
             bank: u32,
             identity: *const u8,
-            identity_length: usize,
+            identity_length: u64,
             texts: *const u8,
-            texts_length: usize,
+            texts_length: u64,
             lengths: *const u32,
-            lengths_length: usize,
+            lengths_length: u64,
         ) -> SameKeyAnswer;
-        pub fn tt_check_start(region: *const u8, n: usize, bank: u32) -> TurnAnswer;
+        pub fn tt_check_start(region: *const u8, n: u64, bank: u32) -> TurnAnswer;
         pub fn tt_check_turn(
             region: *const u8,
-            n: usize,
+            n: u64,
             bank: u32,
             position: u32,
             crc: u32,
@@ -78,16 +100,16 @@ mod core_interface {
         ) -> TurnAnswer;
         pub fn tt_bank_row(
             region: *const u8,
-            n: usize,
+            n: u64,
             bank: u32,
             source: u32,
             table: u32,
-            place: usize,
+            place: u64,
             out: *mut u8,
-            room: usize,
-            ends: *mut usize,
-            slots: usize,
-        ) -> BankRowAnswer;
+            room: u64,
+            ends: *mut u64,
+            slots: u64,
+        ) -> BankRowNumbers;
     }
 }
 use core_interface::*;
@@ -99,27 +121,27 @@ pub mod update;
 
 /// The 32-bit number at `i`, little-endian; bytes past the end read 0.
 pub fn get(b: &[u8], i: usize) -> u32 {
-    unsafe { tt_get(b.as_ptr(), b.len(), i) }
+    unsafe { tt_get(b.as_ptr(), b.len() as u64, i as u64) }
 }
 
 /// Writes the number at `i`; if its four bytes don't fit, nothing changes.
 pub fn put(b: &mut [u8], i: usize, v: u32) {
-    unsafe { tt_put(b.as_mut_ptr(), b.len(), i, v) }
+    unsafe { tt_put(b.as_mut_ptr(), b.len() as u64, i as u64, v) }
 }
 
 /// The signed 64-bit time at `i`; bytes past the end read 0.
 pub fn get_time(b: &[u8], i: usize) -> i64 {
-    unsafe { tt_get_time(b.as_ptr(), b.len(), i) }
+    unsafe { tt_get_time(b.as_ptr(), b.len() as u64, i as u64) }
 }
 
 /// Writes the time at `i`; if its eight bytes don't fit, nothing changes.
 pub fn put_time(b: &mut [u8], i: usize, v: i64) {
-    unsafe { tt_put_time(b.as_mut_ptr(), b.len(), i, v) }
+    unsafe { tt_put_time(b.as_mut_ptr(), b.len() as u64, i as u64, v) }
 }
 
 /// The CRC-32 of `b`, continued from an earlier CRC; 0 to begin.
 pub fn crc32(start: u32, b: &[u8]) -> u32 {
-    unsafe { tt_crc32(start, b.as_ptr(), b.len()) }
+    unsafe { tt_crc32(start, b.as_ptr(), b.len() as u64) }
 }
 
 /// Whether generation `a` is newer than `b`, wrapping.

@@ -2,41 +2,55 @@
 //! an answer; nothing needs a check beforehand.
 
 mod core_interface {
-    use super::{FilterAnswer, ReadAnswer, RowAnswer};
+    use super::FilterAnswer;
+
+    #[repr(C)]
+    pub struct RowNumbers {
+        pub refusal: u32,
+        pub length: u64,
+    }
+
+    #[repr(C)]
+    pub struct ReadNumbers {
+        pub refusal: u32,
+        pub found: u32,
+        pub next: u64,
+        pub size: u64,
+    }
 
     unsafe extern "C" {
-        pub safe fn tt_column_count(table: u32) -> usize;
-        pub fn tt_names_line(table: u32, out: *mut u8, room: usize) -> RowAnswer;
+        pub safe fn tt_column_count(table: u32) -> u64;
+        pub fn tt_names_line(table: u32, out: *mut u8, room: u64) -> RowNumbers;
         pub fn tt_row(
             table: u32,
             texts: *const u8,
-            texts_length: usize,
+            texts_length: u64,
             lengths: *const u32,
-            lengths_length: usize,
+            lengths_length: u64,
             out: *mut u8,
-            room: usize,
-        ) -> RowAnswer;
+            room: u64,
+        ) -> RowNumbers;
         pub fn tt_read_row(
             table: *const u8,
-            n: usize,
-            width: usize,
-            place: usize,
+            n: u64,
+            width: u64,
+            place: u64,
             out: *mut u8,
-            room: usize,
-            ends: *mut usize,
-            slots: usize,
-        ) -> ReadAnswer;
+            room: u64,
+            ends: *mut u64,
+            slots: u64,
+        ) -> ReadNumbers;
         pub fn tt_filter_query(
             bits: *const u8,
-            n: usize,
+            n: u64,
             id: *const u8,
-            id_length: usize,
+            id_length: u64,
         ) -> FilterAnswer;
         pub fn tt_filter_insert(
             bits: *mut u8,
-            n: usize,
+            n: u64,
             id: *const u8,
-            id_length: usize,
+            id_length: u64,
         ) -> FilterAnswer;
     }
 }
@@ -44,7 +58,6 @@ use core_interface::*;
 
 /// A written line's length. A refusal is its number, 0 for none; beside one the
 /// length is 0.
-#[repr(C)]
 #[derive(Clone, Copy, Debug, Default, PartialEq, Eq)]
 pub struct RowAnswer {
     pub refusal: u32,
@@ -53,7 +66,6 @@ pub struct RowAnswer {
 
 /// A row that was read: the offset of the next one, and how many bytes its values
 /// have. All numbers are 0 at the table's end, and beside a refusal.
-#[repr(C)]
 #[derive(Clone, Copy, Debug, Default, PartialEq, Eq)]
 pub struct ReadAnswer {
     pub refusal: u32,
@@ -80,27 +92,29 @@ pub struct Values<'a> {
 
 /// How many columns a table has, 0 above table 7.
 pub fn column_count(table: u32) -> usize {
-    tt_column_count(table)
+    tt_column_count(table) as usize
 }
 
 /// A table's names line, into the first bytes of `out`.
 pub fn names_line(table: u32, out: &mut [u8]) -> RowAnswer {
-    unsafe { tt_names_line(table, out.as_mut_ptr(), out.len()) }
+    let line = unsafe { tt_names_line(table, out.as_mut_ptr(), out.len() as u64) };
+    RowAnswer { refusal: line.refusal, length: line.length as usize }
 }
 
 /// The row of some values of a table, into the first bytes of `out`.
 pub fn row(table: u32, values: Values, out: &mut [u8]) -> RowAnswer {
-    unsafe {
+    let line = unsafe {
         tt_row(
             table,
             values.texts.as_ptr(),
-            values.texts.len(),
+            values.texts.len() as u64,
             values.lengths.as_ptr(),
-            values.lengths.len(),
+            values.lengths.len() as u64,
             out.as_mut_ptr(),
-            out.len(),
+            out.len() as u64,
         )
-    }
+    };
+    RowAnswer { refusal: line.refusal, length: line.length as usize }
 }
 
 /// The row of `width` values at an offset of a stored table: the values joined into
@@ -112,26 +126,28 @@ pub fn read_row(
     out: &mut [u8],
     ends: &mut [usize],
 ) -> ReadAnswer {
-    unsafe {
+    let row = unsafe {
         tt_read_row(
             table.as_ptr(),
-            table.len(),
-            width,
-            place,
+            table.len() as u64,
+            width as u64,
+            place as u64,
             out.as_mut_ptr(),
-            out.len(),
-            ends.as_mut_ptr(),
-            ends.len(),
+            out.len() as u64,
+            ends.as_mut_ptr().cast(),
+            ends.len() as u64,
         )
-    }
+    };
+    let (next, size) = (row.next as usize, row.size as usize);
+    ReadAnswer { refusal: row.refusal, found: row.found, next, size }
 }
 
 /// Whether a trip id may be in the filter.
 pub fn query(bits: &[u8], id: &[u8]) -> FilterAnswer {
-    unsafe { tt_filter_query(bits.as_ptr(), bits.len(), id.as_ptr(), id.len()) }
+    unsafe { tt_filter_query(bits.as_ptr(), bits.len() as u64, id.as_ptr(), id.len() as u64) }
 }
 
 /// Adds a trip id to the filter, and says whether it may have been there.
 pub fn insert(bits: &mut [u8], id: &[u8]) -> FilterAnswer {
-    unsafe { tt_filter_insert(bits.as_mut_ptr(), bits.len(), id.as_ptr(), id.len()) }
+    unsafe { tt_filter_insert(bits.as_mut_ptr(), bits.len() as u64, id.as_ptr(), id.len() as u64) }
 }

@@ -9,59 +9,59 @@ mod core_interface {
     unsafe extern "C" {
         pub fn tt_update_begin(
             region: *const u8,
-            n: usize,
+            n: u64,
             comparing: bool,
             now: i64,
             state: State,
         ) -> Step;
-        pub fn tt_update_source(state: State, record: *const u8, n: usize) -> Step;
+        pub fn tt_update_source(state: State, record: *const u8, n: u64) -> Step;
         pub safe fn tt_update_table(state: State, table: u32) -> Step;
-        pub fn tt_update_bytes(state: State, bytes: *const u8, n: usize) -> Step;
+        pub fn tt_update_bytes(state: State, bytes: *const u8, n: u64) -> Step;
         pub safe fn tt_update_end(state: State) -> Step;
         pub safe fn tt_update_close(state: State) -> Step;
-        pub fn tt_update_due(region: *mut u8, n: usize, state: State) -> Step;
-        pub fn tt_update_unchanged(region: *const u8, n: usize, state: State) -> Step;
+        pub fn tt_update_due(region: *mut u8, n: u64, state: State) -> Step;
+        pub fn tt_update_unchanged(region: *const u8, n: u64, state: State) -> Step;
         pub fn tt_update_commit(
             region: *mut u8,
-            n: usize,
+            n: u64,
             state: State,
             stamped: bool,
             stamp: i64,
             current: bool,
         ) -> Step;
-        pub fn tt_update_commit_word(region: *mut u8, n: usize, state: State) -> Step;
+        pub fn tt_update_commit_word(region: *mut u8, n: u64, state: State) -> Step;
         pub fn tt_upper_begin(
             region: *mut u8,
-            n: usize,
+            n: u64,
             comparing: bool,
             now: i64,
             identity: *const u8,
-            identity_length: usize,
+            identity_length: u64,
             texts: *const u8,
-            texts_length: usize,
+            texts_length: u64,
             lengths: *const u32,
-            lengths_length: usize,
+            lengths_length: u64,
             state: State,
         ) -> Step;
         pub fn tt_upper_source(
             region: *mut u8,
-            n: usize,
+            n: u64,
             state: State,
             record: *const u8,
-            size: usize,
+            size: u64,
         ) -> Step;
-        pub fn tt_upper_table(region: *mut u8, n: usize, state: State, table: u32) -> Step;
+        pub fn tt_upper_table(region: *mut u8, n: u64, state: State, table: u32) -> Step;
         pub fn tt_upper_row(
             region: *mut u8,
-            n: usize,
+            n: u64,
             state: State,
             texts: *const u8,
-            texts_length: usize,
+            texts_length: u64,
             lengths: *const u32,
-            lengths_length: usize,
+            lengths_length: u64,
         ) -> Step;
-        pub fn tt_upper_end(region: *mut u8, n: usize, state: State) -> Step;
-        pub fn tt_upper_close(region: *mut u8, n: usize, state: State) -> Step;
+        pub fn tt_upper_end(region: *mut u8, n: u64, state: State) -> Step;
+        pub fn tt_upper_close(region: *mut u8, n: u64, state: State) -> Step;
     }
 }
 use core_interface::*;
@@ -281,21 +281,21 @@ impl State {
 /// returns it.
 impl State {
     fn appended(&self, bytes: &[u8]) -> Step {
-        unsafe { tt_update_bytes(*self, bytes.as_ptr(), bytes.len()) }
+        unsafe { tt_update_bytes(*self, bytes.as_ptr(), bytes.len() as u64) }
     }
     fn operated(&self, region: &mut [u8]) -> Step {
-        unsafe { tt_update_due(region.as_mut_ptr(), region.len(), *self) }
+        unsafe { tt_update_due(region.as_mut_ptr(), region.len() as u64, *self) }
     }
     fn fed(&self, region: &mut [u8], values: Values) -> Step {
         unsafe {
             tt_upper_row(
                 region.as_mut_ptr(),
-                region.len(),
+                region.len() as u64,
                 *self,
                 values.texts.as_ptr(),
-                values.texts.len(),
+                values.texts.len() as u64,
                 values.lengths.as_ptr(),
-                values.lengths.len(),
+                values.lengths.len() as u64,
             )
         }
     }
@@ -330,14 +330,14 @@ impl State {
     }
     /// Begins an update, which replaces the one that was there.
     pub fn begin(&mut self, region: &[u8], comparing: bool, now: i64) -> Answer {
-        let (at, n) = (region.as_ptr(), region.len());
+        let (at, n) = (region.as_ptr(), region.len() as u64);
         let step = unsafe { tt_update_begin(at, n, comparing, now, *self) };
         self.take(step)
     }
     /// Begins a source; its record is version 3's, 384 bytes. Missing bytes
     /// are 0.
     pub fn source(&mut self, record: &[u8]) -> Answer {
-        let step = unsafe { tt_update_source(*self, record.as_ptr(), record.len()) };
+        let step = unsafe { tt_update_source(*self, record.as_ptr(), record.len() as u64) };
         self.take(step)
     }
     /// Begins a table of the last source.
@@ -370,19 +370,20 @@ impl State {
     }
     /// Whether the active bank equals what was compared with it.
     pub fn unchanged(&mut self, region: &[u8]) -> Answer {
-        let step = unsafe { tt_update_unchanged(region.as_ptr(), region.len(), *self) };
+        let step = unsafe { tt_update_unchanged(region.as_ptr(), region.len() as u64, *self) };
         self.take(step)
     }
     /// The first write of a commit: the header without its commit word.
     pub fn commit(&mut self, region: &mut [u8], stamp: Option<i64>, current: bool) -> Answer {
-        let (at, n) = (region.as_mut_ptr(), region.len());
+        let (at, n) = (region.as_mut_ptr(), region.len() as u64);
         let (stamped, stamp) = (stamp.is_some(), stamp.unwrap_or_default());
         let step = unsafe { tt_update_commit(at, n, *self, stamped, stamp, current) };
         self.take(step)
     }
     /// The second write of a commit: the commit word.
     pub fn commit_word(&mut self, region: &mut [u8]) -> Answer {
-        let step = unsafe { tt_update_commit_word(region.as_mut_ptr(), region.len(), *self) };
+        let step =
+            unsafe { tt_update_commit_word(region.as_mut_ptr(), region.len() as u64, *self) };
         self.take(step)
     }
 }
@@ -402,15 +403,15 @@ impl State {
         let step = unsafe {
             tt_upper_begin(
                 region.as_mut_ptr(),
-                region.len(),
+                region.len() as u64,
                 comparing,
                 now,
                 identity.as_ptr(),
-                identity.len(),
+                identity.len() as u64,
                 picks.texts.as_ptr(),
-                picks.texts.len(),
+                picks.texts.len() as u64,
                 picks.lengths.as_ptr(),
-                picks.lengths.len(),
+                picks.lengths.len() as u64,
                 *self,
             )
         };
@@ -419,13 +420,14 @@ impl State {
     /// Begins a source, and appends its dates; its record is version 3's, 384
     /// bytes. Missing bytes are 0.
     pub fn upper_source(&mut self, region: &mut [u8], record: &[u8]) -> Answer {
-        let (at, n) = (region.as_mut_ptr(), region.len());
-        let step = unsafe { tt_upper_source(at, n, *self, record.as_ptr(), record.len()) };
+        let (at, n) = (region.as_mut_ptr(), region.len() as u64);
+        let step = unsafe { tt_upper_source(at, n, *self, record.as_ptr(), record.len() as u64) };
         self.take(step)
     }
     /// Begins a table of the last source, and appends its names line.
     pub fn upper_table(&mut self, region: &mut [u8], table: u32) -> Answer {
-        let step = unsafe { tt_upper_table(region.as_mut_ptr(), region.len(), *self, table) };
+        let step =
+            unsafe { tt_upper_table(region.as_mut_ptr(), region.len() as u64, *self, table) };
         self.take(step)
     }
     /// Appends a row of the open table.
@@ -436,12 +438,12 @@ impl State {
     }
     /// Ends the open table.
     pub fn upper_end(&mut self, region: &mut [u8]) -> Answer {
-        let step = unsafe { tt_upper_end(region.as_mut_ptr(), region.len(), *self) };
+        let step = unsafe { tt_upper_end(region.as_mut_ptr(), region.len() as u64, *self) };
         self.take(step)
     }
     /// Closes the update: what the tail holds is written.
     pub fn upper_close(&mut self, region: &mut [u8]) -> Answer {
-        let step = unsafe { tt_upper_close(region.as_mut_ptr(), region.len(), *self) };
+        let step = unsafe { tt_upper_close(region.as_mut_ptr(), region.len() as u64, *self) };
         self.take(step)
     }
 }
