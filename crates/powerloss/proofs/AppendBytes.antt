@@ -43,6 +43,12 @@ tail-more tail n ys h =
     ap (take (n + length ys)) (sets-eq ys tail n h)
     ∙ take-at (take n tail ++ ys) (drop (n + length ys) tail) (n + length ys) l
 
+all-more : (front tail : List ℕ) (n : ℕ) (ys d : List ℕ) → n + length ys ≤ length tail → d ≡ front ++ take n tail → d ++ ys ≡ front ++ take (n + length ys) (sets tail n ys)
+all-more front tail n ys d l e =
+    ap (λ (x : List ℕ). x ++ ys) e
+    ∙ append-assoc front (take n tail) ys
+    ∙ ap (λ (x : List ℕ). front ++ x) (sym (tail-more tail n ys l))
+
 idle-more : (t : Contents) (tail : List ℕ) (u : Update) (b ys : List ℕ) → t .fill + length ys ≤ length tail → Lies Idle t tail u b → Lies Idle (moreContents t ys) (sets tail (t .fill) ys) (withAppended ys u) b
 idle-more t tail u b ys l (inl f) =
     inl (record { written = f .written; all = ap (λ (x : List ℕ). x ++ ys) (f .all) ∙ sym (tail-more tail (t .fill) ys l) })
@@ -55,10 +61,7 @@ idle-more t tail u b ys l (inr h) =
         gap = g .gap;
         lies = g .lies;
         count = g .count;
-        all =
-            ap (λ (x : List ℕ). x ++ ys) (g .all)
-            ∙ append-assoc (g .front) (take (t .fill) tail) ys
-            ∙ ap (λ (x : List ℕ). g .front ++ x) (sym (tail-more tail (t .fill) ys l));
+        all = all-more (g .front) tail (t .fill) ys (u .data·) l (g .all);
         ends = g .ends;
         least = g .least;
         most = g .most;
@@ -68,7 +71,9 @@ idle-more t tail u b ys l (inr h) =
 
 mode-more : (c : Bool) (st : Stage) (region : List ℕ) (hd active : Loaded) (t : Contents) (tail : List ℕ) (u : Update) (ys : List ℕ) → st ≡ Idle → t .fill + length ys ≤ length tail
     → Mode c st region hd active t tail u → Mode c Idle region hd active (moreContents t ys) (sets tail (t .fill) ys) (withAppended ys u)
-mode-more true st region hd active t tail u ys e l h = tt
+mode-more true st region hd active t tail u ys e l h =
+    let g = h .1 in
+    (h .0, record { front = g .front; count = g .count; all = all-more (g .front) tail (t .fill) ys (u .data·) l (g .all); told = g .told })
 mode-more false st region hd active t tail u ys e l h =
     let g = subst (λ (s : Stage). Mode false s region hd active t tail u) e h in
     (g .0, idle-more t tail u _ ys l (g .1))

@@ -91,7 +91,7 @@ is-header-written Committed e = absurd (false≢true e)
 fit-span : (b : Bank) (ss : List Source) → isFit b ss ≡ true → spanOk b ≡ true
 fit-span b ss f = and-left (spanOk b) (each (sourceOk b) ss) (sym (judge-is b ss) ∙ fit-passes b ss f)
 
-span-some : (b : Bank) → spanOk b ≡ true → 1 ≤ b .count
+pub span-some : (b : Bank) → spanOk b ≡ true → 1 ≤ b .count
 unfolding spanOk
 span-some b e =
     let t = leZ (pos 0) (b .checked) in
@@ -106,10 +106,10 @@ module _ (region : List ℕ) (hd : Loaded) (w : Writer) (u : Update) (o : Open r
   pub records-is : recordsOf u ≡ recordsFor w
   records-is = ap (λ (x : List ℕ). recordsAfter x [] 0 0 (u .notes)) (sym (append-nil (u .data·))) ∙ o .tied .noted .records []
 
-  length-records : length (recordsFor w) ≡ w .tables .count
+  pub length-records : length (recordsFor w) ≡ w .tables .count
   length-records = length-take-le (w .tables .count) (w .sources) (omega (arith, o .tied .noted .sources, count-fits (position (w .contents)) (w .tables) (own .tables)))
 
-  routes-is : 1 ≤ w .tables .count → routesOffset (recordsFor w) ≡ routesOffset (w .sources)
+  pub routes-is : 1 ≤ w .tables .count → routesOffset (recordsFor w) ≡ routesOffset (w .sources)
   routes-is h = ap (λ (s : Source). getD (s .tables) 0 noBlock .offset) (getD-take (w .tables .count) (w .sources) 0 pastEnd (omega arith))
 
   module _ (stamp : Stamp) (z : w .contents .fill ≡ 0) (c : 1 ≤ w .tables .count) where

@@ -38,6 +38,7 @@ use Rattle.powerloss.proofs.Inv.{Kept, Live, Laid, Lies, LiveAt, Mode, 
 use Rattle.powerloss.proofs.Laid.{later-unmarked, bare-erase, laid-erase, laid-write}
 use Rattle.powerloss.proofs.Range.{range-of, tail-aligned, due-fill, empty-contents, empty-idle, write-ok, data-ok, due-ok, due-of, erase-mode, write-at, erase-data, tables-later}
 use Rattle.powerloss.proofs.Quiet.{data-lies}
+use Rattle.powerloss.proofs.Compared.{tail-compared}
 
 -- what operations on bank n leave, all of them or the first ones
 pub record Carried (ops : List Op) (n : ℕ) (region : List ℕ) (hd : Loaded) (rs : List Source) (im : Image) (w : Writer) (u : Update) : Type 0 where
@@ -201,12 +202,18 @@ module _ (region : List ℕ) (hd : Loaded) (rs : List Source) (im : Image) (w : 
         inr (subst (Laid 0 sectorSize (t .written + t .fill) 0 (w .tail) (u .data·)) (sym (bank-at region hd a rs im k (m .0) op)) h, omega arith),
       )))
 
-  compare-tail : (i n : ℕ) (c : Bool) → w .beginning .comparing ≡ c → w .stage ≡ Due (Compare i n) → (d : Bool) → Carried [] (target (w .beginning .active)) region hd rs im (withEmptied w d) u
-  compare-tail i n false c f d = absurd (seen false (Due (Compare i n)) c f .1)
-  compare-tail i n true c f d =
-      let q = due-ok (w .beginning .comparing) (w .contents) (Compare i n) (stage-is (Due (Compare i n)) f) in
-      no-ops (target (w .beginning .active)) region hd rs im (withEmptied w d) u k
-      (empty region d (q .0) (subst (λ (x : Bool). Mode x Idle region hd (w .beginning .active) (emptied (w .contents) d) (w .tail) u) (sym c) tt))
+  compare-tail : (i n : ℕ) (c : Bool) → w .beginning .comparing ≡ c → w .stage ≡ Due (Compare i n)
+      → Carried [] (target (w .beginning .active)) region hd rs im (withEmptied w (w .contents .different || differs region (w .beginning .active) (w .contents) (w .tail))) u
+  compare-tail i n false c f = absurd (seen false (Due (Compare i n)) c f .1)
+  compare-tail i n true c f =
+      let t = w .contents in
+      let a = w .beginning .active in
+      let d = t .different || differs region a t (w .tail) in
+      let q = due-ok (w .beginning .comparing) t (Compare i n) (stage-is (Due (Compare i n)) f) in
+      let m = seen true (Due (Compare i n)) c f in
+      let g = tail-compared region a t (w .tail) (u .data·) (k .size) (own .active) (position-fits t (own .contents)) (omega (arith, fill-fits t (own .contents), o .tied .tailed .length·)) (m .1) in
+      no-ops (target a) region hd rs im (withEmptied w d) u k
+      (empty region d (q .0) (subst (λ (x : Bool). Mode x Idle region hd a (emptied t d) (w .tail) u) (sym c) (m .0, g)))
 
   write-mode : (c : Bool) (s : Contents) (i n : ℕ) → operationOk c s (Write i n) ≡ true → c ≡ false
   unfolding operationOk
@@ -224,7 +231,7 @@ module _ (region : List ℕ) (hd : Loaded) (rs : List Source) (im : Image) (w : 
       let g : w .stage ≡ Due (Write (w .contents .written) (w .contents .fill)) = f ∙ (λ j. Due (Write (e .0 j) (e .1 j))) in
       subst (λ (ops : List Op). Carried ops (target (w .beginning .active)) region hd rs im (withEmptied w (w .contents .different)) u)
       (λ j. write (sectorSize + sym (e .0) j) (padded (take (sym (e .1) j) (w .tail))) ∷ []) (write-tail c g)
-  operation (Compare i n) f = compare-tail i n (w .beginning .comparing) refl f (w .contents .different || differs region (w .beginning .active) (w .contents) (w .tail))
+  operation (Compare i n) f = compare-tail i n (w .beginning .comparing) refl f
 
   on-stage : (st : Stage) → w .stage ≡ st → Carried (opsOf (w .tail) st) (target (w .beginning .active)) region hd rs im (stepOf region w st .writer) u
   on-stage Idle f = no-ops (target (w .beginning .active)) region hd rs im w u k o

@@ -1,5 +1,6 @@
 -- The invariant: what holds between region, state and history between two calls. Load gives the bank held; the state is what the history
--- notes; and the bytes are in the bank as the stage says. An operation that leaves the written bank unmarked keeps the held one.
+-- notes; and the bytes are in the bank as the stage says, or, in comparing mode, `different` says how they compare with the active bank's.
+-- An operation that leaves the written bank unmarked keeps the held one.
 use mathlib.Core.Path.{_≡_, refl, ap, _∙_}
 use mathlib.Core.Bool.{Bool, true, false}
 use mathlib.Core.Logic.{_⊎_}
@@ -16,8 +17,9 @@ use Rattle.record.specs.declared.Source.{Source}
 use Rattle.base.specs.Lists.{fill}
 use Rattle.record.specs.Types.{All}
 use Rattle.refusal.specs.declared.Refusal.the-variants.{Mark}
+use Rattle.header.specs.declared.Bank.{Bank}
 use Rattle.header.specs.declared.Validated.{Validated}
-use Rattle.region.specs.Region.{regionSize, sectorSize, bankOf}
+use Rattle.region.specs.Region.{regionSize, sectorSize, bankOf, dataOf}
 use Rattle.header.specs.Header.{marked}
 use Rattle.header.specs.WriteHeader.{headerBytes, blankWord, isFit}
 use Rattle.header.specs.Types.{Bytes, Proper, Numbers}
@@ -136,9 +138,29 @@ LiveAt Idle region hd active = Live region hd active
 LiveAt (Due o) region hd active = Live region hd active
 LiveAt HeaderWritten region hd active = Live region hd active
 
--- in writing mode; comparing does nothing to the region
+-- ---- which bytes were compared
+
+-- these bytes are the first ones of the bank's data
+pub record Begins (region : List ℕ) (b : Bank) (xs : List ℕ) : Type 0 where
+  pub fits : length xs ≤ b .length
+  pub same : dataOf (bankOf region (b .number)) (length xs) ≡ xs
+
+-- `different` is false exactly while the active bank's data begin with the bytes compared
+abbrev pub Told : List ℕ → Loaded → List ℕ → Bool → Type 0
+Told region (Found b) xs d = (d ≡ false → Begins region b xs) × (Begins region b xs → d ≡ false)
+Told region Nothing xs d = Unit {0}
+Told region (NotRead r) xs d = Unit {0}
+
+-- the bytes compared, front, are the first `written` ones of the update; the others are in the tail
+pub record Compared (region : List ℕ) (active : Loaded) (wr fl : ℕ) (different : Bool) (tail d : List ℕ) : Type 0 where
+  pub front : List ℕ
+  pub count : length front ≡ wr
+  pub all : d ≡ front ++ take fl tail
+  pub told : Told region active front different
+
+-- comparing does nothing to the region
 abbrev pub Mode : Bool → Stage → List ℕ → Loaded → Loaded → Contents → List ℕ → Update → Type 0
-Mode true st region hd active t tail u = Unit {0}
+Mode true st region hd active t tail u = (active ≡ hd) × Compared region active (t .written) (t .fill) (t .different) tail (u .data·)
 Mode false st region hd active t tail u = LiveAt st region hd active × Lies st t tail u (bankOf region (target active))
 
 pub record Open (region : List ℕ) (hd : Loaded) (w : Writer) (u : Update) : Type 0 where

@@ -5,6 +5,7 @@ pub mod Records
 pub mod Inv
 pub mod Laid
 pub mod Range
+pub mod Compared
 pub mod Quiet
 pub mod AppendBytes
 pub mod Dues
@@ -15,6 +16,7 @@ pub mod Runs
 pub mod Appends
 pub mod Uppers
 pub mod States
+pub mod Unchanged
 pub mod Computed
 pub mod NothingDue
 pub mod Exactly

@@ -47,6 +47,7 @@ use Rattle.powerloss.proofs.Inv.{Kept, Mode, Open, State}
 use Rattle.powerloss.proofs.Range.{range-of, tables-none}
 use Rattle.powerloss.proofs.Quiet.{on-source, on-table, on-end, on-unchanged}
 use Rattle.powerloss.proofs.AppendBytes.{on-bytes, on-close}
+use Rattle.powerloss.proofs.Compared.{none-compared}
 use Rattle.powerloss.proofs.Dues.{Carried, no-ops, on-due}
 use Rattle.powerloss.proofs.Commits.{is-header-written, on-commit, word-kept, word-torn, word-open}
 use Rattle.header.specs.Header.{maxSources, commitOffset}
@@ -208,7 +209,7 @@ inv-cut c i j region (some w) hd rs (some u) im p h = inv-lower-cut region hd rs
 begin-mode : (c : Bool) (region : List ℕ) (hd : Loaded) (now : ℤ) → length region ≡ regionSize → loaded region ≡ hd
     → Mode c (started hd c now .stage) region hd (started hd c now .beginning .active) (started hd c now .contents) (started hd c now .tail) (withAppended [] (opened hd now))
 unfolding started opened
-begin-mode true region hd now l e = tt
+begin-mode true region hd now l e = (refl, record { front = []; count = refl; all = refl; told = none-compared region hd })
 begin-mode false region hd now l e = (record { active = refl; other = other-held region hd l e }, inl (record { written = refl; all = refl }))
 
 begin-open : (region : List ℕ) (hd : Loaded) (c : Bool) (now : ℤ) → SFits w64 now → length region ≡ regionSize → loaded region ≡ hd → activeOk hd ≡ true

@@ -151,7 +151,7 @@ module _ (t : Contents) (tail : List ℕ) (u : Update) (b : List ℕ) (m : t .wr
 pub mode-stage : (c : Bool) (region : List ℕ) (hd active : Loaded) (t : Contents) (tail : List ℕ) (u : Update) → t .written % tailSize ≡ 0 → Mode c Idle region hd active t tail u
     → Mode c (stageOf c t) region hd active t tail u
 unfolding stageOf
-mode-stage true region hd active t tail u m h = tt
+mode-stage true region hd active t tail u m h = h
 mode-stage false region hd active t tail u m h = stage-lies t tail u _ m region hd active (h .0) (h .1) (isDue t)
 
 pub withAppended-nil : (u : Update) → withAppended [] u ≡ u

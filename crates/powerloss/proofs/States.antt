@@ -24,11 +24,11 @@ use Rattle.powerloss.proofs.Runs.{AllPlain, ran}
 use Rattle.powerloss.proofs.Appends.{three}
 use Rattle.powerloss.proofs.Uppers.{plain-append, plain-dues, plain-lower, bytes-appended, inv-found, inv-all}
 
-abbrev isState : Option Writer → Bool
+abbrev pub isState : Option Writer → Bool
 isState none = false
 isState (some w) = true
 
-abbrev stateOr : Writer → Option Writer → Writer
+abbrev pub stateOr : Writer → Option Writer → Writer
 stateOr d none = d
 stateOr d (some w) = w
 

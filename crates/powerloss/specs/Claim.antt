@@ -6,8 +6,9 @@
 --   and its data are the bytes that the update appended, in order.
 use mathlib.Core.Path.{_≡_}
 use mathlib.Core.Bool.{Bool, true, false}
-use mathlib.Core.List.{List, [], _∷_, _++_}
+use mathlib.Core.List.{List, [], _∷_, _++_, map}
 use mathlib.Core.Option.{Option, none, some}
+use mathlib.Core.Logic.{_⊎_}
 use Prim.Native.Nat.{ℕ, _+_, _≤_, _<_}
 use lib.Dec.{leb}
 use lib.IntN.{ℤ}
@@ -15,17 +16,25 @@ use lib.ListN.{length, take}
 use mir.Syntax.{w64}
 use mir.Val.{SFits}
 use Rattle.base.specs.Number.{pick}
+use Rattle.bank.specs.declared.Loaded.{Loaded}
+use Rattle.bank.specs.declared.Loaded.the-variants.{Found, Nothing, Refused as NotRead}
 use Rattle.bank.specs.Bank.{loaded}
 use Rattle.region.specs.Region.{regionSize, lastBank, dataOf}
+use Rattle.record.specs.declared.Block.{Block}
+use Rattle.record.specs.declared.Source.{Source}
+use Rattle.header.specs.declared.Bank.{Bank}
 use Rattle.header.specs.Types.{Bytes, Proper}
 use Rattle.flash.specs.Flash.{Op, size, torn, applied, performed}
 use Rattle.writer.specs.declared.Writer.{Writer}
-use Rattle.writer.specs.declared.Answer.the-variants.{Done}
-use Rattle.writer.specs.State.{target, inRange, isDue}
+use Rattle.writer.specs.declared.Answer.the-variants.{Done, Same, Different}
+use Rattle.writer.specs.State.{target, keyLength, inRange, isDue}
 use Rattle.commit.specs.declared.Stamp.{Stamp}
 use Rattle.commit.specs.declared.Stamp.the-variants.{Given, Missing}
+use Rattle.commit.specs.Commit.{routesOffset}
+use Rattle.commit.specs.Unchanged.{mayAsk, unchangedStep}
 use Rattle.run.specs.Run.{Lower, source, table, bytes, end, close, due, unchanged, commit, word, lowerOps}
 use Rattle.upper.specs.Upper.{Upper, sourceWithDates, tableWithNames, row, tableEnd, closing, upperStep, upperOps, beginOps}
+use Rattle.powerloss.specs.History.{Update, recordsOf}
 use Rattle.powerloss.specs.Machine.{cutAt, doneAt, Event, begin, beginCut, call, cut, beginKey, beginKeyCut, upper, upperCut, Run, bankIn, recordsIn, found, next, nextAll}
 
 -- What the types of the region and the arguments say: bytes are below 256, a record's fields have their widths, times have 64 bits.
@@ -136,6 +145,40 @@ pub record Between : Type 0 where
   pub region : (n k : ℕ) (ops : List Op) (region : List ℕ) → n ≤ lastBank → length region ≡ regionSize → cutAt n k 0 ops region ≡ performed n (take k ops) region
   pub number : (k : ℕ) (ops : List Op) → Sized ops → doneAt k 0 ops ≡ length (take k ops)
 
+-- `unchanged`: "yes exactly when there is an active bank with these data, count, key length, dates and blocks".
+-- "These" are the open update's, as the history has them. The active bank is the one held, and `bank` its 491,520 bytes.
+
+-- what is compared of a record: its two dates and its eight blocks
+abbrev pub datesAndBlocks : Source → ℕ × ℕ × List Block
+datesAndBlocks s = (s .start, s .end, s .tables)
+
+pub record Equals (u : Update) (b : Bank) (bank : List ℕ) (records : List Source) : Type 0 where
+  pub data· : u .data· ≡ dataOf bank (b .length)
+  pub count : length (recordsOf u) ≡ b .count
+  pub key : keyLength (routesOffset (recordsOf u)) ≡ b .key
+  pub records· : map datesAndBlocks (recordsOf u) ≡ map datesAndBlocks records
+
+-- an update is open, there is an active bank, and they are equal
+abbrev pub EqualsActive : Option Update → Loaded → List ℕ → List Source → Type 0
+EqualsActive (some u) (Found b) bank records = Equals u b bank records
+EqualsActive (some u) Nothing bank records = ⊥
+EqualsActive (some u) (NotRead r) bank records = ⊥
+EqualsActive none held bank records = ⊥
+
+abbrev pub IsEqual : Run → Type 0
+IsEqual r = EqualsActive (r .history .open·) (r .history .held) (r .image .bank) (r .history .records)
+
+-- In order, it answers yes or no; yes only if they are equal, and no only if they aren't (proofs/Unchanged.antt: exactly).
+pub record UnchangedAt (r : Run) (w : Writer) : Type 0 where
+  pub asked : mayAsk w ≡ true → (unchangedStep (r .region) w .answer ≡ Same) ⊎ (unchangedStep (r .region) w .answer ≡ Different)
+  pub yes : unchangedStep (r .region) w .answer ≡ Same → IsEqual r
+  pub no : unchangedStep (r .region) w .answer ≡ Different → IsEqual r → ⊥
+
+abbrev pub Unchanged : Type 0
+Unchanged =
+    (region : List ℕ) (events : List Event) → length region ≡ regionSize → Bytes region → AllTyped events → (w : Writer) → nextAll (found region) events .state ≡ some w
+    → UnchangedAt (nextAll (found region) events) w
+
 -- all of them: what `demand3_holds` promises
 pub record Claims : Type 0 where
   pub survives : Demand3
@@ -145,3 +188,4 @@ pub record Claims : Type 0 where
   pub typed : CutTyped
   pub dropped : Dropped
   pub between : Between
+  pub exactly : Unchanged
