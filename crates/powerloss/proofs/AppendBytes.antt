@@ -23,17 +23,17 @@ use Rattle.writer.specs.declared.Stage.the-variants.{Idle, Due, HeaderWritten, 
 use Rattle.writer.specs.declared.Operation.the-variants.{Erase, Write, Compare}
 use Rattle.writer.specs.declared.Answer.the-variants.{Appended}
 use Rattle.writer.specs.declared.Contents.{Contents}
-use Rattle.writer.specs.declared.Tables.{Tables}
 use Rattle.writer.specs.declared.Writer.{Writer}
 use Rattle.writer.specs.declared.Step.{Step}
-use Rattle.writer.specs.State.{position, isDue, stageOf, isOpen, inRange, tablesOk, stageOk, did, stays, tailSize}
+use Rattle.writer.specs.State.{position, isDue, stageOf, isOpen, inRange, did, stays, tailSize}
 use Rattle.writer.proofs.Laws.{Ranged, ranged, fill-fits, open-table}
 use Rattle.lower.specs.Lower.{mayAppend, accepted, moreContents, withBytes, appended, bytesStep, closedContents, withClosed, closeStep}
 use Rattle.run.specs.Run.{bytes, close}
 use Rattle.powerloss.specs.History.{Update, recordsAfter, withAppended, updateAfter}
 use Rattle.powerloss.proofs.Bytes.{bytes-take, bytes-sets}
 use Rattle.powerloss.proofs.Inv.{Lies, Mode, Open}
-use Rattle.powerloss.proofs.Range.{range-of, open-aligned, contents-of, aligned-of, stage-ok, close-stage, close-contents, tables-later}
+use Rattle.powerloss.proofs.Keeps.{keeps-bytes, keeps-closed}
+use Rattle.powerloss.proofs.Range.{open-aligned}
 use Rattle.powerloss.proofs.Quiet.{only-idle, mode-stage, withAppended-nil}
 
 -- the tail once bytes are appended to what it holds
@@ -78,10 +78,6 @@ mode-more false st region hd active t tail u ys e l h =
     let g = subst (λ (s : Stage). Mode false s region hd active t tail u) e h in
     (g .0, idle-more t tail u _ ys l (g .1))
 
-tables-crc : (n : ℕ) (s : Tables) (c : ℕ) → tablesOk n s ≡ true → tablesOk n (record { count = s .count; table = s .table; start = s .start; crc = c; begun = s .begun }) ≡ true
-unfolding tablesOk
-tables-crc n s c e = e
-
 close-lies : (t : Contents) (tail : List ℕ) (u : Update) (b : List ℕ) (st : Stage) → Lies st t tail u b → Lies st (closedContents t) tail u b
 close-lies t tail u b Idle h = h
 close-lies t tail u b (Due (Erase zero)) h = h
@@ -116,10 +112,7 @@ module _ (region : List ℕ) (hd : Loaded) (w : Writer) (u : Update) (o : Open r
       record {
         tied =
             record {
-              range =
-                  range-of (withBytes w ys) (own .active) (contents-of (moreContents t ys) f (omega arith) (aligned-of (moreContents t ys) al))
-                  (tables-crc (position (moreContents t ys)) (w .tables) (crc32 (w .tables .crc) ys) (tables-later (position t) (position (moreContents t ys)) (w .tables) (omega arith) (own .tables)))
-                  (stage-ok (w .beginning .comparing) (moreContents t ys));
+              range = keeps-bytes w (o .tied .range) ys e f p;
               began = o .tied .began;
               counted =
                   record {
@@ -181,35 +174,29 @@ module _ (region : List ℕ) (hd : Loaded) (w : Writer) (u : Update) (o : Open r
 
   -- ---- closing
 
-  closing-stage : w .contents .closed ≡ false → (d : Bool) → isDue (w .contents) ≡ d
-      → (stageOk (w .beginning .comparing) (closedContents (w .contents)) (pick d (w .stage) (stageOf (w .beginning .comparing) (closedContents (w .contents)))) ≡ true)
-      × Mode (w .beginning .comparing) (pick d (w .stage) (stageOf (w .beginning .comparing) (closedContents (w .contents)))) region hd (w .beginning .active) (closedContents (w .contents)) (w .tail) u
-  closing-stage e true d =
-      let c = w .beginning .comparing in
-      (close-stage c (w .contents) (w .stage) e (own .stage) d, mode-closed c (w .stage) region hd (w .beginning .active) (w .contents) (w .tail) u (o .mode))
-  closing-stage e false d =
+  closing-mode : w .contents .closed ≡ false → (d : Bool) → isDue (w .contents) ≡ d
+      → Mode (w .beginning .comparing) (pick d (w .stage) (stageOf (w .beginning .comparing) (closedContents (w .contents)))) region hd (w .beginning .active) (closedContents (w .contents)) (w .tail) u
+  closing-mode e true d = mode-closed (w .beginning .comparing) (w .stage) region hd (w .beginning .active) (w .contents) (w .tail) u (o .mode)
+  closing-mode e false d =
       let c = w .beginning .comparing in
       let t = w .contents in
-      let st = only-idle c t (w .stage) (own .stage) e d in (
-        stage-ok c (closedContents t),
-        mode-stage c region hd (w .beginning .active) (closedContents t) (w .tail) u (open-aligned t (own .contents) e)
-            (subst (λ (s : Stage). Mode c s region hd (w .beginning .active) (closedContents t) (w .tail) u) st (mode-closed c (w .stage) region hd (w .beginning .active) t (w .tail) u (o .mode))),
-      )
+      let st = only-idle c t (w .stage) (own .stage) e d in
+      mode-stage c region hd (w .beginning .active) (closedContents t) (w .tail) u (open-aligned t (own .contents) e)
+      (subst (λ (s : Stage). Mode c s region hd (w .beginning .active) (closedContents t) (w .tail) u) st (mode-closed c (w .stage) region hd (w .beginning .active) t (w .tail) u (o .mode)))
 
   pub with-closed : w .contents .closed ≡ false → Open region hd (withClosed w) u
   unfolding withClosed
   with-closed e =
-      let c = closing-stage e (isDue (w .contents)) refl in
       record {
         tied =
             record {
-              range = range-of (withClosed w) (own .active) (close-contents (w .contents) (own .contents) e) (own .tables) (c .0);
+              range = keeps-closed w (o .tied .range) e;
               began = o .tied .began;
               counted = record { length· = o .tied .counted .length·; crc = o .tied .counted .crc };
               noted = o .tied .noted;
               tailed = o .tied .tailed;
             };
-        mode = c .1;
+        mode = closing-mode e (isDue (w .contents)) refl;
       }
 
   close-by : (a : Bool) → (mayAppend w && not (isOpen (w .tables))) ≡ a → Open region hd (pick a (did (withClosed w)) (stays w Turn) .writer) (updateAfter close (pick a (did (withClosed w)) (stays w Turn) .answer) u)

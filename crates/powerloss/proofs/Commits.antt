@@ -42,8 +42,7 @@ use Rattle.bank.specs.declared.Loaded.the-variants.{Found, Nothing, Refused as 
 use Rattle.bank.specs.Bank.{validated, dataOk, generation, orElse, loaded}
 use Rattle.flash.specs.Flash.{write, done, torn, applied}
 use Rattle.flash.proofs.Laws.{length-bank, length-applied, write-past}
-use Rattle.writer.specs.declared.Stage.{Stage}
-use Rattle.writer.specs.declared.Stage.the-variants.{Idle, Due, HeaderWritten, Committed}
+use Rattle.writer.specs.declared.Stage.the-variants.{Idle, HeaderWritten, Committed}
 use Rattle.writer.specs.declared.Writer.{Writer}
 use Rattle.writer.specs.State.{position, target, nextGeneration, keyLength, inRange, activeOk, did, stays}
 use Rattle.writer.proofs.Laws.{Ranged, ranged, position-fits, count-fits}
@@ -51,7 +50,7 @@ use Rattle.lower.specs.Lower.{pastEnd}
 use Rattle.due.specs.Due.{withStage}
 use Rattle.commit.specs.declared.Stamp.{Stamp}
 use Rattle.commit.specs.declared.Stamp.the-variants.{Given, Missing}
-use Rattle.commit.specs.Commit.{checkedTime, routesOffset, bankFor, recordsFor, isIdle, isHeaderWritten, mayCommit, isCurrent, commitStep, commitOps}
+use Rattle.commit.specs.Commit.{checkedTime, routesOffset, bankFor, recordsFor, isIdle, mayCommit, isCurrent, commitStep, commitOps}
 use Rattle.run.specs.Run.{commit}
 use Rattle.powerloss.specs.History.{Update, bankOf as bankFrom, recordsOf, recordsAfter, checks, updateAfter}
 use Rattle.powerloss.specs.Machine.{Image}
@@ -59,7 +58,8 @@ use Rattle.powerloss.specs.Claim.{StampTyped}
 use Rattle.powerloss.proofs.Load.{target-fits, then-valid, valid-generation, load-new}
 use Rattle.powerloss.proofs.Inv.{Small, Kept, Bare, Laid, Mode, Open}
 use Rattle.powerloss.proofs.Laid.{head-unmarked, header-write, word-write, header-data}
-use Rattle.powerloss.proofs.Range.{AtEnd, range-of, idle-due, closed-empty, headed-of, headed-end, committed-of}
+use Rattle.powerloss.proofs.Keeps.{is-idle, keeps-stage}
+use Rattle.powerloss.proofs.Range.{AtEnd, idle-due, closed-empty, headed-of, headed-end, committed-of}
 use Rattle.powerloss.proofs.Dues.{Carried, no-ops, one-op, kept-unmarked-at, live-at, bank-at, seen, stage-is}
 
 pub next-small : (a : Loaded) → nextGeneration a < 2 ^ 32
@@ -75,18 +75,6 @@ fits-by false s now f g = g
 checked-fits : (stamp : Stamp) (now : ℤ) → StampTyped stamp → SFits w64 now → SFits w64 (checkedTime stamp now)
 checked-fits (Given s) now f g = fits-by (leZ now s) s now f g
 checked-fits Missing now f g = g
-
-pub is-idle : (st : Stage) → isIdle st ≡ true → st ≡ Idle
-is-idle Idle e = refl
-is-idle (Due o) e = absurd (false≢true e)
-is-idle HeaderWritten e = absurd (false≢true e)
-is-idle Committed e = absurd (false≢true e)
-
-pub is-header-written : (st : Stage) → isHeaderWritten st ≡ true → st ≡ HeaderWritten
-is-header-written HeaderWritten e = refl
-is-header-written Idle e = absurd (false≢true e)
-is-header-written (Due o) e = absurd (false≢true e)
-is-header-written Committed e = absurd (false≢true e)
 
 fit-span : (b : Bank) (ss : List Source) → isFit b ss ≡ true → spanOk b ≡ true
 fit-span b ss f = and-left (spanOk b) (each (sourceOk b) ss) (sym (judge-is b ss) ∙ fit-passes b ss f)
@@ -189,13 +177,12 @@ module _ (region : List ℕ) (hd : Loaded) (rs : List Source) (im : Image) (w : 
         let bi = bank-is region hd w u o stamp z (fit-sources w stamp f) in
         let ri = records-is region hd w u o in
         let r′ = applied (target a) op region in
-        let rg = own region hd w u o in
         one-op (target a) region hd rs im (withStage w HeaderWritten) u′ k op
         (λ j. kept-unmarked-at region hd a rs im k (m .0) op j (head-unmarked 0 sectorSize (t .written) (t .fill) (w .tail) (u .data·) b h j bk ss))
         (record {
           tied =
               record {
-                range = range-of (withStage w HeaderWritten) (rg .active) (rg .contents) (rg .tables) (headed-of (w .beginning .comparing) t wr cl z);
+                range = keeps-stage w (o .tied .range) HeaderWritten (headed-of (w .beginning .comparing) t wr cl z);
                 began = o .tied .began;
                 counted = o .tied .counted;
                 noted = o .tied .noted;
@@ -381,12 +368,11 @@ module _ (region : List ℕ) (hd : Loaded) (rs : List Source) (im : Image) (w : 
 
     pub word-open : Open (applied (target (w .beginning .active)) (write commitOffset commitBytes) region) (heldNew u) (withStage w Committed) u
     word-open =
-        let rg = ranged w (o .tied .range) in
         record {
           tied =
               record {
                 range =
-                    range-of (withStage w Committed) (rg .active) (rg .contents) (rg .tables)
+                    keeps-stage w (o .tied .range) Committed
                     (committed-of (w .beginning .comparing) (w .contents) (stage-is region hd rs im w u k o HeaderWritten e));
                 began = o .tied .began;
                 counted = o .tied .counted;

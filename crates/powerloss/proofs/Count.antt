@@ -34,7 +34,8 @@ use Rattle.commit.specs.Unchanged.{mayAsk, isUnchanged, unchangedStep}
 use Rattle.run.specs.Run.{Lower, source, table, bytes, end, close, due, unchanged, commit, word, lowerStep, lowerOps}
 use Rattle.powerloss.proofs.Range.{tail-aligned, due-fill, due-ok, erase-zero, erase-data, headed-end}
 use Rattle.powerloss.proofs.Quiet.{only-idle}
-use Rattle.powerloss.proofs.Commits.{is-idle, is-header-written, fit-length}
+use Rattle.powerloss.proofs.Keeps.{is-idle, is-header-written}
+use Rattle.powerloss.proofs.Commits.{fit-length}
 use Rattle.powerloss.specs.Operations.{sectors, writes}
 use Rattle.powerloss.proofs.Exactly.{compare-ops, ops-are}
 use Rattle.header.specs.Header.{commitOffset}

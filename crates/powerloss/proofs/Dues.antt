@@ -36,7 +36,8 @@ use Rattle.powerloss.proofs.Cuts.{cut-none, cut-inside, cut-after}
 use Rattle.powerloss.proofs.Load.{target-fits}
 use Rattle.powerloss.proofs.Inv.{Kept, Live, Laid, Lies, LiveAt, Mode, Open, kept-unmarked, live-after}
 use Rattle.powerloss.proofs.Laid.{later-unmarked, bare-erase, laid-erase, laid-write}
-use Rattle.powerloss.proofs.Range.{range-of, tail-aligned, due-fill, empty-contents, empty-idle, write-ok, data-ok, due-ok, due-of, erase-mode, write-at, erase-data, tables-later}
+use Rattle.powerloss.proofs.Keeps.{keeps-stage, keeps-emptied}
+use Rattle.powerloss.proofs.Range.{tail-aligned, due-fill, write-ok, data-ok, due-ok, due-of, erase-mode, write-at, erase-data}
 use Rattle.powerloss.proofs.Quiet.{data-lies}
 use Rattle.powerloss.proofs.Compared.{tail-compared}
 
@@ -97,7 +98,7 @@ module _ (region : List ℕ) (hd : Loaded) (rs : List Source) (im : Image) (w : 
       record {
         tied =
             record {
-              range = range-of (withStage w st) (own .active) (own .contents) (own .tables) (ap (λ (x : Bool). stageOk x (w .contents) st) c ∙ s);
+              range = keeps-stage w (o .tied .range) st (ap (λ (x : Bool). stageOk x (w .contents) st) c ∙ s);
               began = o .tied .began;
               counted = o .tied .counted;
               noted = o .tied .noted;
@@ -113,10 +114,7 @@ module _ (region : List ℕ) (hd : Loaded) (rs : List Source) (im : Image) (w : 
       record {
         tied =
             record {
-              range =
-                  range-of (withEmptied w d) (own .active) (empty-contents (w .contents) d (own .contents) e)
-                  (tables-later (position (w .contents)) (position (emptied (w .contents) d)) (w .tables) (omega arith) (own .tables))
-                  (empty-idle (w .contents) d (w .beginning .comparing));
+              range = keeps-emptied w (o .tied .range) d e;
               began = o .tied .began;
               counted = record { length· = o .tied .counted .length· ∙ omega arith; crc = o .tied .counted .crc };
               noted = o .tied .noted;

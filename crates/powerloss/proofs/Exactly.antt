@@ -24,10 +24,11 @@ use Rattle.due.specs.Due.{opsOf, dueOps, stepOf, dueStep}
 use Rattle.powerloss.specs.History.{isDone}
 use Rattle.powerloss.specs.Machine.{found, nextAll}
 use Rattle.powerloss.proofs.Range.{or-true, true-false, due-ok, headed-end, committed-end, idle-due}
-use Rattle.powerloss.proofs.Appends.{empty-due}
+use Rattle.powerloss.proofs.Answers.{empty-due}
 use Rattle.powerloss.proofs.Uppers.{inv-found, inv-all}
 use Rattle.powerloss.proofs.States.{reached}
-use Rattle.powerloss.specs.Operations.{Unwritten, Exactly, DueExactly}
+use Rattle.powerloss.specs.Ranges.{Unwritten, Exactly, DueInRange}
+use Rattle.powerloss.specs.Operations.{DueExactly}
 
 -- ---- the condition as a test
 
@@ -116,8 +117,11 @@ module _ (region : List ℕ) (w : Writer) (l : length region ≡ regionSize) (r 
         compares = λ c. ops-are ∙ compare-ops (w .contents) (w .tail) (w .stage) (ok-in true c);
       }
 
-pub due-exactly : DueExactly
-due-exactly region events l y p w e =
+pub due-exactly : DueInRange
+due-exactly = exactly
+
+pub reached-exactly : DueExactly
+reached-exactly region events l y p w e =
     let r = nextAll (found region) events in
     let h = inv-all events (found region) p (inv-found region l y) in
     exactly (r .region) w (h .kept .size) (reached region events l y p w e)

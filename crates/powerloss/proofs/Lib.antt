@@ -5,6 +5,8 @@ pub mod Records
 pub mod Inv
 pub mod Laid
 pub mod Range
+pub mod Keeps
+pub mod Answers
 pub mod Compared
 pub mod Quiet
 pub mod AppendBytes
@@ -18,7 +20,6 @@ pub mod Uppers
 pub mod States
 pub mod Unchanged
 pub mod Computed
-pub mod NothingDue
 pub mod Exactly
 pub mod Count
 pub mod Events

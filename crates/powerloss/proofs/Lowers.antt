@@ -49,7 +49,8 @@ use Rattle.powerloss.proofs.Quiet.{on-source, on-table, on-end, on-unch
 use Rattle.powerloss.proofs.AppendBytes.{on-bytes, on-close}
 use Rattle.powerloss.proofs.Compared.{none-compared}
 use Rattle.powerloss.proofs.Dues.{Carried, no-ops, on-due}
-use Rattle.powerloss.proofs.Commits.{is-header-written, on-commit, word-kept, word-torn, word-open}
+use Rattle.powerloss.proofs.Keeps.{is-header-written}
+use Rattle.powerloss.proofs.Commits.{on-commit, word-kept, word-torn, word-open}
 use Rattle.header.specs.Header.{maxSources, commitOffset}
 
 -- a lower call that isn't the commit word

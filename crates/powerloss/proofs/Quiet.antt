@@ -31,7 +31,7 @@ use Rattle.writer.specs.declared.Stage.the-variants.{Idle, Due, HeaderWritten, 
 use Rattle.writer.specs.declared.Answer.the-variants.{Same, Different}
 use Rattle.writer.specs.declared.Contents.{Contents}
 use Rattle.writer.specs.declared.Writer.{Writer}
-use Rattle.writer.specs.State.{position, isDue, writeDue, dataDue, firstDue, stageOf, isOpen, noTable, inRange, stageOk, did, stays, tailSize}
+use Rattle.writer.specs.State.{position, isDue, writeDue, dataDue, firstDue, stageOf, isOpen, inRange, stageOk, did, stays, tailSize}
 use Rattle.writer.proofs.Laws.{Ranged, ranged, position-fits, count-fits, open-table}
 use Rattle.lower.specs.Lower.{mayAppend, mayBegin, emptied, pastEnd, withBlock, blockOf, withSource, sourceStep, withTable, tableStep, withEnd, endStep}
 use Rattle.commit.specs.Unchanged.{unchangedStep, mayAsk, isUnchanged}
@@ -39,7 +39,8 @@ use Rattle.run.specs.Run.{source, table, end, unchanged}
 use Rattle.powerloss.specs.History.{Note, sourceNote, tableNote, endNote, Update, blockBetween, lastWith, recordsAfter, withAppended, notesOf, updateAfter}
 use Rattle.powerloss.proofs.Records.{table-append, from-append, records-source, records-table, records-end, block-is, more-sources, last-source, all-append, all-set, all-at}
 use Rattle.powerloss.proofs.Inv.{Live, Laid, Lies, LiveAt, Mode, Open}
-use Rattle.powerloss.proofs.Range.{range-of, true-false, due-ok, headed-end, committed-end, tables-none, tables-open}
+use Rattle.powerloss.proofs.Keeps.{keeps-source, keeps-table, keeps-end}
+use Rattle.powerloss.proofs.Range.{true-false, due-ok, headed-end, committed-end}
 use Rattle.base.specs.Table.{maxTables}
 use Rattle.header.specs.Header.{maxSources}
 
@@ -180,10 +181,7 @@ module _ (region : List ℕ) (hd : Loaded) (w : Writer) (u : Update) (o : Open r
       record {
         tied =
             record {
-              range =
-                  range-of (withSource w s) (own .active) (own .contents)
-                  (tables-none (position (w .contents)) (record { count = w .tables .count + 1; table = noTable; start = w .tables .start; crc = w .tables .crc; begun = 0 }) (omega arith) refl)
-                  (own .stage);
+              range = keeps-source w (o .tied .range) s h;
               began = o .tied .began;
               counted = o .tied .counted;
               noted =
@@ -221,10 +219,7 @@ module _ (region : List ℕ) (hd : Loaded) (w : Writer) (u : Update) (o : Open r
       record {
         tied =
             record {
-              range =
-                  range-of (withTable w t) (own .active) (own .contents)
-                  (tables-open (position (w .contents)) (withTable w t .tables) count-small h c (omega arith))
-                  (own .stage);
+              range = keeps-table w (o .tied .range) t h c;
               began = o .tied .began;
               counted = o .tied .counted;
               noted =
@@ -298,8 +293,7 @@ module _ (region : List ℕ) (hd : Loaded) (w : Writer) (u : Update) (o : Open r
       record {
         tied =
             record {
-              range =
-                  range-of (withEnd w) (own .active) (own .contents) (tables-none (position (w .contents)) (withEnd w .tables) count-small refl) (own .stage);
+              range = keeps-end w (o .tied .range);
               began = o .tied .began;
               counted = o .tied .counted;
               noted =

@@ -11,7 +11,7 @@ use native.Mathlib.Omega.{arith}
 use borrow.Author.Tests.{eq-eqb, eqb-true, not-true}
 use lib.Dec.{eqb, ltb}
 use lib.ListN.{length, take, drop, length-append, length-drop}
-use lib.Seq.{length-take-le, take-all}
+use lib.Seq.{length-take-le}
 use Rattle.base.specs.Number.{pick}
 use Rattle.base.specs.Lists.{many, fill}
 use Rattle.base.proofs.Bools.{and-left, and-right}
@@ -20,7 +20,7 @@ use Rattle.record.specs.declared.Block.{Block}
 use Rattle.record.specs.declared.Source.{Source}
 use Rattle.record.specs.Record.{noBlock, blockAt, tableCount, sourceSize, sourceOf, decoded}
 use Rattle.record.specs.Types.{All}
-use Rattle.region.specs.Region.{regionSize, bankSize, sectorSize, bankOf, dataOf}
+use Rattle.region.specs.Region.{regionSize, sectorSize, bankOf, dataOf}
 use Rattle.refusal.specs.declared.Refusal.the-variants.{Turn}
 use Rattle.header.specs.declared.Bank.{Bank}
 use Rattle.header.specs.Header as Header
@@ -39,13 +39,14 @@ use Rattle.writer.specs.State.{keyLength, inRange, stays}
 use Rattle.commit.specs.Commit.{isIdle, routesOffset, recordsFor}
 use Rattle.commit.specs.Unchanged.{sameBlock, sameEach, sameSource, sameBank, isUnchanged, mayAsk, unchangedStep}
 use Rattle.powerloss.specs.History.{Update, recordsOf}
-use Rattle.powerloss.specs.Machine.{Image, Run, nextAll, found}
+use Rattle.powerloss.specs.Machine.{Image, nextAll, found}
 use Rattle.powerloss.specs.Claim.{datesAndBlocks, Equals, EqualsActive, UnchangedAt, Unchanged}
 use Rattle.powerloss.proofs.Load.{Own, load-own, passes-header}
 use Rattle.powerloss.proofs.Inv.{Kept, Begins, Compared, Open, State}
 use Rattle.powerloss.proofs.Range.{idle-due, closed-empty}
 use Rattle.powerloss.proofs.Dues.{seen, stage-is}
-use Rattle.powerloss.proofs.Commits.{is-idle, span-some, records-is, length-records, routes-is}
+use Rattle.powerloss.proofs.Keeps.{is-idle}
+use Rattle.powerloss.proofs.Commits.{span-some, records-is, length-records, routes-is}
 use Rattle.powerloss.proofs.Lowers.{mk}
 use Rattle.powerloss.proofs.Uppers.{inv-found, inv-all}
 use Rattle.powerloss.proofs.States.{isState, stateOr}

@@ -1,23 +1,19 @@
 -- Every upper call, answered or cut, keeps the invariant, and so does every list of events: demand 3. An accepted call's run is a run of
 -- lower calls that appends all of its bytes, so the history's note of the call and those of its run agree.
 use mathlib.Core.Path.{_≡_, refl, sym, ap, _∙_, subst}
-use mathlib.Core.Bool.{Bool, true, false, not, false≢true}
+use mathlib.Core.Bool.{Bool, true, false, not}
 use mathlib.Core.Option.{Option, none, some}
 use mathlib.Core.List.{List, [], _∷_, _++_}
 use Prim.Native.Nat.{ℕ, suc, _+_, _*_, _^_, _≤_, _<_}
 use native.Mathlib.Omega.{arith}
-use borrow.Author.Tests.{leb-true, ltb-true, not-true}
-use lib.Dec.{leb, ltb, eqb}
+use borrow.Author.Tests.{leb-true, ltb-true}
+use lib.Dec.{leb, ltb}
 use lib.IntN.{ℤ}
 use lib.ListN.{length, take, drop}
 use mir.Syntax.{w64}
 use mir.Val.{SFits}
-use Rattle.base.specs.Number.{pick}
 use Rattle.leaf.proofs.Laws.{word-lt}
 use Rattle.refusal.specs.declared.Refusal.{Refusal}
-use Rattle.refusal.specs.declared.Refusal.the-variants.{Region, Argument, Identity, Full, Turn, Row}
-use Rattle.key.specs.Layout as Key
-use Rattle.key.proofs.Longest.{longest}
 use Rattle.record.specs.declared.Source.{Source}
 use Rattle.region.specs.Region.{regionSize, capacity, bankOf, bankSize}
 use Rattle.base.proofs.Bools.{and-left, and-right}
@@ -30,13 +26,13 @@ use Rattle.writer.specs.declared.Answer.the-variants.{Done}
 use Rattle.writer.specs.declared.Writer.{Writer}
 use Rattle.writer.specs.declared.Tables.{Tables}
 use Rattle.writer.specs.declared.Step.{Step}
-use Rattle.writer.specs.State.{position, isOpen, isDue, target, inRange, did}
+use Rattle.writer.specs.State.{position, isOpen, isDue, target, did}
 use Rattle.writer.proofs.Laws.{ranged, position-fits}
 use Rattle.lower.specs.Lower.{mayAppend, mayBegin, started, answerOf, withSource, sourceStep, withTable, tableStep, withEnd, endStep, withClosed, closeStep}
 use Rattle.lower.proofs.Laws.{source-done, table-done, end-done, close-done}
 use Rattle.run.specs.Run.{Lower, source, table, end, close, lowerStep, lowerOps, ranWriter, ranRegion, ranOps}
 use Rattle.run.specs.Appends.{dues, appends}
-use Rattle.upper.specs.Upper.{Upper, sourceWithDates, tableWithNames, row, tableEnd, closing, appendedBytes, lowerOf, runOf, argumentOk, orderOk, rowOk, sourceFits, allFits, refusalOf, runIf, upperRun, answered, upperStep, upperRegion, upperOps, beginRefusal, keyBytes, beginRun, beganWith, beginStep, beginRegion, beginOps}
+use Rattle.upper.specs.Upper.{Upper, sourceWithDates, tableWithNames, row, tableEnd, closing, appendedBytes, lowerOf, runOf, refusalOf, runIf, upperRun, answered, upperStep, upperRegion, upperOps, beginRefusal, keyBytes, beginRun, beganWith, beginStep, beginRegion, beginOps}
 use Rattle.powerloss.specs.History.{Update, sourceNote, tableNote, endNote, opened, withAppended, notesOf, updateAfter, upperNoted, upperAfter, afterUpper, afterBegin}
 use Rattle.powerloss.specs.Machine.{cutAt, Image, Run, Event, begin, beginCut, call, cut, beginKey, beginKeyCut, upper, upperCut, onUpper, onUpperCut, stateAfter, next, nextAll, found}
 use Rattle.powerloss.specs.Claim.{UpperTyped, Typed, AllTyped, Demand3}
@@ -47,7 +43,8 @@ use Rattle.powerloss.proofs.Quiet.{withAppended-nil, with-source, with-
 use Rattle.powerloss.proofs.Lowers.{Inv, mk, inv-call, inv-cut, inv-begin, begun-open}
 use Rattle.powerloss.proofs.Texts.{bytes-dates, bytes-names, bytes-row, bytes-key}
 use Rattle.powerloss.proofs.Runs.{ranUpdate, AllPlain, Ran, ran}
-use Rattle.powerloss.proofs.Appends.{Now, regionThree, writerThree, Three, three, dues-update, may-append, appends-update, dues-appends}
+use Rattle.powerloss.proofs.Answers.{regionThree, writerThree, may-append, Accepted, accepted-by, open-of, fits-of, key-fits}
+use Rattle.powerloss.proofs.Appends.{Now, Three, three, dues-update, appends-update, dues-appends}
 use Rattle.header.specs.Header.{maxSources}
 
 pub bytes-appended : (c : Upper) → UpperTyped c → Bytes (appendedBytes c)
@@ -106,7 +103,7 @@ module _ (hd : Loaded) (rs : List Source) (im : Image) (region : List ℕ) (w : 
   -- the lower call of the same name, what is due, and the bytes
   module _ (e : w .contents .closed ≡ false) where
     may : mayAppend w ≡ true
-    may = may-append hd region w u (h .open·) e
+    may = may-append w (h .open· .tied .range) e
 
     source-run : (s : Source) (xs : List ℕ) → Proper s → not (isOpen (w .tables)) ≡ true → w .tables .count < maxSources → position (w .contents) + length xs ≤ capacity → Bytes xs
         → ranUpdate region w (source s ∷ (dues ++ appends xs)) u ≡ withAppended xs (notesOf (sourceNote s) u)
@@ -142,80 +139,46 @@ module _ (hd : Loaded) (rs : List Source) (im : Image) (region : List ℕ) (w : 
 
 -- ---- the run of an accepted call appends all of its bytes and has the call's own note
 
-record Accepted (w : Writer) (c : Upper) : Type 0 where
-  argument : argumentOk c ≡ true
-  order : orderOk w c ≡ true
-  fits : allFits w c ≡ true
-
-abbrev isSome : Option Refusal → Bool
-isSome none = false
-isSome (some r) = true
-
-pick-none : (t : Bool) (x : Option Refusal) (r : Refusal) → pick t x (some r) ≡ none → (t ≡ true) × (x ≡ none)
-pick-none true x r e = (refl, e)
-pick-none false x r e = absurd (false≢true (sym (ap isSome e)))
-
-accepted : (region : List ℕ) (w : Writer) (c : Upper) → refusalOf region w c ≡ none → Accepted w c
-unfolding refusalOf
-accepted region w c e =
-    let f = pick-none (allFits w c) none Full in
-    let d = pick-none (rowOk w c) (pick (allFits w c) none (some Full)) Row in
-    let b = pick-none (orderOk w c) (pick (rowOk w c) (pick (allFits w c) none (some Full)) (some Row)) Turn in
-    let a = pick-none (argumentOk c) (pick (orderOk w c) (pick (rowOk w c) (pick (allFits w c) none (some Full)) (some Row)) (some Turn)) Argument in
-    let z = pick-none (eqb (length region) regionSize)
-    (pick (argumentOk c) (pick (orderOk w c) (pick (rowOk w c) (pick (allFits w c) none (some Full)) (some Row)) (some Turn)) (some Argument)) Region e in
-    let za = a (z .1) in
-    let zb = b (za .1) in
-    let zd = d (zb .1) in
-    let zf = f (zd .1) in
-    record { argument = za .0; order = zb .0; fits = zf .0 }
-
 module _ (hd : Loaded) (rs : List Source) (im : Image) (region : List ℕ) (w : Writer) (u : Update) (h : Now hd rs im region w u) where
   t3 : Three hd rs im region w u
   t3 = three hd rs im region w u h
 
-  open-of : mayAppend w ≡ true → w .contents .closed ≡ false
-  open-of m = not-true (w .contents .closed) (and-right (inRange w) (not (w .contents .closed)) m)
-
-  fits-of : (c : Upper) → allFits w c ≡ true → position (writerThree region w .contents) + length (appendedBytes c) ≤ capacity
-  fits-of c e = omega (arith, t3 .position·, leb-true (position (w .contents) + length (appendedBytes c)) capacity (and-right (sourceFits w c) (leb (position (w .contents) + length (appendedBytes c)) capacity) e))
-
-  run-update : (c : Upper) → UpperTyped c → Accepted w c → ranUpdate region w (runOf c) u ≡ withAppended (appendedBytes c) (upperNoted c u)
+  run-update : (c : Upper) → UpperTyped c → Accepted region w c → ranUpdate region w (runOf c) u ≡ withAppended (appendedBytes c) (upperNoted c u)
   unfolding runOf
   run-update (sourceWithDates s) p a =
       let m = and-left (mayAppend w) (not (isOpen (w .tables))) (a .order) in
       let n = and-right (mayAppend w) (not (isOpen (w .tables))) (a .order) in
       let c = sourceWithDates s in
       dues-update region w (source s ∷ (dues ++ appends (appendedBytes c))) u
-      ∙ source-run hd rs im (regionThree region w) (writerThree region w) u (t3 .now) (t3 .closed ∙ open-of m) s (appendedBytes c) p
-      (subst (λ (x : Tables). not (isOpen x) ≡ true) (sym (t3 .tables)) n)
-      (subst (λ (x : Tables). x .count < maxSources) (sym (t3 .tables)) (ltb-true (w .tables .count) 3 (and-left (ltb (w .tables .count) 3) (leb (position (w .contents) + length (appendedBytes c)) capacity) (a .fits))))
-      (fits-of c (a .fits)) (bytes-appended c p)
+      ∙ source-run hd rs im (regionThree region w) (writerThree region w) u (t3 .now) (t3 .after .closed ∙ open-of region w c a) s (appendedBytes c) p
+      (subst (λ (x : Tables). not (isOpen x) ≡ true) (sym (t3 .after .tables)) n)
+      (subst (λ (x : Tables). x .count < maxSources) (sym (t3 .after .tables)) (ltb-true (w .tables .count) 3 (and-left (ltb (w .tables .count) 3) (leb (position (w .contents) + length (appendedBytes c)) capacity) (a .fits))))
+      (fits-of region w c a) (bytes-appended c p)
   run-update (tableWithNames t) p a =
       let m = and-left (mayAppend w) (mayBegin (w .tables) t) (a .order) in
       let n = and-right (mayAppend w) (mayBegin (w .tables) t) (a .order) in
       let c = tableWithNames t in
       dues-update region w (table t ∷ (dues ++ appends (appendedBytes c))) u
-      ∙ table-run hd rs im (regionThree region w) (writerThree region w) u (t3 .now) (t3 .closed ∙ open-of m) t (appendedBytes c) (leb-true t 7 (a .argument))
-      (subst (λ (x : Tables). mayBegin x t ≡ true) (sym (t3 .tables)) n)
-      (fits-of c (a .fits)) (bytes-appended c p)
+      ∙ table-run hd rs im (regionThree region w) (writerThree region w) u (t3 .now) (t3 .after .closed ∙ open-of region w c a) t (appendedBytes c) (leb-true t 7 (a .argument))
+      (subst (λ (x : Tables). mayBegin x t ≡ true) (sym (t3 .after .tables)) n)
+      (fits-of region w c a) (bytes-appended c p)
   run-update (row texts lengths) p a =
       let m = and-left (mayAppend w) (isOpen (w .tables)) (a .order) in
       let c = row texts lengths in
       dues-update region w (dues ++ appends (appendedBytes c)) u
-      ∙ dues-appends hd rs im (appendedBytes c) (regionThree region w) (writerThree region w) u (t3 .now) (t3 .closed ∙ open-of m) (fits-of c (a .fits)) (bytes-appended c p)
+      ∙ dues-appends hd rs im (appendedBytes c) (regionThree region w) (writerThree region w) u (t3 .now) (t3 .after .closed ∙ open-of region w c a) (fits-of region w c a) (bytes-appended c p)
   run-update tableEnd p a =
       let m = and-left (mayAppend w) (isOpen (w .tables)) (a .order) in
       let n = and-right (mayAppend w) (isOpen (w .tables)) (a .order) in
       unfold appendedBytes in
       (dues-update region w (end ∷ (dues ++ appends [])) u
-      ∙ end-run hd rs im (regionThree region w) (writerThree region w) u (t3 .now) (t3 .closed ∙ open-of m) (subst (λ (x : Tables). isOpen x ≡ true) (sym (t3 .tables)) n))
+      ∙ end-run hd rs im (regionThree region w) (writerThree region w) u (t3 .now) (t3 .after .closed ∙ open-of region w tableEnd a) (subst (λ (x : Tables). isOpen x ≡ true) (sym (t3 .after .tables)) n))
   run-update closing p a =
       let m = and-left (mayAppend w) (not (isOpen (w .tables))) (a .order) in
       let n = and-right (mayAppend w) (not (isOpen (w .tables))) (a .order) in
       unfold appendedBytes in
       (dues-update region w (close ∷ (dues ++ appends [])) u
-      ∙ close-run hd rs im (regionThree region w) (writerThree region w) u (t3 .now) (t3 .closed ∙ open-of m) (subst (λ (x : Tables). not (isOpen x) ≡ true) (sym (t3 .tables)) n))
+      ∙ close-run hd rs im (regionThree region w) (writerThree region w) u (t3 .now) (t3 .after .closed ∙ open-of region w closing a) (subst (λ (x : Tables). not (isOpen x) ≡ true) (sym (t3 .after .tables)) n))
 
 -- ---- upper events
 
@@ -233,7 +196,7 @@ module _ (region : List ℕ) (hd : Loaded) (rs : List Source) (im : Image) (w : 
       record {
         kept = z .whole;
         open· =
-            subst (Open (ranRegion region w (runOf c)) hd (ranWriter region w (runOf c))) (run-update hd rs im region w u (record { kept = k; open· = o }) c p (accepted region w c e)) (z .open·);
+            subst (Open (ranRegion region w (runOf c)) hd (ranWriter region w (runOf c))) (run-update hd rs im region w u (record { kept = k; open· = o }) c p (accepted-by region w c e)) (z .open·);
       }
   upper-by c p (some r) e = unfold ranRegion in (unfold ranWriter in (record { kept = k; open· = o }))
 
@@ -274,14 +237,6 @@ module _ (comparing : Bool) (now : ℤ) (identity texts lengths : List ℕ) (f :
   unfolding key
   bytes-of-key = bytes-key identity texts lengths bi bt
 
-  key-fits : (region : List ℕ) → beginRefusal region identity texts lengths ≡ none → length key ≤ capacity
-  unfolding key beginRefusal
-  key-fits region e =
-      let z = pick-none (eqb (length region) regionSize) (pick (Key.fit texts lengths) (pick (leb (length identity) 65535) none (some Identity)) (some Argument)) Region e in
-      let a = pick-none (Key.fit texts lengths) (pick (leb (length identity) 65535) none (some Identity)) Argument (z .1) in
-      let b = pick-none (leb (length identity) 65535) none Identity (a .1) in
-      omega (arith, longest identity texts lengths (a .0) (leb-true (length identity) 65535 (b .0)))
-
   module _ (region : List ℕ) (hd : Loaded) (rs : List Source) (im : Image) (k : Kept region hd rs im) where
     first-open : Open region hd (started hd comparing now) (opened hd now)
     first-open = subst (Open region hd (started hd comparing now)) (withAppended-nil (opened hd now)) (begun-open region hd rs im comparing now f k (done-by region hd (k .size) (k .loads)))
@@ -290,8 +245,8 @@ module _ (comparing : Bool) (now : ℤ) (identity texts lengths : List ℕ) (f :
     key-run = ran (appends key) region hd rs im (started hd comparing now) (opened hd now) (plain-appends key bytes-of-key) k first-open
 
     key-update : beginRefusal region identity texts lengths ≡ none → ranUpdate region (started hd comparing now) (appends key) (opened hd now) ≡ withAppended key (opened hd now)
-    unfolding started isDue
-    key-update e = appends-update hd rs im key region (started hd comparing now) (opened hd now) (record { kept = k; open· = first-open }) refl refl (omega (arith, key-fits region e)) bytes-of-key
+    unfolding started isDue key
+    key-update e = appends-update hd rs im key region (started hd comparing now) (opened hd now) (record { kept = k; open· = first-open }) refl refl (omega (arith, key-fits region identity texts lengths e .1)) bytes-of-key
 
     key-by : (s : Option Writer) (v : Option Update) → State region hd s v → (x : Option Refusal) → beginRefusal region identity texts lengths ≡ x
         → Inv (record {

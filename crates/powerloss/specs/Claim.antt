@@ -5,7 +5,7 @@
 --   G's 491,520 bytes are as found or as the commit word left them;
 --   and its data are the bytes that the update appended, in order.
 use mathlib.Core.Path.{_≡_}
-use mathlib.Core.Bool.{Bool, true, false}
+use mathlib.Core.Bool.{Bool, true}
 use mathlib.Core.List.{List, [], _∷_, _++_, map}
 use mathlib.Core.Option.{Option, none, some}
 use mathlib.Core.Logic.{_⊎_}
@@ -26,14 +26,14 @@ use Rattle.header.specs.declared.Bank.{Bank}
 use Rattle.header.specs.Types.{Bytes, Proper}
 use Rattle.flash.specs.Flash.{Op, size, torn, applied, performed}
 use Rattle.writer.specs.declared.Writer.{Writer}
-use Rattle.writer.specs.declared.Answer.the-variants.{Done, Same, Different}
-use Rattle.writer.specs.State.{target, keyLength, inRange, isDue}
+use Rattle.writer.specs.declared.Answer.the-variants.{Same, Different}
+use Rattle.writer.specs.State.{target, keyLength, inRange}
 use Rattle.commit.specs.declared.Stamp.{Stamp}
 use Rattle.commit.specs.declared.Stamp.the-variants.{Given, Missing}
 use Rattle.commit.specs.Commit.{routesOffset}
 use Rattle.commit.specs.Unchanged.{mayAsk, unchangedStep}
 use Rattle.run.specs.Run.{Lower, source, table, bytes, end, close, due, unchanged, commit, word, lowerOps}
-use Rattle.upper.specs.Upper.{Upper, sourceWithDates, tableWithNames, row, tableEnd, closing, upperStep, upperOps, beginOps}
+use Rattle.upper.specs.Upper.{Upper, sourceWithDates, tableWithNames, row, tableEnd, closing, upperOps, beginOps}
 use Rattle.powerloss.specs.History.{Update, recordsOf}
 use Rattle.powerloss.specs.Machine.{cutAt, doneAt, Event, begin, beginCut, call, cut, beginKey, beginKeyCut, upper, upperCut, Run, bankIn, recordsIn, found, next, nextAll}
 
@@ -96,13 +96,6 @@ Demand3 = (region : List ℕ) (events : List Event) → length region ≡ region
 abbrev pub Reached : Type 0
 Reached =
     (region : List ℕ) (events : List Event) → length region ≡ regionSize → Bytes region → AllTyped events → (w : Writer) → nextAll (found region) events .state ≡ some w → inRange w ≡ true
-
--- "each of its calls is a run of lower calls that ends with nothing due": an upper call that is answered, on a state that a list reaches
--- (proofs/States.antt: nothingDue)
-abbrev pub NothingDue : Type 0
-NothingDue =
-    (region : List ℕ) (events : List Event) → length region ≡ regionSize → Bytes region → AllTyped events → (w : Writer) → nextAll (found region) events .state ≡ some w
-    → (c : Upper) → UpperTyped c → upperStep (nextAll (found region) events .region) w c .answer ≡ Done → isDue (upperStep (nextAll (found region) events .region) w c .writer .contents) ≡ false
 
 -- The list has E5's cuts: of a call whose operations are `before`, then `op`, then `rest`, those before may be done whole, of op the first
 -- j bytes, whatever j is, and the rest not at all. This holds of every call of both layers and of the beginning with a key. If j is
@@ -183,7 +176,6 @@ Unchanged =
 pub record Claims : Type 0 where
   pub survives : Demand3
   pub reached : Reached
-  pub nothingDue : NothingDue
   pub torn· : Torn
   pub typed : CutTyped
   pub dropped : Dropped

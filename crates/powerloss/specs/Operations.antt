@@ -1,11 +1,10 @@
 -- When an operation is due, and how many an update makes, on every state that a list of events of both layers reaches, refused calls and
 -- cuts included (specs/Machine.antt: `nextAll`).
 use mathlib.Core.Path.{_≡_}
-use mathlib.Core.Bool.{Bool, true, false}
-use mathlib.Core.Logic.{_⊎_}
+use mathlib.Core.Bool.{true, false}
 use mathlib.Core.List.{List, [], _∷_, _++_}
 use mathlib.Core.Option.{Option, none, some}
-use Prim.Native.Nat.{ℕ, _+_, _/_, _≤_, _<_, _-_}
+use Prim.Native.Nat.{ℕ, _+_, _/_, _≤_, _-_}
 use lib.IntN.{ℤ}
 use lib.ListN.{length}
 use mir.Syntax.{w64}
@@ -16,47 +15,23 @@ use Rattle.flash.specs.Flash.{Op}
 use Rattle.writer.specs.declared.Stage.the-variants.{Committed}
 use Rattle.writer.specs.declared.Answer.{Answer}
 use Rattle.writer.specs.declared.Answer.the-variants.{Done, Appended, NoneDue, Same, Different, Refused}
-use Rattle.writer.specs.declared.Contents.{Contents}
 use Rattle.writer.specs.declared.Writer.{Writer}
-use Rattle.writer.specs.State.{tailSize, position, isDue}
+use Rattle.writer.specs.State.{tailSize, position}
 use Rattle.lower.specs.Lower.{begun}
-use Rattle.due.specs.Due.{dueStep, dueOps}
 use Rattle.run.specs.Run.{Lower, lowerOps, ranWriter, ranOps}
 use Rattle.upper.specs.Upper.{Upper, upperOps, beginStep, beginOps}
 use Rattle.powerloss.specs.History.{Update}
 use Rattle.powerloss.specs.Machine.{Event, begin, beginCut, call, cut, beginKey, beginKeyCut, upper, upperCut, Run, found, next, nextAll}
 use Rattle.powerloss.specs.Claim.{LowerTyped, AllTyped}
+use Rattle.powerloss.specs.Ranges.{Exactly}
 
 -- ---- what is due
 
--- "the tail is full, or after closing while bytes are unwritten"
-abbrev pub Unwritten : Contents → Type 0
-Unwritten t = (t .fill ≡ tailSize) ⊎ ((t .closed ≡ true) × (0 < t .fill))
-
--- "One call does exactly one erase or write, or says none is due. One is due exactly when" the above. "Comparing mode writes nothing."
-pub record Exactly (region : List ℕ) (w : Writer) : Type 0 where
-  pub then· : Unwritten (w .contents) → dueStep region w .answer ≡ Done
-  pub only : dueStep region w .answer ≡ Done → Unwritten (w .contents)
-  pub else· : (Unwritten (w .contents) → ⊥) → dueStep region w .answer ≡ NoneDue
-  pub never : dueStep region w .answer ≡ NoneDue → Unwritten (w .contents) → ⊥
-  pub one : w .beginning .comparing ≡ false → Unwritten (w .contents) → length (dueOps region w) ≡ 1
-  pub nothing : (Unwritten (w .contents) → ⊥) → dueOps region w ≡ []
-  pub compares : w .beginning .comparing ≡ true → dueOps region w ≡ []
-
--- (proofs/Exactly.antt)
+-- of reached states (proofs/Exactly.antt: reached-exactly)
 abbrev pub DueExactly : Type 0
 DueExactly =
     (region : List ℕ) (events : List Event) → length region ≡ regionSize → Bytes region → AllTyped events → (w : Writer) → nextAll (found region) events .state ≡ some w
     → Exactly (nextAll (found region) events .region) w
-
--- "each of its calls is a run of lower calls that ends with nothing due": the upper beginning too, if it is answered (proofs/NothingDue.antt;
--- the other five: specs/Claim.antt, `NothingDue`)
-abbrev pub BeginNothingDue : Type 0
-BeginNothingDue =
-    (region : List ℕ) (events : List Event) → length region ≡ regionSize → Bytes region → AllTyped events
-    → (comparing : Bool) (now : ℤ) (identity texts lengths : List ℕ) → SFits w64 now → Bytes identity → Bytes texts
-    → beginStep (nextAll (found region) events .region) comparing now identity texts lengths .answer ≡ Done
-    → isDue (beginStep (nextAll (found region) events .region) comparing now identity texts lengths .writer .contents) ≡ false
 
 -- ---- how many operations
 
@@ -143,7 +118,6 @@ ThreeLengths = (operationsOf 255 ≡ 5) × (operationsOf 257 ≡ 6) × (operatio
 -- all of them: what `operations_hold` promises
 pub record Operations : Type 0 where
   pub dueExactly : DueExactly
-  pub beginNothingDue : BeginNothingDue
   pub committed : CommittedOperations
   pub comparing : ComparingOperations
   pub lower : LowerOperations

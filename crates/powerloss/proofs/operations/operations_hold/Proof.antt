@@ -1,6 +1,5 @@
 use mathlib.Core.Path.{refl}
-use Rattle.powerloss.proofs.NothingDue.{begin-nothingDue}
-use Rattle.powerloss.proofs.Exactly.{due-exactly}
+use Rattle.powerloss.proofs.Exactly.{reached-exactly}
 use Rattle.powerloss.proofs.Events.{committed-operations, comparing-operations, lower-operations}
 use Rattle.powerloss.proofs.operations.operations_hold.Statement.{statement}
 use Rattle.powerloss.proofs.operations.operations_hold.Tie as tie
@@ -8,8 +7,7 @@ use Rattle.powerloss.proofs.operations.operations_hold.Tie as tie
 returns : tie.Need-returns
 returns c =
     record {
-      dueExactly = due-exactly;
-      beginNothingDue = begin-nothingDue;
+      dueExactly = reached-exactly;
       committed = committed-operations;
       comparing = comparing-operations;
       lower = lower-operations;

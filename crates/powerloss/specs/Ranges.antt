@@ -1,0 +1,79 @@
+-- What holds of every state, reached by calls or not: a saved state that passes 11 is as good as one that calls made.
+use mathlib.Core.Path.{_≡_}
+use mathlib.Core.Bool.{Bool, true, false}
+use mathlib.Core.Logic.{_⊎_}
+use mathlib.Core.List.{List, [], _∷_}
+use Prim.Native.Nat.{ℕ, _<_}
+use lib.IntN.{ℤ}
+use lib.ListN.{length}
+use Rattle.region.specs.Region.{regionSize}
+use Rattle.writer.specs.declared.Answer.{Answer}
+use Rattle.writer.specs.declared.Answer.the-variants.{Done, Appended, NoneDue, Same, Different, Refused}
+use Rattle.writer.specs.declared.Contents.{Contents}
+use Rattle.writer.specs.declared.Writer.{Writer}
+use Rattle.writer.specs.State.{tailSize, isDue, inRange}
+use Rattle.bank.specs.Bank.{loaded}
+use Rattle.lower.specs.Lower.{started, begun}
+use Rattle.due.specs.Due.{dueStep, dueOps}
+use Rattle.run.specs.Run.{Lower, lowerStep, lowerRegion}
+use Rattle.upper.specs.Upper.{Upper, upperRun, upperStep, beginRun, beginStep}
+
+-- ---- what is due
+
+-- "the tail is full, or after closing while bytes are unwritten"
+abbrev pub Unwritten : Contents → Type 0
+Unwritten t = (t .fill ≡ tailSize) ⊎ ((t .closed ≡ true) × (0 < t .fill))
+
+-- "One call does exactly one erase or write, or says none is due. One is due exactly when" the above. "Comparing mode writes nothing."
+pub record Exactly (region : List ℕ) (w : Writer) : Type 0 where
+  pub then· : Unwritten (w .contents) → dueStep region w .answer ≡ Done
+  pub only : dueStep region w .answer ≡ Done → Unwritten (w .contents)
+  pub else· : (Unwritten (w .contents) → ⊥) → dueStep region w .answer ≡ NoneDue
+  pub never : dueStep region w .answer ≡ NoneDue → Unwritten (w .contents) → ⊥
+  pub one : w .beginning .comparing ≡ false → Unwritten (w .contents) → length (dueOps region w) ≡ 1
+  pub nothing : (Unwritten (w .contents) → ⊥) → dueOps region w ≡ []
+  pub compares : w .beginning .comparing ≡ true → dueOps region w ≡ []
+
+-- (proofs/Exactly.antt: due-exactly)
+abbrev pub DueInRange : Type 0
+DueInRange = (region : List ℕ) (w : Writer) → length region ≡ regionSize → inRange w ≡ true → Exactly region w
+
+-- ---- every call keeps a state within its ranges, and a beginning that is answered gives one (proofs/Keeps.antt, proofs/Answers.antt)
+
+pub record Keeps : Type 0 where
+  pub lower : (region : List ℕ) (w : Writer) (c : Lower) → inRange w ≡ true → inRange (lowerStep region w c .writer) ≡ true
+  pub upper : (region : List ℕ) (w : Writer) (c : Upper) → inRange w ≡ true → inRange (upperStep region w c .writer) ≡ true
+  pub beginning : (region : List ℕ) (comparing : Bool) (now : ℤ) → begun region comparing now .answer ≡ Done → inRange (begun region comparing now .writer) ≡ true
+  pub upperBeginning : (region : List ℕ) (comparing : Bool) (now : ℤ) (identity texts lengths : List ℕ)
+      → beginStep region comparing now identity texts lengths .answer ≡ Done → inRange (beginStep region comparing now identity texts lengths .writer) ≡ true
+
+-- ---- runs
+
+abbrev pub isRefused : Answer → Bool
+isRefused (Refused r) = true
+isRefused Done = false
+isRefused (Appended n) = false
+isRefused NoneDue = false
+isRefused Same = false
+isRefused Different = false
+
+-- no call of a run is refused
+abbrev pub NoneRefused : List ℕ → Writer → List Lower → Type 0
+NoneRefused region w [] = Unit {0}
+NoneRefused region w (c ∷ cs) = (isRefused (lowerStep region w c .answer) ≡ false) × NoneRefused (lowerRegion region w c) (lowerStep region w c .writer) cs
+
+-- "each of its calls is a run of lower calls that ends with nothing due": so ends an upper call that is answered, and no lower call of its
+-- run is refused. On any region and any state: out of its ranges, a state is refused. (proofs/Answers.antt)
+pub record Answers : Type 0 where
+  pub nothingDue : (region : List ℕ) (w : Writer) (c : Upper) → upperStep region w c .answer ≡ Done → isDue (upperStep region w c .writer .contents) ≡ false
+  pub noneRefused : (region : List ℕ) (w : Writer) (c : Upper) → upperStep region w c .answer ≡ Done → NoneRefused region w (upperRun region w c)
+  pub beginNothingDue : (region : List ℕ) (comparing : Bool) (now : ℤ) (identity texts lengths : List ℕ)
+      → beginStep region comparing now identity texts lengths .answer ≡ Done → isDue (beginStep region comparing now identity texts lengths .writer .contents) ≡ false
+  pub beginNoneRefused : (region : List ℕ) (comparing : Bool) (now : ℤ) (identity texts lengths : List ℕ)
+      → beginStep region comparing now identity texts lengths .answer ≡ Done → NoneRefused region (started (loaded region) comparing now) (beginRun region identity texts lengths)
+
+-- all of them: what `ranges_hold` promises
+pub record Ranges : Type 0 where
+  pub due : DueInRange
+  pub keeps : Keeps
+  pub answers : Answers
