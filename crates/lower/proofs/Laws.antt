@@ -17,7 +17,7 @@ use Rattle.lower.specs.Sources.{hasSourceAndTable, sourcesWith, sourcesE
 use Rattle.base.proofs.Bools.{and-left, and-right}
 use Rattle.writer.specs.State.{did, stays, noTable, position, isOpen, begunIn, isDue, inRange, tailSize}
 use Rattle.writer.proofs.Laws.{ranged, fill-fits, position-fits, open-table, count-fits}
-use Rattle.lower.specs.Lower.{mayAppend, mayBegin, withSource, sourceStep, withTable, tableStep, withEnd, endStep, blockOf, withClosed, closeStep, accepted, withBytes, appended, bytesStep}
+use Rattle.lower.specs.Lower.{mayAppend, mayBegin, mayEnd, withSource, sourceStep, withTable, tableStep, withEnd, endStep, blockOf, withClosed, closeStep, accepted, withBytes, appended, bytesStep}
 use Rattle.writer.specs.declared.Answer.the-variants.{Done, Appended}
 use Rattle.region.specs.Region.{capacity}
 use Rattle.base.specs.Table.{lastTable}
@@ -65,19 +65,19 @@ module _ (w : Writer) (t : ℕ) where
   table-argument h = rw (lt-leb t 7 h)
 
 module _ (w : Writer) where
-  pub end-done : (mayAppend w && isOpen (w .tables)) ≡ true → did (withEnd w) ≡ endStep w
+  pub end-done : mayEnd w ≡ true → did (withEnd w) ≡ endStep w
   unfolding endStep
   end-done e = rw e
 
-  pub end-turn : (mayAppend w && isOpen (w .tables)) ≡ false → stays w Turn ≡ endStep w
+  pub end-turn : mayEnd w ≡ false → stays w Turn ≡ endStep w
   unfolding endStep
   end-turn e = rw e
 
   -- the numbers of an open table are within their bounds
-  pub end-within : (mayAppend w && isOpen (w .tables)) ≡ true → hasSourceAndTable (w .tables) ≡ true
+  pub end-within : mayEnd w ≡ true → hasSourceAndTable (w .tables) ≡ true
   end-within e =
-      let r = ranged w (and-left (inRange w) (not (w .contents .closed)) (and-left (mayAppend w) (isOpen (w .tables)) e)) in
-      let o = open-table (position (w .contents)) (w .tables) (r .tables) (and-right (mayAppend w) (isOpen (w .tables)) e) in
+      let r = ranged w (and-left (inRange w) (isOpen (w .tables)) e) in
+      let o = open-table (position (w .contents)) (w .tables) (r .tables) (and-right (inRange w) (isOpen (w .tables)) e) in
       rw (le-leb 1 (w .tables .count) (o .1), le-leb (w .tables .count) maxSources (count-fits (position (w .contents)) (w .tables) (r .tables)), le-leb (w .tables .table) lastTable (o .0))
 
   -- the last source has the block

@@ -138,7 +138,10 @@ bytesStep w xs =
     (pick (leb (position (w .contents) + length xs) capacity) (appended w xs) (stays w Full))
     (stays w Turn)
 
--- Table end: fixes offset, length and CRC of the open table's block.
+-- Table end: fixes offset, length and CRC of the open table's block. Out of order with no table open.
+abbrev pub mayEnd : Writer → Bool
+mayEnd w = inRange w && isOpen (w .tables)
+
 abbrev pub blockOf : Writer → Block
 blockOf w = record { offset = w .tables .start; length = position (w .contents) - w .tables .start; crc = w .tables .crc }
 
@@ -185,7 +188,7 @@ withEnd w =
     }
 
 unfoldable pub endStep : Writer → Step
-endStep w = pick (mayAppend w && isOpen (w .tables)) (did (withEnd w)) (stays w Turn)
+endStep w = pick (mayEnd w) (did (withEnd w)) (stays w Turn)
 
 -- Close: the bytes in the tail are then due. Out of order if closed already, and while a table is open.
 abbrev pub closedContents : Contents → Contents

@@ -47,6 +47,24 @@ pub fn is_open(s: Tables) -> bool
     !(s.table == NO_TABLE)
 }
 
+// Whether a table may end, by the parts of a state.
+pub fn may_end_parts(b: Beginning, p: Parts) -> bool
+    ensures { λ r. ⌜ ((ss : List Source) (tail : List ℕ) → r ≡ Lower.mayEnd (wholeOf b p ss tail)) ⌝ }
+{
+    let t = p.contents;
+    let x = p.tables;
+    let s = p.stage;
+    parts_in_range(b, t, x, s) & is_open(x)
+}
+
+// Whether a table may end.
+pub fn may_end(w: Writer) -> bool
+    ensures { λ r. ⌜ r ≡ Lower.mayEnd w ⌝ }
+{
+    let p = parts_of(w);
+    may_end_parts(w.beginning, p)
+}
+
 fn begun_in(begun: u32, table: u32) -> bool
     ensures { λ r. ⌜ r ≡ State.begunIn begun table ⌝ }
 {

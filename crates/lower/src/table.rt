@@ -12,9 +12,9 @@ ghost use Rattle.lower.specs.Sources as Sources;
 ghost use Prim.Native.Nat.{_≤_};
 ghost use Rattle.writer.specs.State as State;
 ghost use Rattle.lower.specs.Lower as Lower;
-use crate::is_open;
 use crate::may_append_parts;
 use crate::may_begin;
+use crate::may_end_parts;
 use header::SOURCES;
 use header::SOURCES_32;
 use record::Block;
@@ -112,7 +112,7 @@ pub struct EndStep {
 pub fn end_parts(b: Beginning, p: Parts) -> EndStep
     ensures { λ r. ⌜ ((ss : List Source) (tail : List ℕ) → stepWith b (r .step) (Sources.sourcesEnded (isDone (r .step .answer)) ss (p .tables) (r .block)) tail ≡ Lower.endStep (wholeOf b p ss tail)) × (r .block ≡ pick (isDone (r .step .answer)) (Sources.blockIn p) noBlock) ⌝ }
 {
-    if !may_append_parts(b, p) | !is_open(p.tables) {
+    if !may_end_parts(b, p) {
         let step = parts_stay(p, Refusal::Turn);
         let block = Block {
             offset: 0,

@@ -288,22 +288,19 @@ accepted-by region w c e =
     let zf = f (zd .1) in
     record { size = eqb-true (length region) regionSize (z .0); argument = za .0; order = zb .0; fits = zf .0 }
 
-order-may : (w : Writer) (c : Upper) → orderOk w c ≡ true → mayAppend w ≡ true
-order-may w (sourceWithDates s) e = and-left (mayAppend w) (not (isOpen (w .tables))) e
-order-may w (tableWithNames t) e = and-left (mayAppend w) (mayBegin (w .tables) t) e
-order-may w (row texts lengths) e = and-left (mayAppend w) (isOpen (w .tables)) e
-order-may w tableEnd e = and-left (mayAppend w) (isOpen (w .tables)) e
-order-may w closing e = and-left (mayAppend w) (not (isOpen (w .tables))) e
+in-order : (w : Writer) (c : Upper) → orderOk w c ≡ true → inRange w ≡ true
+in-order w (sourceWithDates s) e = and-left (inRange w) (not (w .contents .closed)) (and-left (mayAppend w) (not (isOpen (w .tables))) e)
+in-order w (tableWithNames t) e = and-left (inRange w) (not (w .contents .closed)) (and-left (mayAppend w) (mayBegin (w .tables) t) e)
+in-order w (row texts lengths) e = and-left (inRange w) (not (w .contents .closed)) (and-left (mayAppend w) (isOpen (w .tables)) e)
+in-order w tableEnd e = and-left (inRange w) (isOpen (w .tables)) e
+in-order w closing e = and-left (inRange w) (not (w .contents .closed)) (and-left (mayAppend w) (not (isOpen (w .tables))) e)
 
 module _ (region : List ℕ) (w : Writer) (c : Upper) (a : Accepted region w c) where
-  may : mayAppend w ≡ true
-  may = order-may w c (a .order)
-
   fit : Fit region w
-  fit = record { size = a .size; range = and-left (inRange w) (not (w .contents .closed)) may }
+  fit = record { size = a .size; range = in-order w c (a .order) }
 
-  pub open-of : w .contents .closed ≡ false
-  open-of = not-true (w .contents .closed) (and-right (inRange w) (not (w .contents .closed)) may)
+  pub open-of : mayAppend w ≡ true → w .contents .closed ≡ false
+  open-of m = not-true (w .contents .closed) (and-right (inRange w) (not (w .contents .closed)) m)
 
   -- after what was due before
   abbrev region′ : List ℕ
@@ -315,11 +312,11 @@ module _ (region : List ℕ) (w : Writer) (c : Upper) (a : Accepted region w c) 
   t3 : AfterThree region w
   t3 = after-three region w fit
 
-  open′ : w′ .contents .closed ≡ false
-  open′ = t3 .closed ∙ open-of
+  open′ : mayAppend w ≡ true → w′ .contents .closed ≡ false
+  open′ m = t3 .closed ∙ open-of m
 
-  may′ : mayAppend w′ ≡ true
-  may′ = may-append w′ (t3 .fit .range) open′
+  may′ : mayAppend w ≡ true → mayAppend w′ ≡ true
+  may′ m = may-append w′ (t3 .fit .range) (open′ m)
 
   pub fits-of : position (w′ .contents) + length (appendedBytes c) ≤ capacity
   fits-of =
@@ -366,46 +363,49 @@ module _ (region : List ℕ) (w : Writer) where
       let c = sourceWithDates s in
       let w3 = writerThree region w in
       let t = t3 region w c a in
+      let may = and-left (mayAppend w) (not (isOpen (w .tables))) (a .order) in
       let n = and-right (mayAppend w) (not (isOpen (w .tables))) (a .order) in
       let n3 = subst (λ (x : Tables). not (isOpen x) ≡ true) (sym (t .tables)) n in
       let k = ltb-true (w .tables .count) maxSources (and-left (ltb (w .tables .count) maxSources) (leb (position (w .contents) + length (appendedBytes c)) capacity) (a .fits)) in
       let k3 = subst (λ (x : Tables). x .count < maxSources) (sym (t .tables)) k in
-      answered-call (regionThree region w) w3 (source s) (dues ++ appends (appendedBytes c)) (did (withSource w3 s)) (source-step (regionThree region w) w3 s ∙ sym (source-done w3 s (rw (may′ region w c a) n3) k3)) (source-ops (regionThree region w) w3 s) refl
-      (dues-appends (appendedBytes c) (regionThree region w) (withSource w3 s) (record { size = t .fit .size; range = keeps-source w3 (t .fit .range) s k3 }) (unfold withSource in (open′ region w c a)) (unfold withSource in (fits-of region w c a)))
+      answered-call (regionThree region w) w3 (source s) (dues ++ appends (appendedBytes c)) (did (withSource w3 s)) (source-step (regionThree region w) w3 s ∙ sym (source-done w3 s (rw (may′ region w c a may) n3) k3)) (source-ops (regionThree region w) w3 s) refl
+      (dues-appends (appendedBytes c) (regionThree region w) (withSource w3 s) (record { size = t .fit .size; range = keeps-source w3 (t .fit .range) s k3 }) (unfold withSource in (open′ region w c a may)) (unfold withSource in (fits-of region w c a)))
 
   table-answered : (n : ℕ) → Accepted region w (tableWithNames n) → Answered (regionThree region w) (writerThree region w) (lowerOf (tableWithNames n) ++ (dues ++ appends (appendedBytes (tableWithNames n))))
   table-answered n a =
       let c = tableWithNames n in
       let w3 = writerThree region w in
       let t = t3 region w c a in
+      let may = and-left (mayAppend w) (mayBegin (w .tables) n) (a .order) in
       let m3 = subst (λ (x : Tables). mayBegin x n ≡ true) (sym (t .tables)) (and-right (mayAppend w) (mayBegin (w .tables) n) (a .order)) in
       let l = leb-true n 7 (a .argument) in
       let k = leb-true 1 (w3 .tables .count) (and-left (leb 1 (w3 .tables .count)) _ (and-right (not (isOpen (w3 .tables))) _ m3)) in
-      answered-call (regionThree region w) w3 (table n) (dues ++ appends (appendedBytes c)) (did (withTable w3 n)) (table-step (regionThree region w) w3 n ∙ sym (table-done w3 n l (rw (may′ region w c a) m3))) (table-ops (regionThree region w) w3 n) refl
-      (dues-appends (appendedBytes c) (regionThree region w) (withTable w3 n) (record { size = t .fit .size; range = keeps-table w3 (t .fit .range) n l k }) (unfold withTable in (open′ region w c a)) (unfold withTable in (fits-of region w c a)))
+      answered-call (regionThree region w) w3 (table n) (dues ++ appends (appendedBytes c)) (did (withTable w3 n)) (table-step (regionThree region w) w3 n ∙ sym (table-done w3 n l (rw (may′ region w c a may) m3))) (table-ops (regionThree region w) w3 n) refl
+      (dues-appends (appendedBytes c) (regionThree region w) (withTable w3 n) (record { size = t .fit .size; range = keeps-table w3 (t .fit .range) n l k }) (unfold withTable in (open′ region w c a may)) (unfold withTable in (fits-of region w c a)))
 
   end-answered : Accepted region w tableEnd → Answered (regionThree region w) (writerThree region w) (end ∷ (dues ++ []))
   end-answered a =
       let w3 = writerThree region w in
       let t = t3 region w tableEnd a in
-      let n3 = subst (λ (x : Tables). isOpen x ≡ true) (sym (t .tables)) (and-right (mayAppend w) (isOpen (w .tables)) (a .order)) in
-      answered-call (regionThree region w) w3 end (dues ++ []) (did (withEnd w3)) (end-step (regionThree region w) w3 ∙ sym (end-done w3 (rw (may′ region w tableEnd a) n3))) (end-ops (regionThree region w) w3) refl
+      let n3 = subst (λ (x : Tables). isOpen x ≡ true) (sym (t .tables)) (and-right (inRange w) (isOpen (w .tables)) (a .order)) in
+      answered-call (regionThree region w) w3 end (dues ++ []) (did (withEnd w3)) (end-step (regionThree region w) w3 ∙ sym (end-done w3 (rw (t .fit .range) n3))) (end-ops (regionThree region w) w3) refl
       (only-dues (regionThree region w) (withEnd w3) (record { size = t .fit .size; range = keeps-end w3 (t .fit .range) }))
 
   close-answered : Accepted region w closing → Answered (regionThree region w) (writerThree region w) (close ∷ (dues ++ []))
   close-answered a =
       let w3 = writerThree region w in
       let t = t3 region w closing a in
+      let may = and-left (mayAppend w) (not (isOpen (w .tables))) (a .order) in
       let n3 = subst (λ (x : Tables). not (isOpen x) ≡ true) (sym (t .tables)) (and-right (mayAppend w) (not (isOpen (w .tables))) (a .order)) in
-      answered-call (regionThree region w) w3 close (dues ++ []) (did (withClosed w3)) (close-step (regionThree region w) w3 ∙ sym (close-done w3 (rw (may′ region w closing a) n3))) (close-ops (regionThree region w) w3) refl
-      (only-dues (regionThree region w) (withClosed w3) (record { size = t .fit .size; range = keeps-closed w3 (t .fit .range) (open′ region w closing a) }))
+      answered-call (regionThree region w) w3 close (dues ++ []) (did (withClosed w3)) (close-step (regionThree region w) w3 ∙ sym (close-done w3 (rw (may′ region w closing a may) n3))) (close-ops (regionThree region w) w3) refl
+      (only-dues (regionThree region w) (withClosed w3) (record { size = t .fit .size; range = keeps-closed w3 (t .fit .range) (open′ region w closing a may) }))
 
   rest-answered : (c : Upper) → Accepted region w c → Answered (regionThree region w) (writerThree region w) (lowerOf c ++ (dues ++ appends (appendedBytes c)))
   rest-answered (sourceWithDates s) a = source-answered s a
   rest-answered (tableWithNames n) a = table-answered n a
   rest-answered (row texts lengths) a =
       let c = row texts lengths in
-      dues-appends (appendedBytes c) (regionThree region w) (writerThree region w) (t3 region w c a .fit) (open′ region w c a) (fits-of region w c a)
+      dues-appends (appendedBytes c) (regionThree region w) (writerThree region w) (t3 region w c a .fit) (open′ region w c a (and-left (mayAppend w) (isOpen (w .tables)) (a .order))) (fits-of region w c a)
   rest-answered tableEnd a = unfold appendedBytes in (unfold appends in (end-answered a))
   rest-answered closing a = unfold appendedBytes in (unfold appends in (close-answered a))
 

@@ -33,7 +33,7 @@ use Rattle.powerloss.specs.History.{Update, recordsAfter, withAppended, 
 use Rattle.powerloss.proofs.Bytes.{bytes-take, bytes-sets}
 use Rattle.powerloss.proofs.Inv.{Lies, Mode, Open}
 use Rattle.powerloss.proofs.Keeps.{keeps-bytes, keeps-closed}
-use Rattle.powerloss.proofs.Range.{open-aligned}
+use Rattle.powerloss.proofs.Range.{open-aligned, true-false}
 use Rattle.powerloss.proofs.Quiet.{only-idle, mode-stage, withAppended-nil}
 
 -- the tail once bytes are appended to what it holds
@@ -141,6 +141,7 @@ module _ (region : List ℕ) (hd : Loaded) (w : Writer) (u : Update) (o : Open r
                     length· = length-sets (w .tail) (t .fill) ys ∙ o .tied .tailed .length·;
                     bytes = bytes-sets ys (w .tail) (t .fill) (o .tied .tailed .bytes) b;
                   };
+              ended = λ c. true-false (w .contents .closed) c e;
             };
         mode =
             mode-stage (w .beginning .comparing) region hd (w .beginning .active) (moreContents t ys) (sets (w .tail) (t .fill) ys) (withAppended ys u) al
@@ -184,9 +185,9 @@ module _ (region : List ℕ) (hd : Loaded) (w : Writer) (u : Update) (o : Open r
       mode-stage c region hd (w .beginning .active) (closedContents t) (w .tail) u (open-aligned t (own .contents) e)
       (subst (λ (s : Stage). Mode c s region hd (w .beginning .active) (closedContents t) (w .tail) u) st (mode-closed c (w .stage) region hd (w .beginning .active) t (w .tail) u (o .mode)))
 
-  pub with-closed : w .contents .closed ≡ false → Open region hd (withClosed w) u
+  pub with-closed : w .contents .closed ≡ false → not (isOpen (w .tables)) ≡ true → Open region hd (withClosed w) u
   unfolding withClosed
-  with-closed e =
+  with-closed e n =
       record {
         tied =
             record {
@@ -195,13 +196,14 @@ module _ (region : List ℕ) (hd : Loaded) (w : Writer) (u : Update) (o : Open r
               counted = record { length· = o .tied .counted .length·; crc = o .tied .counted .crc };
               noted = o .tied .noted;
               tailed = o .tied .tailed;
+              ended = λ c. not-true (isOpen (w .tables)) n;
             };
         mode = closing-mode e (isDue (w .contents)) refl;
       }
 
   close-by : (a : Bool) → (mayAppend w && not (isOpen (w .tables))) ≡ a → Open region hd (pick a (did (withClosed w)) (stays w Turn) .writer) (updateAfter close (pick a (did (withClosed w)) (stays w Turn) .answer) u)
   unfolding updateAfter
-  close-by true e = with-closed (may-open (and-left (mayAppend w) (not (isOpen (w .tables))) e))
+  close-by true e = with-closed (may-open (and-left (mayAppend w) (not (isOpen (w .tables))) e)) (and-right (mayAppend w) (not (isOpen (w .tables))) e)
   close-by false e = o
 
   pub on-close : Open region hd (closeStep w .writer) (updateAfter close (closeStep w .answer) u)

@@ -187,6 +187,7 @@ module _ (region : List ℕ) (hd : Loaded) (rs : List Source) (im : Image) (w : 
                 counted = o .tied .counted;
                 noted = o .tied .noted;
                 tailed = o .tied .tailed;
+                ended = o .tied .ended;
               };
           mode =
               subst (λ (x : Bool). Mode x HeaderWritten r′ hd a t (w .tail) u′) (sym wr) (
@@ -378,6 +379,7 @@ module _ (region : List ℕ) (hd : Loaded) (rs : List Source) (im : Image) (w : 
                 counted = o .tied .counted;
                 noted = o .tied .noted;
                 tailed = o .tied .tailed;
+                ended = o .tied .ended;
               };
           mode =
               subst (λ (x : Bool). Mode x Committed (applied (target (w .beginning .active)) (write commitOffset commitBytes) region) (heldNew u) (w .beginning .active) (w .contents) (w .tail) u)

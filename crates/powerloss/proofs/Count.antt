@@ -26,7 +26,7 @@ use Rattle.writer.specs.declared.Writer.{Writer}
 use Rattle.writer.specs.declared.Step.{Step}
 use Rattle.writer.specs.State.{isDue, writeDue, dataDue, firstDue, stageOf, isOpen, operationOk, inRange, contentsOk, stageOk, did, stays, tailSize}
 use Rattle.writer.proofs.Laws.{Ranged, ranged, fill-fits}
-use Rattle.lower.specs.Lower.{mayAppend, mayBegin, withSource, sourceStep, withTable, tableStep, accepted, moreContents, withBytes, appended, bytesStep, withEnd, endStep, closedContents, withClosed, closeStep}
+use Rattle.lower.specs.Lower.{mayAppend, mayBegin, mayEnd, withSource, sourceStep, withTable, tableStep, accepted, moreContents, withBytes, appended, bytesStep, withEnd, endStep, closedContents, withClosed, closeStep}
 use Rattle.due.specs.Due.{opsOf, operated, withStage, stepOf, dueStep}
 use Rattle.commit.specs.declared.Stamp.{Stamp}
 use Rattle.commit.specs.Commit.{bankFor, recordsFor, isIdle, isHeaderWritten, mayCommit, isCurrent, commitStep, commitOps, wordStep, wordOps}
@@ -269,7 +269,7 @@ module _ (region : List ℕ) (w : Writer) (ops m : ℕ) (l : length region ≡ r
   call-tally (source s) q = unfold sourceStep in (source-tally s (mayAppend w && not (isOpen (w .tables))) (ltb (w .tables .count) 3) q)
   call-tally (table t) q = unfold tableStep in (table-tally t (leb t 7) (mayAppend w && mayBegin (w .tables) t) q)
   call-tally (bytes xs) q = unfold bytesStep in (bytes-tally xs (mayAppend w) (leb (w .contents .written + w .contents .fill + length xs) capacity) refl q)
-  call-tally end q = unfold endStep in (end-tally (mayAppend w && isOpen (w .tables)) q)
+  call-tally end q = unfold endStep in (end-tally (mayEnd w) q)
   call-tally close q = unfold closeStep in (close-tally (mayAppend w && not (isOpen (w .tables))) refl q)
   call-tally due q = done-tally (q ∙ ap (λ (xs : List Op). ops + length xs) (ops-are region w l r))
   call-tally unchanged q = unfold unchangedStep in (unchanged-tally (eqb (length region) regionSize) (mayAsk w) (isUnchanged region w (w .beginning .active)) q)

@@ -103,6 +103,7 @@ module _ (region : List ℕ) (hd : Loaded) (rs : List Source) (im : Image) (w : 
               counted = o .tied .counted;
               noted = o .tied .noted;
               tailed = o .tied .tailed;
+              ended = o .tied .ended;
             };
         mode = subst (λ (x : Bool). Mode x st region′ hd (w .beginning .active) (w .contents) (w .tail) u) (sym c) m;
       }
@@ -119,6 +120,7 @@ module _ (region : List ℕ) (hd : Loaded) (rs : List Source) (im : Image) (w : 
               counted = record { length· = o .tied .counted .length· ∙ omega arith; crc = o .tied .counted .crc };
               noted = o .tied .noted;
               tailed = o .tied .tailed;
+              ended = o .tied .ended;
             };
         mode = m;
       }

@@ -95,6 +95,7 @@ pub record Tied (w : Writer) (u : Update) : Type 0 where
   pub counted : Counted (w .contents) (u .data·)
   pub noted : Noted (w .tables) (w .sources) (u .data·) (u .notes)
   pub tailed : Tailed (w .tail)
+  pub ended : w .contents .closed ≡ true → isOpen (w .tables) ≡ false
 
 -- ---- where the bytes are in the bank that is written
 

@@ -27,7 +27,7 @@ use Rattle.writer.specs.declared.Step.{Step}
 use Rattle.writer.specs.declared.Answer.the-variants.{Appended, Same, Different}
 use Rattle.writer.specs.State.{position, isDue, writeDue, dataDue, stageOf, isOpen, noTable, inRange, tablesOk, stageOk, did, stays, tailSize}
 use Rattle.writer.proofs.Laws.{Ranged, ranged, fill-fits, count-fits}
-use Rattle.lower.specs.Lower.{mayAppend, mayBegin, accepted, moreContents, closedContents, withSource, withTable, withEnd, withBytes, withClosed, sourceStep, tableStep, endStep, bytesStep, appended, closeStep}
+use Rattle.lower.specs.Lower.{mayAppend, mayBegin, mayEnd, accepted, moreContents, closedContents, withSource, withTable, withEnd, withBytes, withClosed, sourceStep, tableStep, endStep, bytesStep, appended, closeStep}
 use Rattle.due.specs.Due.{differs, emptied, withStage, withEmptied, operated, stepOf, dueStep}
 use Rattle.commit.specs.declared.Stamp.{Stamp}
 use Rattle.commit.specs.Commit.{isIdle, isHeaderWritten, mayCommit, isCurrent, bankFor, recordsFor, commitStep, wordStep}
@@ -139,7 +139,7 @@ module _ (region : List ℕ) (w : Writer) (r : inRange w ≡ true) where
 
   on-end : inRange (endStep w .writer) ≡ true
   unfolding endStep
-  on-end = by-test (mayAppend w && isOpen (w .tables)) (did (withEnd w)) (stays w Turn) (λ e. keeps-end w r) refused
+  on-end = by-test (mayEnd w) (did (withEnd w)) (stays w Turn) (λ e. keeps-end w r) refused
 
   on-bytes : (xs : List ℕ) → inRange (bytesStep w xs .writer) ≡ true
   unfolding bytesStep appended

@@ -231,6 +231,7 @@ begin-open region hd c now f l e ok =
                   table = λ g. absurd (false≢true g);
                 };
             tailed = record { length· = length-fill {A = ℕ} 0 tailSize; bytes = bytes-fill 0 tailSize (omega arith) };
+            ended = λ c. refl;
           };
       mode = begin-mode c region hd now l e;
     }

@@ -33,7 +33,7 @@ use Rattle.writer.specs.declared.Contents.{Contents}
 use Rattle.writer.specs.declared.Writer.{Writer}
 use Rattle.writer.specs.State.{position, isDue, writeDue, dataDue, firstDue, stageOf, isOpen, inRange, stageOk, did, stays, tailSize}
 use Rattle.writer.proofs.Laws.{Ranged, ranged, position-fits, count-fits, open-table}
-use Rattle.lower.specs.Lower.{mayAppend, mayBegin, emptied, pastEnd, withBlock, blockOf, withSource, sourceStep, withTable, tableStep, withEnd, endStep}
+use Rattle.lower.specs.Lower.{mayAppend, mayBegin, mayEnd, emptied, pastEnd, withBlock, blockOf, withSource, sourceStep, withTable, tableStep, withEnd, endStep}
 use Rattle.commit.specs.Unchanged.{unchangedStep, mayAsk, isUnchanged}
 use Rattle.run.specs.Run.{source, table, end, unchanged}
 use Rattle.powerloss.specs.History.{Note, sourceNote, tableNote, endNote, Update, blockBetween, lastWith, recordsAfter, withAppended, notesOf, updateAfter}
@@ -193,6 +193,7 @@ module _ (region : List ℕ) (hd : Loaded) (w : Writer) (u : Update) (o : Open r
                     table = λ f. absurd (false≢true f);
                   };
               tailed = o .tied .tailed;
+              ended = λ c. true-false (w .contents .closed) c e;
             };
         mode = noted-mode (sourceNote s) e;
       }
@@ -235,6 +236,7 @@ module _ (region : List ℕ) (hd : Loaded) (w : Writer) (u : Update) (o : Open r
                         };
                   };
               tailed = o .tied .tailed;
+              ended = λ c. true-false (w .contents .closed) c e;
             };
         mode = noted-mode (tableNote t (length d)) e;
       }
@@ -306,18 +308,27 @@ module _ (region : List ℕ) (hd : Loaded) (w : Writer) (u : Update) (o : Open r
                     table = λ g. absurd (false≢true g);
                   };
               tailed = o .tied .tailed;
+              ended = λ c. refl;
             };
         mode = noted-mode (endNote (length d)) e;
       }
 
-  end-by : (a : Bool) → (mayAppend w && isOpen (w .tables)) ≡ a → Open region hd (pick a (did (withEnd w)) (stays w Turn) .writer) (updateAfter end (pick a (did (withEnd w)) (stays w Turn) .answer) u)
+  -- a table is open only before closing
+  before-closing : isOpen (w .tables) ≡ true → (c : Bool) → w .contents .closed ≡ c → w .contents .closed ≡ false
+  before-closing f true e = true-false (isOpen (w .tables)) f (o .tied .ended e)
+  before-closing f false e = e
+
+  pub open-end : mayEnd w ≡ true → w .contents .closed ≡ false
+  open-end e = before-closing (and-right (inRange w) (isOpen (w .tables)) e) (w .contents .closed) refl
+
+  end-by : (a : Bool) → mayEnd w ≡ a → Open region hd (pick a (did (withEnd w)) (stays w Turn) .writer) (updateAfter end (pick a (did (withEnd w)) (stays w Turn) .answer) u)
   unfolding updateAfter
-  end-by true e = with-end (may-open (and-left (mayAppend w) (isOpen (w .tables)) e)) (and-right (mayAppend w) (isOpen (w .tables)) e)
+  end-by true e = with-end (open-end e) (and-right (inRange w) (isOpen (w .tables)) e)
   end-by false e = o
 
   pub on-end : Open region hd (endStep w .writer) (updateAfter end (endStep w .answer) u)
   unfolding endStep
-  on-end = end-by (mayAppend w && isOpen (w .tables)) refl
+  on-end = end-by (mayEnd w) refl
 
   -- ---- unchanged
 

@@ -26,7 +26,7 @@ use Rattle.writer.specs.declared.Answer.the-variants.{Done}
 use Rattle.writer.specs.declared.Writer.{Writer}
 use Rattle.writer.specs.declared.Tables.{Tables}
 use Rattle.writer.specs.declared.Step.{Step}
-use Rattle.writer.specs.State.{position, isOpen, isDue, target, did}
+use Rattle.writer.specs.State.{position, isOpen, isDue, target, inRange, did}
 use Rattle.writer.proofs.Laws.{ranged, position-fits}
 use Rattle.lower.specs.Lower.{mayAppend, mayBegin, started, answerOf, withSource, sourceStep, withTable, tableStep, withEnd, endStep, withClosed, closeStep}
 use Rattle.lower.proofs.Laws.{source-done, table-done, end-done, close-done}
@@ -39,7 +39,7 @@ use Rattle.powerloss.specs.Claim.{UpperTyped, Typed, AllTyped, Demand3}
 use Rattle.powerloss.proofs.Bytes.{bytes-nil, bytes-cons, bytes-take, bytes-drop}
 use Rattle.powerloss.proofs.Load.{load-own, load-read, valid-generation}
 use Rattle.powerloss.proofs.Inv.{Small, Kept, Open, State}
-use Rattle.powerloss.proofs.Quiet.{withAppended-nil, with-source, with-table, with-end}
+use Rattle.powerloss.proofs.Quiet.{withAppended-nil, with-source, with-table, with-end, open-end}
 use Rattle.powerloss.proofs.Lowers.{Inv, mk, inv-call, inv-cut, inv-begin, begun-open}
 use Rattle.powerloss.proofs.Texts.{bytes-dates, bytes-names, bytes-row, bytes-key}
 use Rattle.powerloss.proofs.Runs.{ranUpdate, AllPlain, Ran, ran}
@@ -123,7 +123,7 @@ module _ (hd : Loaded) (rs : List Source) (im : Image) (region : List ℕ) (w : 
     end-run : isOpen (w .tables) ≡ true → ranUpdate region w (end ∷ (dues ++ appends [])) u ≡ withAppended [] (notesOf (endNote (length (u .data·))) u)
     unfolding withEnd
     end-run m =
-        end-update (dues ++ appends []) (end-done w (rw may m))
+        end-update (dues ++ appends []) (end-done w (rw (h .open· .tied .range) m))
         ∙ dues-appends hd rs im [] region (withEnd w) (notesOf (endNote (length (u .data·))) u) (record { kept = h .kept; open· = with-end region hd w u (h .open·) e m }) e
         (omega (arith, position-most)) bytes-nil
       where
@@ -150,7 +150,7 @@ module _ (hd : Loaded) (rs : List Source) (im : Image) (region : List ℕ) (w : 
       let n = and-right (mayAppend w) (not (isOpen (w .tables))) (a .order) in
       let c = sourceWithDates s in
       dues-update region w (source s ∷ (dues ++ appends (appendedBytes c))) u
-      ∙ source-run hd rs im (regionThree region w) (writerThree region w) u (t3 .now) (t3 .after .closed ∙ open-of region w c a) s (appendedBytes c) p
+      ∙ source-run hd rs im (regionThree region w) (writerThree region w) u (t3 .now) (t3 .after .closed ∙ open-of region w c a m) s (appendedBytes c) p
       (subst (λ (x : Tables). not (isOpen x) ≡ true) (sym (t3 .after .tables)) n)
       (subst (λ (x : Tables). x .count < maxSources) (sym (t3 .after .tables)) (ltb-true (w .tables .count) 3 (and-left (ltb (w .tables .count) 3) (leb (position (w .contents) + length (appendedBytes c)) capacity) (a .fits))))
       (fits-of region w c a) (bytes-appended c p)
@@ -159,26 +159,25 @@ module _ (hd : Loaded) (rs : List Source) (im : Image) (region : List ℕ) (w : 
       let n = and-right (mayAppend w) (mayBegin (w .tables) t) (a .order) in
       let c = tableWithNames t in
       dues-update region w (table t ∷ (dues ++ appends (appendedBytes c))) u
-      ∙ table-run hd rs im (regionThree region w) (writerThree region w) u (t3 .now) (t3 .after .closed ∙ open-of region w c a) t (appendedBytes c) (leb-true t 7 (a .argument))
+      ∙ table-run hd rs im (regionThree region w) (writerThree region w) u (t3 .now) (t3 .after .closed ∙ open-of region w c a m) t (appendedBytes c) (leb-true t 7 (a .argument))
       (subst (λ (x : Tables). mayBegin x t ≡ true) (sym (t3 .after .tables)) n)
       (fits-of region w c a) (bytes-appended c p)
   run-update (row texts lengths) p a =
       let m = and-left (mayAppend w) (isOpen (w .tables)) (a .order) in
       let c = row texts lengths in
       dues-update region w (dues ++ appends (appendedBytes c)) u
-      ∙ dues-appends hd rs im (appendedBytes c) (regionThree region w) (writerThree region w) u (t3 .now) (t3 .after .closed ∙ open-of region w c a) (fits-of region w c a) (bytes-appended c p)
+      ∙ dues-appends hd rs im (appendedBytes c) (regionThree region w) (writerThree region w) u (t3 .now) (t3 .after .closed ∙ open-of region w c a m) (fits-of region w c a) (bytes-appended c p)
   run-update tableEnd p a =
-      let m = and-left (mayAppend w) (isOpen (w .tables)) (a .order) in
-      let n = and-right (mayAppend w) (isOpen (w .tables)) (a .order) in
+      let n = and-right (inRange w) (isOpen (w .tables)) (a .order) in
       unfold appendedBytes in
       (dues-update region w (end ∷ (dues ++ appends [])) u
-      ∙ end-run hd rs im (regionThree region w) (writerThree region w) u (t3 .now) (t3 .after .closed ∙ open-of region w tableEnd a) (subst (λ (x : Tables). isOpen x ≡ true) (sym (t3 .after .tables)) n))
+      ∙ end-run hd rs im (regionThree region w) (writerThree region w) u (t3 .now) (t3 .after .closed ∙ open-end region hd w u (h .open·) (a .order)) (subst (λ (x : Tables). isOpen x ≡ true) (sym (t3 .after .tables)) n))
   run-update closing p a =
       let m = and-left (mayAppend w) (not (isOpen (w .tables))) (a .order) in
       let n = and-right (mayAppend w) (not (isOpen (w .tables))) (a .order) in
       unfold appendedBytes in
       (dues-update region w (close ∷ (dues ++ appends [])) u
-      ∙ close-run hd rs im (regionThree region w) (writerThree region w) u (t3 .now) (t3 .after .closed ∙ open-of region w closing a) (subst (λ (x : Tables). not (isOpen x) ≡ true) (sym (t3 .after .tables)) n))
+      ∙ close-run hd rs im (regionThree region w) (writerThree region w) u (t3 .now) (t3 .after .closed ∙ open-of region w closing a m) (subst (λ (x : Tables). not (isOpen x) ≡ true) (sym (t3 .after .tables)) n))
 
 -- ---- upper events
 

@@ -39,7 +39,7 @@ use Rattle.writer.specs.declared.Writer.{Writer}
 use Rattle.writer.specs.declared.Step.{Step}
 use Rattle.writer.specs.State.{did, stays, isDone, position, isOpen, inRange}
 use Rattle.writer.proofs.Laws.{ranged, position-fits, open-table}
-use Rattle.lower.specs.Lower.{started, mayAppend}
+use Rattle.lower.specs.Lower.{started, mayAppend, mayEnd}
 use Rattle.run.specs.Run.{Lower, source, table, end, close, lowerStep, lowerOps, lowerRegion, ranWriter, ranRegion}
 use Rattle.run.specs.Appends.{dues, appends}
 use Rattle.upper.specs.Upper.{Upper, runOf, argumentOk, orderOk, rowOk, allFits, refusalOf, runIf, upperRun, answered, upperStep, upperRegion, beginRefusal, keyBytes, beginRun, beganWith, beginStep, beginRegion}
@@ -138,6 +138,9 @@ pub none-fits : (w : Writer) (b : Bool) → (mayAppend w && b) ≡ true → leb 
 none-fits w b e =
     let m = and-left (mayAppend w) b e in
     le-leb (position (w .contents) + 0) capacity (omega (arith, position-fits (w .contents) (ranged w (and-left (inRange w) (not (w .contents .closed)) m) .contents)))
+
+pub end-fits : (w : Writer) → mayEnd w ≡ true → leb (position (w .contents) + 0) capacity ≡ true
+end-fits w e = le-leb (position (w .contents) + 0) capacity (omega (arith, position-fits (w .contents) (ranged w (and-left (inRange w) (isOpen (w .tables)) e) .contents)))
 
 -- ---- the guard of a source: there are as many as there may be, or its dates don't fit
 

@@ -25,7 +25,7 @@ use Rattle.writer.specs.declared.Answer.the-variants.{Done, Refused}
 use Rattle.writer.specs.declared.Writer.{Writer}
 use Rattle.writer.specs.declared.Step.{Step}
 use Rattle.writer.specs.State.{position, isOpen, stays}
-use Rattle.lower.specs.Lower.{started, mayAppend, mayBegin}
+use Rattle.lower.specs.Lower.{started, mayAppend, mayBegin, mayEnd}
 use Rattle.run.specs.Run.{Lower, source, table, end, close, ranWriter, ranRegion, ranOps}
 use Rattle.run.specs.Appends.{dues, appends}
 use Rattle.base.specs.Table.{lastTable}
@@ -71,7 +71,7 @@ abbrev pub orderOk : Writer → Upper → Bool
 orderOk w (sourceWithDates s) = mayAppend w && not (isOpen (w .tables))
 orderOk w (tableWithNames t) = mayAppend w && mayBegin (w .tables) t
 orderOk w (row texts lengths) = mayAppend w && isOpen (w .tables)
-orderOk w tableEnd = mayAppend w && isOpen (w .tables)
+orderOk w tableEnd = mayEnd w
 orderOk w closing = mayAppend w && not (isOpen (w .tables))
 
 abbrev pub rowOk : Writer → Upper → Bool

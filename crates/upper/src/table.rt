@@ -4,8 +4,8 @@ ghost use mathlib.Core.List.{_++_};
 ghost use Rattle.run.specs.Run.{ranWriter, ranRegion};
 ghost use Rattle.upper.specs.Upper as Upper;
 use crate::fits;
-use lower::is_open;
 use lower::may_append;
+use lower::may_end;
 use refusal::Refusal;
 use run::flush;
 use run::flush_append;
@@ -43,7 +43,7 @@ pub fn end(w: Writer, region: &mut [u8]) -> Step
     if region.len() != REGION_SIZE {
         return stays(w, Refusal::Region);
     }
-    if !may_append(w) | !is_open(w.tables) {
+    if !may_end(w) {
         return stays(w, Refusal::Turn);
     }
     let v = run_end(w, region);

@@ -1,10 +1,9 @@
 -- One case for each guard: region and order; then the run. No bytes are appended, so it always fits.
-use mathlib.Core.Path.{refl, _∙_}
+use mathlib.Core.Path.{refl, sym, _∙_}
 use native.Mathlib.Omega.{arith}
-use Rattle.writer.specs.State.{isOpen}
+use borrow.Author.Tests.{not-true, not-false}
 use Rattle.upper.specs.Upper.{tableEnd, appendedBytes}
-use Rattle.upper.proofs.Laws.{none-fits, upper-done, upper-turn, upper-region}
-use Rattle.base.proofs.Guards.{one-fails, both-hold}
+use Rattle.upper.proofs.Laws.{end-fits, upper-done, upper-turn, upper-region}
 use borrow.Author.Needs.{needs}
 use Rattle.upper.proofs.table.end.Statement.{statement}
 use Rattle.upper.proofs.table.end.Tie as tie
@@ -18,11 +17,8 @@ returns c =
     let d = upper-region (a .region .now) (a .w) tableEnd (λ e. omega arith) in
     (c .stays .ensures ∙ d .0, d .1)
 
-may-append-requires : tie.Need-may-append-requires
-may-append-requires c κs = search needs
-
-is-open-requires : tie.Need-is-open-requires
-is-open-requires c κs = search needs
+may-end-requires : tie.Need-may-end-requires
+may-end-requires c κs = search needs
 
 stays-requires-2 : tie.Need-stays-requires-2
 stays-requires-2 c κs = search needs
@@ -30,10 +26,9 @@ stays-requires-2 c κs = search needs
 returns-2 : tie.Need-returns-2
 returns-2 c =
     let t = c .before in
-    let o = t .before in
-    let m = o .before in
+    let m = t .before in
     let a = m .before .before .before .args in
-    let d = upper-turn (a .region .now) (a .w) tableEnd (omega arith) refl (one-fails (m .may-append .ensures) (o .is-open .ensures) (t .if2 .taken)) in
+    let d = upper-turn (a .region .now) (a .w) tableEnd (omega arith) refl (sym (m .may-end .ensures) ∙ not-true _ (t .if2 .taken)) in
     (c .stays2 .ensures ∙ d .0, d .1)
 
 run-end-requires : tie.Need-run-end-requires
@@ -50,11 +45,10 @@ unfolding appendedBytes
 returns-3 c =
     let x = c .before .before .before in
     let t = x .before .before in
-    let o = t .before in
-    let m = o .before in
+    let m = t .before in
     let a = m .before .before .before .args in
-    let h = both-hold (m .may-append .ensures) (o .is-open .ensures) (t .if2 .left) in
-    let d = upper-done (a .region .now) (a .w) tableEnd (omega arith) refl h refl (none-fits (a .w) (isOpen (a .w .tables)) h) (x .run-end .result) (x .run-end .last .1 .0) (x .run-end .ensures .0) (x .run-end .ensures .1) in
+    let h = sym (m .may-end .ensures) ∙ not-false _ (t .if2 .left) in
+    let d = upper-done (a .region .now) (a .w) tableEnd (omega arith) refl h refl (end-fits (a .w) h) (x .run-end .result) (x .run-end .last .1 .0) (x .run-end .ensures .0) (x .run-end .ensures .1) in
     (c .did .ensures ∙ d .0, d .1)
 
 pub end-spec : {M : Type 1} → statement M
@@ -63,8 +57,7 @@ end-spec =
     (tie.spec
     stays-requires
     returns
-    may-append-requires
-    is-open-requires
+    may-end-requires
     stays-requires-2
     returns-2
     run-end-requires
