@@ -1,2 +1,3 @@
 pub mod Bank
 pub mod Turns
+pub mod Claims

@@ -1,4 +1,5 @@
 // Data checking in turns.
+ghost use Rattle.bank.specs.Claims.{Claims};
 ghost use mathlib.Core.Path.{_≡_};
 ghost use Prim.Native.Nat.{_+_, _-_, _≤_};
 ghost use lib.ListN.{length};
@@ -128,3 +129,9 @@ fn smaller(a: u32, b: u32) -> u32
 {
     if a < b { a } else { b }
 }
+
+// What holds of data checking in turns. The function does nothing: its contract is what is proved of the definitions
+// (specs/Claims.antt).
+pub fn turns_hold()
+    ensures { λ _. ⌜ Claims ⌝ }
+{}

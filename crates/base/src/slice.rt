@@ -1,4 +1,5 @@
 // Parts of a slice of bytes, and two slices compared.
+ghost use Rattle.base.specs.Claims.{Claims};
 ghost use mathlib.Core.Path.{_≡_};
 ghost use lib.ListN.{take, drop};
 ghost use Rattle.base.specs.Same.{same};
@@ -33,3 +34,9 @@ pub fn same_bytes(a: &[u8], b: &[u8]) -> bool
     }
     !differ
 }
+
+// What holds of comparing bytes. The function does nothing: its contract is what is proved of the definitions
+// (specs/Claims.antt).
+pub fn same_holds()
+    ensures { λ _. ⌜ Claims ⌝ }
+{}

@@ -31,3 +31,12 @@ Differ = (hash bytes i j : ℕ) → i < positionCount → j < positionCount → 
 -- so an insertion answers what a query before it would
 abbrev pub AnswersAsQuery : Type 0
 AnswersAsQuery = (bits id : List ℕ) → insertAnswer bits id ≡ query bits id
+
+-- all of them: what `filter_holds` promises
+pub record Claims : Type 0 where
+  pub found : Found
+  pub clearsNone : ClearsNone
+  pub setsOnlyFour : SetsOnlyFour
+  pub sameLength : SameLength
+  pub differ : Differ
+  pub answersAsQuery : AnswersAsQuery

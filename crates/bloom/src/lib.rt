@@ -1,4 +1,5 @@
 // The trip filter: four bits of a lent filter for each trip id.
+ghost use Rattle.bloom.specs.Claims.{Claims};
 ghost use mathlib.Core.Path.{_≡_};
 ghost use mathlib.Core.Bool.{true};
 ghost use Prim.Native.Nat.{_*_, _/_, _%_, _<_, _≤_};
@@ -143,3 +144,9 @@ pub fn insert(bits: &mut [u8], id: &[u8]) -> Filter
     let p = positions(crc32(0, id), bits.len());
     answer(set_all(bits, p))
 }
+
+// What holds of the filter, for every size. The function does nothing: its contract is what is proved of the definitions
+// (specs/Claims.antt).
+pub fn filter_holds()
+    ensures { λ _. ⌜ Claims ⌝ }
+{}

@@ -14,3 +14,8 @@ ReadsBack = (w : Writer) → leb (activeKind (w .beginning .active)) someActive 
 -- numbers that are no state read as one out of range
 abbrev pub NoState : Type 0
 NoState = (s : State) → isState s ≡ false → inRange (writerOf s) ≡ false
+
+-- all of them: what `states_hold` promises
+pub record Claims : Type 0 where
+  pub readsBack : ReadsBack
+  pub noState : NoState

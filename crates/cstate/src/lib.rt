@@ -1,4 +1,5 @@
 // A writer's state and a call's answer as plain numbers, for C. Every bit pattern is a State.
+ghost use Rattle.cstate.specs.Claims.{Claims};
 ghost use mathlib.Core.Path.{_≡_};
 ghost use Rattle.base.specs.Number.{pick};
 ghost use Rattle.writer.specs.declared.Stage.the-variants as Stages;
@@ -406,3 +407,9 @@ pub fn after(s: Step, state: State) -> UpdateStep
     }
     UpdateStep { numbers, state }
 }
+
+// What holds of states as numbers. The function does nothing: its contract is what is proved of the definitions
+// (specs/Claims.antt).
+pub fn states_hold()
+    ensures { λ _. ⌜ Claims ⌝ }
+{}

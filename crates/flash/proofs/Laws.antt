@@ -15,11 +15,7 @@ use lib.Seq.{take-at, drop-at, take-all, take-length, length-take-le, take-appen
 use Rattle.base.specs.Lists.{fill, byte}
 use Rattle.region.specs.Region.{regionSize, bankSize, sectorSize, bankOf}
 use Rattle.flash.specs.Flash.{Op, erase, write, blank, clear, offset, size, done, withBank, torn, applied, performed, fits, after}
-use Rattle.flash.specs.Claims.{FirstPart}
-
--- every number of a list is below 256
-abbrev pub Bytes : List ℕ → Type 0
-Bytes l = (k : ℕ) → byte l k < 256
+use Rattle.flash.specs.Claims.{Bytes, FirstPart}
 
 -- ---- bytes blanked and cleared
 

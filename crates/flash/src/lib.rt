@@ -4,7 +4,7 @@ ghost use mathlib.Core.Bool.{true};
 ghost use Prim.Native.Nat.{_+_, _≤_};
 ghost use lib.ListN.{length};
 ghost use Rattle.flash.specs.Flash.{blank, clear, within, erasedIn, writtenIn};
-ghost use Rattle.flash.specs.Claims.{FirstPart};
+ghost use Rattle.flash.specs.Claims.{Claims};
 ghost use Rattle.region.specs.Region.{regionSize, bankSize, lastBank};
 use region::BANK_SIZE;
 use region::ERASED_BYTE;
@@ -73,7 +73,7 @@ pub fn write(region: &mut [u8], bank: u32, at: usize, bytes: &[u8])
     }
 }
 
-// What a cut inside an operation leaves. The function does nothing: its contract is what is proved of the definitions (specs/Claims.antt).
-pub fn torn_holds()
-    ensures { λ _. ⌜ FirstPart ⌝ }
+// What holds of operations, whole and cut. The function does nothing: its contract is what is proved of the definitions (specs/Claims.antt).
+pub fn flash_holds()
+    ensures { λ _. ⌜ Claims ⌝ }
 {}

@@ -43,3 +43,9 @@ abbrev pub Committed : Type 0
 Committed =
     (b : Bank) (ss : List Source) (rest : List ℕ) → b .version ≡ currentVersion → Numbers b → All Proper ss → length ss ≡ b .count → isFit b ss ≡ true
     → headerOf (b .number) (headerBytes b ss commitBytes ++ rest) ≡ Good b
+
+-- all of them: what `header_holds` promises
+pub record Claims : Type 0 where
+  pub blankRefused : BlankRefused
+  pub headerBack : HeaderBack
+  pub committed : Committed

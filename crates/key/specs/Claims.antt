@@ -29,3 +29,10 @@ pub record LongestIsReached : Type 0 where
   pub fits : fit bytes lengths ≡ true
   pub short : length identity ≤ maxIdentity
   pub reached : length (keyOf identity (passedPicks bytes lengths)) ≡ longestKey
+
+-- all of them: what `keys_hold` promises
+pub record Claims : Type 0 where
+  pub distinctSorts : DistinctSorts
+  pub onlyOneSorts : OnlyOneSorts
+  pub noKeyIsLonger : NoKeyIsLonger
+  pub longestIsReached : LongestIsReached

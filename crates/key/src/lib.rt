@@ -3,6 +3,7 @@ mod matching;
 mod picks;
 mod write;
 
+ghost use Rattle.key.specs.Claims.{Claims};
 ghost use mathlib.Core.Path.{_≡_};
 ghost use Prim.Native.Nat.{_+_, _*_};
 ghost use lib.ListN.{length};
@@ -96,3 +97,9 @@ pub fn same_key(stored: &[u8], identity: &[u8], texts: &[u8], lengths: &[u32]) -
         Prepared::Refused(r) => SameKey::Refused(r),
     }
 }
+
+// What holds of keys. The function does nothing: its contract is what is proved of the definitions
+// (specs/Claims.antt).
+pub fn keys_hold()
+    ensures { λ _. ⌜ Claims ⌝ }
+{}

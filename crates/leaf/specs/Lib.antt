@@ -4,3 +4,4 @@ pub mod Generation
 pub mod Date
 pub mod Polynomial
 pub mod Crc
+pub mod Claims

@@ -1,4 +1,5 @@
 // Numbers in a slice of bytes, little-endian.
+ghost use Rattle.leaf.specs.Claims.{Numbers};
 ghost use mathlib.Core.Path.{_≡_};
 ghost use mathlib.Core.Bool.{true};
 ghost use Prim.Native.Nat.{_+_, _<_, _≤_};
@@ -111,3 +112,9 @@ pub fn put_time(b: &mut [u8], i: usize, z: i64)
         put(b, i + WORD_SIZE, (n / WORD_VALUES) as u32);
     }
 }
+
+// What holds of numbers in bytes. The function does nothing: its contract is what is proved of the definitions
+// (specs/Claims.antt).
+pub fn numbers_hold()
+    ensures { λ _. ⌜ Numbers ⌝ }
+{}

@@ -1,4 +1,5 @@
 // Calendar dates.
+ghost use Rattle.leaf.specs.Claims.{Dates};
 ghost use mathlib.Core.Path.{_≡_};
 ghost use mathlib.Core.List.{_∷_};
 ghost use lib.ListN.{getD};
@@ -83,3 +84,9 @@ pub fn valid_date(d: u32) -> bool
         NewDate::InvalidDate => false,
     }
 }
+
+// What holds of dates. The function does nothing: its contract is what is proved of the definitions
+// (specs/Claims.antt).
+pub fn dates_hold()
+    ensures { λ _. ⌜ Dates ⌝ }
+{}

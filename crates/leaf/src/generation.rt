@@ -1,4 +1,5 @@
 // Generations of banks.
+ghost use Rattle.leaf.specs.Claims.{Generations};
 ghost use mathlib.Core.Path.{_≡_};
 ghost use Rattle.leaf.specs.Generation as Generation;
 
@@ -19,3 +20,9 @@ pub fn next(g: u32) -> u32
 {
     std::num::wrapping_add_u32(g, 1)
 }
+
+// What holds of generations. The function does nothing: its contract is what is proved of the definitions
+// (specs/Claims.antt).
+pub fn generations_hold()
+    ensures { λ _. ⌜ Generations ⌝ }
+{}

@@ -26,3 +26,9 @@ Version1 = (l : List ℕ) → NoTexts (decoded firstVersion l)
 -- versions 1 and 2 have seven tables: table 7, Transfers, is absent
 abbrev pub SevenTables : Type 0
 SevenTables = (l : List ℕ) → (getD (decoded firstVersion l .tables) lastTable noBlock ≡ noBlock) × (getD (decoded secondVersion l .tables) lastTable noBlock ≡ noBlock)
+
+-- all of them: what `records_hold` promises
+pub record Claims : Type 0 where
+  pub readsBack : ReadsBack
+  pub version1 : Version1
+  pub sevenTables : SevenTables

@@ -1,4 +1,5 @@
 // A source's record in a bank's header: read for every version, written for version 3.
+ghost use Rattle.record.specs.Claims.{Claims};
 ghost use mathlib.Core.Path.{_≡_};
 ghost use mathlib.Core.List.{_++_};
 ghost use Prim.Native.Nat.{_+_, _-_, _*_, _≤_};
@@ -536,3 +537,9 @@ pub fn encode(s: Source, out: &mut [u8], at: usize)
         }
     }
 }
+
+// What holds of records. The function does nothing: its contract is what is proved of the definitions
+// (specs/Claims.antt).
+pub fn records_hold()
+    ensures { λ _. ⌜ Claims ⌝ }
+{}

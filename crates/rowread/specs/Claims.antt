@@ -48,3 +48,9 @@ ReadsTable = (width capacity slots : ℕ) (rows : List (List Text)) → AllFit w
 abbrev pub StoredIsARow : Type 0
 StoredIsARow = (table : Text) (width offset capacity slots next size : ℕ) → readAnswer table width offset capacity slots ≡ Stored next size
     → Record (drop offset table) (valuesAt table width offset) (drop next table)
+
+-- all of them: what `reads_hold` promises
+pub record Claims : Type 0 where
+  pub readsWritten : ReadsWritten
+  pub readsTable : ReadsTable
+  pub storedIsARow : StoredIsARow

@@ -5,6 +5,7 @@ mod fast;
 mod line;
 mod scan;
 
+ghost use Rattle.rowread.specs.Claims.{Claims};
 ghost use mathlib.Core.Path.{_≡_};
 ghost use Prim.Native.Nat.{_+_, _<_};
 ghost use lib.ListN.{length};
@@ -88,3 +89,9 @@ pub fn read_row(
         size,
     }
 }
+
+// What holds of reading rows. The function does nothing: its contract is what is proved of the definitions
+// (specs/Claims.antt).
+pub fn reads_hold()
+    ensures { λ _. ⌜ Claims ⌝ }
+{}

@@ -39,3 +39,8 @@ partOf k bytes = take (k .length) (drop (k .offset) bytes)
 abbrev pub InData : Type 0
 InData = (region : Text) (n i t : ℕ) (b : Bank) → named region n ≡ Good b → i < b .count
     → tableIn region b i t ≡ partOf (getD (sourceIn region b i .tables) t noBlock) (dataIn region b)
+
+-- all of them: what `bank_rows_hold` promises
+pub record Claims : Type 0 where
+  pub readsBank : ReadsBank
+  pub inData : InData

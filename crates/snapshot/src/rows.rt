@@ -1,4 +1,5 @@
 // Rows of a loaded bank.
+ghost use Rattle.snapshot.specs.Claims.{Claims};
 ghost use mathlib.Core.Path.{_≡_};
 ghost use Prim.Native.Nat.{_≤_};
 ghost use lib.ListN.{length, getD};
@@ -88,3 +89,9 @@ pub fn bank_row(
         BlockAnswer::Refused(r) => ReadAnswer::Refused(r),
     }
 }
+
+// What holds of the rows of a bank. The function does nothing: its contract is what is proved of the definitions
+// (specs/Claims.antt).
+pub fn bank_rows_hold()
+    ensures { λ _. ⌜ Claims ⌝ }
+{}

@@ -1,0 +1,14 @@
+use Rattle.rowread.proofs.Table.{reads-written, reads-table, stored-is-a-row}
+use Rattle.rowread.proofs.reads_hold.Statement.{statement}
+use Rattle.rowread.proofs.reads_hold.Tie as tie
+
+returns : tie.Need-returns
+returns c =
+    record {
+      readsWritten = reads-written;
+      readsTable = reads-table;
+      storedIsARow = stored-is-a-row;
+    }
+
+pub reads-hold-spec : {M : Type 1} → statement M
+reads-hold-spec = tie.close (tie.spec returns)
