@@ -227,8 +227,14 @@ def written(rows, **how):
 
 
 def read(table):
-    text = io.StringIO(table.decode("latin-1"), newline="")
-    return [[v.encode("latin-1") for v in row] for row in csv.reader(text, strict=True)]
+    """The rows by Python's csv, up to one that it refuses, whose fault is given as a row."""
+    rows = []
+    try:
+        for row in csv.reader(io.StringIO(table.decode("latin-1"), newline=""), strict=True):
+            rows.append([v.encode("latin-1") for v in row])
+    except csv.Error as fault:
+        rows.append([str(fault).encode()])
+    return rows
 
 
 def handed(row):
