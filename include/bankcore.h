@@ -132,6 +132,11 @@ typedef struct TtBankRowNumbers {
     uint64_t size;
 } TtBankRowNumbers;
 
+typedef struct TtColumnNumbers {
+    uint32_t refusal;
+    uint64_t count;
+} TtColumnNumbers;
+
 typedef struct TtRowNumbers {
     uint32_t refusal;
     uint64_t length;
@@ -237,14 +242,14 @@ typedef struct TtUpdateStep {
 /* The 32-bit number at offset i, little-endian; bytes past the end read 0. */
 uint32_t tt_get(const uint8_t *b, uint64_t b_length, uint64_t i);
 
-/* Writes the number n at offset i, four bytes little-endian; if they don't fit nothing changes. */
-void tt_put(uint8_t *b, uint64_t b_length, uint64_t i, uint32_t n);
+/* Writes the number n at offset i, four bytes little-endian. Answers 0, or 9 if they don't fit. */
+uint32_t tt_put(uint8_t *b, uint64_t b_length, uint64_t i, uint32_t n);
 
 /* The signed 64-bit time at offset i, little-endian; bytes past the end read 0. */
 int64_t tt_get_time(const uint8_t *b, uint64_t b_length, uint64_t i);
 
-/* Writes the time z at offset i, eight bytes little-endian; if they don't fit nothing changes. */
-void tt_put_time(uint8_t *b, uint64_t b_length, uint64_t i, int64_t z);
+/* Writes the time z at offset i, eight bytes little-endian. Answers 0, or 9 if they don't fit. */
+uint32_t tt_put_time(uint8_t *b, uint64_t b_length, uint64_t i, int64_t z);
 
 /* The CRC-32 of bytes, continued from the CRC of those before; start is 0 if there are none. */
 uint32_t tt_crc32(uint32_t start, const uint8_t *bytes, uint64_t bytes_length);
@@ -351,8 +356,8 @@ TtBankRowNumbers tt_bank_row(
 
 /* ---- Rows and the trip filter. */
 
-/* How many columns a table has; 0 above table 7. */
-uint64_t tt_column_count(uint32_t table);
+/* How many columns a table has. */
+TtColumnNumbers tt_column_count(uint32_t table);
 
 /* Writes a table's names line to out. */
 TtRowNumbers tt_names_line(uint32_t table, uint8_t *out, uint64_t out_length);

@@ -5,9 +5,14 @@ ghost use Rattle.leaf.specs.Crc as Crc;
 ghost use Rattle.leaf.specs.Date as Dates;
 ghost use Rattle.leaf.specs.Generation as Generation;
 ghost use Rattle.base.specs.Number.{rotation, rotateLeft32};
-ghost use Rattle.bankcore.specs.LeafAnswers.{dateOrZero};
+ghost use lib.ListN.{length};
+ghost use Rattle.bankcore.specs.LeafAnswers.{dateOrZero, putRefusal};
+use leaf::bytes::TIME_SIZE;
+use leaf::bytes::WORD_SIZE;
 use leaf::date::Date;
 use leaf::date::NewDate;
+use refusal::Refusal;
+use refusal::number_u32;
 
 // The 32-bit number at offset i, little-endian; bytes past the end read 0.
 #[no_mangle]
@@ -17,12 +22,27 @@ pub extern "C" fn tt_get(b: &[u8], i: usize) -> u32
     leaf::bytes::get(b, i)
 }
 
-// Writes the number n at offset i, four bytes little-endian; if they don't fit nothing changes.
-#[no_mangle]
-pub extern "C" fn tt_put(b: &mut [u8], i: usize, n: u32)
-    ensures { λ _. ⌜ now (b .exit) ≡ Bytes.written (now (b .entry)) i (Bytes.le32 n) ⌝ }
+// 9 if n bytes at offset i don't fit.
+fn put_refusal(length: usize, i: usize, n: usize) -> u32
+    ensures { λ r. ⌜ r ≡ putRefusal length i n ⌝ }
 {
-    leaf::bytes::put(b, i, n)
+    if length < n {
+        return number_u32(Refusal::Small);
+    }
+    if length - n < i {
+        return number_u32(Refusal::Small);
+    }
+    0
+}
+
+// Writes the number n at offset i, four bytes little-endian. Answers 0, or 9 if they don't fit.
+#[no_mangle]
+pub extern "C" fn tt_put(b: &mut [u8], i: usize, n: u32) -> u32
+    ensures { λ r. ⌜ (r ≡ putRefusal (length (now (b .entry))) i Bytes.wordSize) × (now (b .exit) ≡ Bytes.written (now (b .entry)) i (Bytes.le32 n)) ⌝ }
+{
+    let r = put_refusal(b.len(), i, WORD_SIZE);
+    leaf::bytes::put(b, i, n);
+    r
 }
 
 // The signed 64-bit time at offset i, little-endian; bytes past the end read 0.
@@ -33,12 +53,14 @@ pub extern "C" fn tt_get_time(b: &[u8], i: usize) -> i64
     leaf::bytes::get_time(b, i)
 }
 
-// Writes the time z at offset i, eight bytes little-endian; if they don't fit nothing changes.
+// Writes the time z at offset i, eight bytes little-endian. Answers 0, or 9 if they don't fit.
 #[no_mangle]
-pub extern "C" fn tt_put_time(b: &mut [u8], i: usize, z: i64)
-    ensures { λ _. ⌜ now (b .exit) ≡ Bytes.written (now (b .entry)) i (Bytes.le64 z) ⌝ }
+pub extern "C" fn tt_put_time(b: &mut [u8], i: usize, z: i64) -> u32
+    ensures { λ r. ⌜ (r ≡ putRefusal (length (now (b .entry))) i Bytes.timeSize) × (now (b .exit) ≡ Bytes.written (now (b .entry)) i (Bytes.le64 z)) ⌝ }
 {
-    leaf::bytes::put_time(b, i, z)
+    let r = put_refusal(b.len(), i, TIME_SIZE);
+    leaf::bytes::put_time(b, i, z);
+    r
 }
 
 // The CRC-32 of bytes, continued from the CRC of those before; start is 0 if there are none.

@@ -2,12 +2,14 @@
 ghost use mathlib.Core.Path.{_≡_};
 ghost use lib.ListN.{length};
 ghost use Rattle.csv.specs.Write.{rowOf};
-ghost use Rattle.row.specs.Columns.{columnCount, namesLine};
+ghost use Rattle.row.specs.Columns.{namesLine};
 ghost use Rattle.row.specs.Write as Rows;
 ghost use Rattle.rowread.specs.Stored as Stored;
 ghost use Rattle.bloom.specs.Bloom as Bloom;
 ghost use Rattle.bankcore.specs.RowAnswers as Answers;
+use base::table::LAST_TABLE;
 use bloom::Filter;
+use refusal::Refusal;
 use refusal::number_u32;
 use row::RowAnswer;
 use rowread::ReadAnswer;
@@ -16,6 +18,12 @@ use rowread::ReadAnswer;
 pub struct RowNumbers {
     pub refusal: u32,
     pub length: usize,
+}
+
+#[repr(C)]
+pub struct ColumnNumbers {
+    pub refusal: u32,
+    pub count: usize,
 }
 
 // A row, if found: the place of the next one, and how many bytes its values have.
@@ -93,12 +101,21 @@ fn of_filter(a: Filter) -> FilterNumbers
     }
 }
 
-// How many columns a table has; 0 above table 7.
+// How many columns a table has.
 #[no_mangle]
-pub extern "C" fn tt_column_count(table: u32) -> usize
-    ensures { λ r. ⌜ r ≡ columnCount table ⌝ }
+pub extern "C" fn tt_column_count(table: u32) -> ColumnNumbers
+    ensures { λ r. ⌜ r ≡ Answers.ofColumns table ⌝ }
 {
-    row::column_count(table)
+    if LAST_TABLE < table {
+        return ColumnNumbers {
+            refusal: number_u32(Refusal::Argument),
+            count: 0,
+        };
+    }
+    ColumnNumbers {
+        refusal: 0,
+        count: row::column_count(table),
+    }
 }
 
 // Writes a table's names line to out.

@@ -160,7 +160,13 @@ fn answer(request: &str) -> Option<String> {
             hex(&b)
         }
         ["key", identity, texts, lengths] => key(identity, texts, lengths)?,
-        ["columns", table] => rows::column_count(table.parse().ok()?).to_string(),
+        ["columns", table] => {
+            let columns = rows::column_count(table.parse().ok()?);
+            match columns.refusal {
+                0 => columns.count.to_string(),
+                refusal => format!("refusal {refusal}"),
+            }
+        }
         ["names", table] => {
             let mut out = [0; LONGEST_ROW];
             line(rows::names_line(table.parse().ok()?, &mut out), &out)

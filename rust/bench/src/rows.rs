@@ -32,7 +32,7 @@ impl Case {
             .collect();
         let mut case = Self {
             number,
-            width: rows::column_count(number),
+            width: rows::column_count(number).count,
             rows: values
                 .into_iter()
                 .map(|v| (v.concat(), v.iter().map(|v| v.len() as u32).collect(), v))

@@ -36,9 +36,9 @@ mod core_interface {
 
     unsafe extern "C" {
         pub fn tt_get(b: *const u8, n: u64, i: u64) -> u32;
-        pub fn tt_put(b: *mut u8, n: u64, i: u64, v: u32);
+        pub fn tt_put(b: *mut u8, n: u64, i: u64, v: u32) -> u32;
         pub fn tt_get_time(b: *const u8, n: u64, i: u64) -> i64;
-        pub fn tt_put_time(b: *mut u8, n: u64, i: u64, v: i64);
+        pub fn tt_put_time(b: *mut u8, n: u64, i: u64, v: i64) -> u32;
         pub fn tt_crc32(start: u32, b: *const u8, n: u64) -> u32;
         pub safe fn tt_newer(a: u32, b: u32) -> bool;
         pub safe fn tt_next(g: u32) -> u32;
@@ -124,8 +124,8 @@ pub fn get(b: &[u8], i: usize) -> u32 {
     unsafe { tt_get(b.as_ptr(), b.len() as u64, i as u64) }
 }
 
-/// Writes the number at `i`; if its four bytes don't fit, nothing changes.
-pub fn put(b: &mut [u8], i: usize, v: u32) {
+/// Writes the number at `i`; 0, or 9 if its four bytes don't fit, and then nothing changes.
+pub fn put(b: &mut [u8], i: usize, v: u32) -> u32 {
     unsafe { tt_put(b.as_mut_ptr(), b.len() as u64, i as u64, v) }
 }
 
@@ -134,8 +134,8 @@ pub fn get_time(b: &[u8], i: usize) -> i64 {
     unsafe { tt_get_time(b.as_ptr(), b.len() as u64, i as u64) }
 }
 
-/// Writes the time at `i`; if its eight bytes don't fit, nothing changes.
-pub fn put_time(b: &mut [u8], i: usize, v: i64) {
+/// Writes the time at `i`; 0, or 9 if its eight bytes don't fit, and then nothing changes.
+pub fn put_time(b: &mut [u8], i: usize, v: i64) -> u32 {
     unsafe { tt_put_time(b.as_mut_ptr(), b.len() as u64, i as u64, v) }
 }
 

@@ -5,6 +5,12 @@ mod core_interface {
     use super::FilterAnswer;
 
     #[repr(C)]
+    pub struct ColumnNumbers {
+        pub refusal: u32,
+        pub count: u64,
+    }
+
+    #[repr(C)]
     pub struct RowNumbers {
         pub refusal: u32,
         pub length: u64,
@@ -19,7 +25,7 @@ mod core_interface {
     }
 
     unsafe extern "C" {
-        pub safe fn tt_column_count(table: u32) -> u64;
+        pub safe fn tt_column_count(table: u32) -> ColumnNumbers;
         pub fn tt_names_line(table: u32, out: *mut u8, room: u64) -> RowNumbers;
         pub fn tt_row(
             table: u32,
@@ -90,9 +96,17 @@ pub struct Values<'a> {
     pub lengths: &'a [u32],
 }
 
-/// How many columns a table has, 0 above table 7.
-pub fn column_count(table: u32) -> usize {
-    tt_column_count(table) as usize
+/// How many columns a table has; 0 beside a refusal.
+#[derive(Clone, Copy, Debug, Default, PartialEq, Eq)]
+pub struct ColumnAnswer {
+    pub refusal: u32,
+    pub count: usize,
+}
+
+/// How many columns a table has; 2 above table 7.
+pub fn column_count(table: u32) -> ColumnAnswer {
+    let columns = tt_column_count(table);
+    ColumnAnswer { refusal: columns.refusal, count: columns.count as usize }
 }
 
 /// A table's names line, into the first bytes of `out`.

@@ -324,7 +324,7 @@ fn ask_rows_from(tally: &mut Tally, expected: &Expected, round: usize, first: Ro
         let rust = match stored {
             Err(refusal) => (refusal, 0, 0, 0),
             Ok(bytes) => {
-                let width = rows::column_count(table);
+                let width = rows::column_count(table).count;
                 let a = rows::read_row(bytes, width, place, &mut after, &mut places);
                 (a.refusal, a.found, a.next, a.size)
             }

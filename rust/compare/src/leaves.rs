@@ -8,6 +8,9 @@ use common::Random;
 use lifted::{cache::door, timetable_display::config};
 use std::marker::PhantomData;
 
+/// The refusal of an output that is too small.
+const SMALL: u32 = 9;
+
 const CAPACITY: usize = 487_424;
 /// Bytes before and after a lent buffer, to see whether they stay.
 const GUARD: usize = 16;
@@ -482,10 +485,12 @@ impl Access for Put {
     const WIDTH: usize = 4;
     fn ask(place: &Place<Self>, tally: &mut Tally) {
         let (at, value) = (place.at, place.value as u32);
-        let core = place.after(|bytes| bankcore::put(bytes, at, value));
+        let mut refusal = 0;
+        let core = place.after(|bytes| refusal = bankcore::put(bytes, at, value));
         let rust = quietly(|| place.after(|bytes| door::put(bytes, at, value))).ok();
         let fits = place.span(4).is_some();
         tally.same(rust.is_some(), fits, || place.about("whether the Rust's put is done"));
+        tally.same(refusal, if fits { 0 } else { SMALL }, || place.about("put's answer"));
         let rust = rust.unwrap_or(place.guarded.clone());
         tally.same(core, rust, || place.about("put"));
     }
@@ -508,7 +513,9 @@ impl Access for Time {
                 bytes[at..at + 8].copy_from_slice(&value.to_le_bytes());
             }
         });
-        let core = place.after(|bytes| bankcore::put_time(bytes, at, value));
+        let mut refusal = 0;
+        let core = place.after(|bytes| refusal = bankcore::put_time(bytes, at, value));
         tally.same(core, rust, || place.about("put_time"));
+        tally.same(refusal, if fits { 0 } else { SMALL }, || place.about("put_time's answer"));
     }
 }

@@ -5,7 +5,7 @@ use crate::{
     update::content::row_line,
     wrong::{Wrong, tried},
 };
-use bankcore::rows::{self, RowAnswer, Values};
+use bankcore::rows::{self, ColumnAnswer, RowAnswer, Values};
 use common::Random;
 use lifted::{
     cache::{
@@ -251,7 +251,10 @@ pub fn names(_: &Plan, tally: &mut Tally) {
     let mut lifted = Lifted::new();
     for table in (0..40).chain([255, 256, 1 << 16, u32::MAX - 7, u32::MAX]) {
         let line = ((table as usize) < 8).then(|| lifted.names_line(table as usize));
-        let count = line.as_ref().map_or(0, |_| columns(table as usize));
+        let count = match &line {
+            Some(_) => ColumnAnswer { refusal: 0, count: columns(table as usize) },
+            None => ColumnAnswer { refusal: 2, count: 0 },
+        };
         tally.same(rows::column_count(table), count, || {
             (vec![table.into()], format!("column_count of table {table}"))
         });
@@ -539,7 +542,7 @@ fn refusals(tally: &mut Tally, lifted: &mut Lifted) {
                         let bytes = lifted.row(table as usize, &values).unwrap();
                         answered(&bytes, &before)
                     };
-                    let wrong = width != rows::column_count(table) || long && width > 0;
+                    let wrong = width != rows::column_count(table).count || long && width > 0;
                     let causes = [table > 7, wrong, small && width > 0];
                     let at_once = causes.iter().filter(|c| **c).count() > 1;
                     tally.count("sets of refusals at once", usize::from(at_once));
