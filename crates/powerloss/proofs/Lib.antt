@@ -20,6 +20,7 @@ pub mod Uppers
 pub mod States
 pub mod Unchanged
 pub mod Computed
+pub mod ShortRuns
 pub mod Exactly
 pub mod Count
 pub mod Events

@@ -1,0 +1,186 @@
+-- The runs of upper calls, computed while the tail isn't full. Nothing is due then, so the due calls of a run change nothing, and bytes
+-- appended one by one leave what one append of all of them does. By induction on the bytes.
+use mathlib.Core.Path.{_≡_, refl, sym, ap, _∙_}
+use mathlib.Core.Bool.{Bool, true, false, _&&_}
+use mathlib.Core.Option.{none}
+use mathlib.Core.List.{List, [], _∷_, _++_, append-nil}
+use Prim.Native.Nat.{ℕ, suc, _+_, _≤_, _<_}
+use native.Mathlib.Omega.{arith}
+use borrow.Author.Tests.{ne-eqb}
+use lib.Dec.{eqb}
+use lib.ListN.{length, set}
+use lib.Seq.{sets}
+use Rattle.base.specs.Number.{pick}
+use Rattle.leaf.proofs.Checksum.{crc32-append}
+use Rattle.region.specs.Region.{regionSize, capacity}
+use Rattle.flash.specs.Flash.{Op, performed}
+use Rattle.writer.specs.declared.Stage.{Stage}
+use Rattle.writer.specs.declared.Stage.the-variants.{Idle}
+use Rattle.writer.specs.declared.Contents.{Contents}
+use Rattle.writer.specs.declared.Writer.{Writer}
+use Rattle.writer.specs.declared.Step.{Step}
+use Rattle.writer.specs.declared.Answer.the-variants.{Appended}
+use Rattle.writer.specs.State.{position, isDue, stageOf, target, inRange, tailSize, did}
+use Rattle.lower.specs.Lower.{moreContents, withBytes}
+use Rattle.due.specs.Due.{opsOf, dueOps, dueStep}
+use Rattle.run.specs.Run.{Lower, bytes, due, lowerStep, lowerOps, ranWriter, ranRegion, ranOps}
+use Rattle.run.specs.Appends.{dues, appends}
+use Rattle.run.proofs.Laws.{quiet, quiet-step}
+use Rattle.upper.specs.Upper.{Upper, appendedBytes, lowerOf, runOf, refusalOf, upperRun, upperStep, upperRegion, upperOps}
+use Rattle.powerloss.proofs.Keeps.{keeps-bytes}
+use Rattle.powerloss.proofs.Answers.{Fit, byte-step, bytes-closed, bytes-position}
+
+-- the state, the region and the operations of a run
+pub record Outcome : Type 0 where
+  pub writer : Writer
+  pub region : List ℕ
+  pub ops : List Op
+
+abbrev pub outcome : List ℕ → Writer → List Lower → Outcome
+outcome region w cs = record { writer = ranWriter region w cs; region = ranRegion region w cs; ops = ranOps region w cs }
+
+abbrev pub after : List Op → Outcome → Outcome
+after ops o = record { writer = o .writer; region = o .region; ops = ops ++ o .ops }
+
+abbrev pub ends : Writer → List ℕ → Outcome
+ends w region = record { writer = w; region = region; ops = [] }
+
+module _ (region : List ℕ) (w : Writer) where
+  pub no-call : outcome region w [] ≡ ends w region
+  unfolding ranWriter ranRegion ranOps
+  no-call = refl
+
+  -- a call with these operations, then the others
+  pub with-call : (c : Lower) (cs : List Lower) (s : Step) (ops : List Op) → lowerStep region w c ≡ s → lowerOps region w c ≡ ops
+      → outcome region w (c ∷ cs) ≡ after ops (outcome (performed (target (w .beginning .active)) ops region) (s .writer) cs)
+  unfolding ranWriter ranRegion ranOps
+  with-call c cs s ops e f = rw (e, f)
+
+  -- one without
+  pub quiet-call : (c : Lower) (cs : List Lower) (s : Step) → lowerStep region w c ≡ s → lowerOps region w c ≡ [] → outcome region w (c ∷ cs) ≡ outcome region (s .writer) cs
+  unfolding performed
+  quiet-call c cs s e f = with-call c cs s [] e f
+
+  idle-ops : (t : Bool) (s : Stage) → s ≡ Idle → pick t (opsOf (w .tail) s) [] ≡ []
+  idle-ops true s e = rw e
+  idle-ops false s e = refl
+
+  pub idle-due : (cs : List Lower) → w .stage ≡ Idle → outcome region w (due ∷ cs) ≡ outcome region w cs
+  unfolding lowerStep lowerOps dueOps
+  idle-due cs e =
+      quiet-call due cs (dueStep region w) refl (idle-ops (eqb (length region) regionSize && inRange w) (w .stage) e) ∙ ap (λ (v : Writer). outcome region v cs) (quiet-step region w (ap quiet e))
+
+  pub idle-dues : (cs : List Lower) → w .stage ≡ Idle → outcome region w (dues ++ cs) ≡ outcome region w cs
+  idle-dues cs e = idle-due (due ∷ due ∷ cs) e ∙ idle-due (due ∷ cs) e ∙ idle-due cs e
+
+-- ---- bytes
+
+none-due : (t : Contents) → t .closed ≡ false → t .fill < tailSize → isDue t ≡ false
+unfolding isDue
+none-due t c h = rw (ne-eqb (t .fill) tailSize (λ e. omega arith), c)
+
+module _ (w : Writer) (xs : List ℕ) (e : w .contents .closed ≡ false) (h : w .contents .fill + length xs < tailSize) where
+  more-none : isDue (withBytes w xs .contents) ≡ false
+  unfolding withBytes
+  more-none = none-due (moreContents (w .contents) xs) e h
+
+  more-idle : withBytes w xs .stage ≡ Idle
+  unfolding withBytes stageOf
+  more-idle = rw (none-due (moreContents (w .contents) xs) e h)
+
+-- two appends are one
+module _ (w : Writer) (y : ℕ) (xs : List ℕ) where
+  both-contents : moreContents (moreContents (w .contents) (y ∷ [])) xs ≡ moreContents (w .contents) (y ∷ xs)
+  both-contents =
+      let f : w .contents .fill + length (y ∷ []) + length xs ≡ w .contents .fill + length (y ∷ xs) = omega arith in
+      λ i. record { written = w .contents .written; fill = f i; crc = crc32-append (w .contents .crc) (y ∷ []) xs i; different = w .contents .different; closed = w .contents .closed }
+
+  both-bytes : withBytes (withBytes w (y ∷ [])) xs ≡ withBytes w (y ∷ xs)
+  unfolding withBytes
+  both-bytes =
+      let e : w .contents .fill + length (y ∷ []) ≡ suc (w .contents .fill) = omega arith in
+      λ i. record {
+        stage = stageOf (w .beginning .comparing) (both-contents i);
+        beginning = w .beginning;
+        contents = both-contents i;
+        tables = record { count = w .tables .count; table = w .tables .table; start = w .tables .start; crc = crc32-append (w .tables .crc) (y ∷ []) xs i; begun = w .tables .begun };
+        sources = w .sources;
+        tail = sets (set (w .tail) (w .contents .fill) y) (e i) xs;
+      }
+
+bytes-fill : (w : Writer) (x : ℕ) → withBytes w (x ∷ []) .contents .fill ≡ w .contents .fill + 1
+unfolding withBytes
+bytes-fill w x = refl
+
+-- as many bytes as the tail holds, then what is due, then the others
+module _ (region zs : List ℕ) where
+  pub chunk : (ys : List ℕ) (y : ℕ) (w : Writer) → Fit region w → w .contents .closed ≡ false → isDue (w .contents) ≡ false
+      → w .contents .fill + suc (length ys) ≤ tailSize → position (w .contents) + suc (length ys) ≤ capacity
+      → outcome region w (appends (y ∷ (ys ++ zs))) ≡ outcome region (withBytes w (y ∷ ys)) (dues ++ appends zs)
+  unfolding appends
+  chunk [] y w f e d h k =
+      quiet-call region w (bytes (y ∷ [])) _ (record { answer = Appended 1; writer = withBytes w (y ∷ []) }) (unfold lowerStep in (byte-step region w y f e d (omega arith))) (unfold lowerOps in refl)
+  chunk (x ∷ ys) y w f e d h k =
+      let w1 = withBytes w (y ∷ []) in
+      let f1 : Fit region w1 = record { size = f .size; range = keeps-bytes w (f .range) (y ∷ []) e (omega arith) (omega arith) } in
+      quiet-call region w (bytes (y ∷ [])) _ (record { answer = Appended 1; writer = w1 }) (unfold lowerStep in (byte-step region w y f e d (omega arith))) (unfold lowerOps in refl)
+      ∙ idle-dues region w1 _ (more-idle w (y ∷ []) e (omega arith))
+      ∙ chunk ys x w1 f1 (bytes-closed w (y ∷ []) ∙ e) (more-none w (y ∷ []) e (omega arith)) (omega (arith, bytes-fill w y)) (omega (arith, bytes-position w y))
+      ∙ ap (λ (v : Writer). outcome region v (dues ++ appends zs)) (both-bytes w y (x ∷ ys))
+
+-- fewer than that
+pub short : (region : List ℕ) (w : Writer) (y : ℕ) (ys : List ℕ) → Fit region w → w .contents .closed ≡ false → isDue (w .contents) ≡ false
+    → w .contents .fill + suc (length ys) < tailSize → position (w .contents) + suc (length ys) ≤ capacity
+    → outcome region w (appends (y ∷ ys)) ≡ ends (withBytes w (y ∷ ys)) region
+short region w y ys f e d h k =
+    ap (λ (l : List ℕ). outcome region w (appends (y ∷ l))) (sym (append-nil ys))
+    ∙ chunk region [] ys y w f e d (omega arith) k
+    ∙ idle-dues region (withBytes w (y ∷ ys)) (appends []) (more-idle w (y ∷ ys) e h)
+    ∙ unfold appends in (no-call region (withBytes w (y ∷ ys)))
+
+-- ---- an upper call that isn't refused does its run
+
+-- in order, open, and nothing is due
+pub record Still (region : List ℕ) (w : Writer) : Type 0 where
+  pub fit : Fit region w
+  pub closed : w .contents .closed ≡ false
+  pub none· : isDue (w .contents) ≡ false
+  pub idle : w .stage ≡ Idle
+
+module _ (region : List ℕ) (w : Writer) (c : Upper) (h : w .stage ≡ Idle) where
+  abbrev Fits : Writer → List ℕ → Type 0
+  Fits v ys = (v .contents .fill + suc (length ys) < tailSize) × (position (v .contents) + suc (length ys) ≤ capacity)
+
+  -- the lower call of the same name, then bytes
+  pub call-bytes : (x : Lower) (v : Writer) (y : ℕ) (ys : List ℕ) → lowerOf c ≡ x ∷ [] → lowerStep region w x ≡ did v → lowerOps region w x ≡ [] → Still region v
+      → appendedBytes c ≡ y ∷ ys → Fits v ys → outcome region w (runOf c) ≡ ends (withBytes v (y ∷ ys)) region
+  unfolding runOf
+  call-bytes x v y ys p e f t q k =
+      idle-dues region w _ h
+      ∙ (λ i. outcome region w (p i ++ (dues ++ appends (q i))))
+      ∙ quiet-call region w x _ (did v) e f
+      ∙ idle-dues region v _ (t .idle)
+      ∙ short region v y ys (t .fit) (t .closed) (t .none·) (k .0) (k .1)
+
+  -- bytes alone
+  pub only-bytes : (y : ℕ) (ys : List ℕ) → lowerOf c ≡ [] → Still region w → appendedBytes c ≡ y ∷ ys → Fits w ys → outcome region w (runOf c) ≡ ends (withBytes w (y ∷ ys)) region
+  unfolding runOf
+  only-bytes y ys p t q k =
+      idle-dues region w _ h
+      ∙ (λ i. outcome region w (p i ++ (dues ++ appends (q i))))
+      ∙ idle-dues region w _ h
+      ∙ short region w y ys (t .fit) (t .closed) (t .none·) (k .0) (k .1)
+
+  -- the lower call alone, then what is due
+  pub only-call : (x : Lower) (v : Writer) → lowerOf c ≡ x ∷ [] → lowerStep region w x ≡ did v → lowerOps region w x ≡ [] → appendedBytes c ≡ [] → outcome region w (runOf c) ≡ outcome region v dues
+  unfolding runOf
+  only-call x v p e f q =
+      idle-dues region w _ h
+      ∙ (λ i. outcome region w (p i ++ (dues ++ appends (q i))))
+      ∙ quiet-call region w x _ (did v) e f
+      ∙ unfold appends in refl
+
+pub upper-outcome : (region : List ℕ) (w : Writer) (c : Upper) (o : Outcome) → refusalOf region w c ≡ none → outcome region w (runOf c) ≡ o
+    → (upperStep region w c ≡ did (o .writer)) × (upperRegion region w c ≡ o .region) × (upperOps region w c ≡ o .ops)
+unfolding upperStep upperRegion upperOps upperRun
+upper-outcome region w c o e f = rw e (ap (λ (x : Outcome). did (x .writer)) f, ap (λ (x : Outcome). x .region) f, ap (λ (x : Outcome). x .ops) f)
