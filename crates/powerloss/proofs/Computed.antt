@@ -413,10 +413,10 @@ unfolding All fill
 all-fill P a zero p = tt
 all-fill P a (suc n) p = (p, all-fill P a n p)
 
-zero-fits : SFits w64 (pos 0)
+pub zero-fits : SFits w64 (pos 0)
 zero-fits = record { sfits = omega arith }
 
-proper : Proper theSource
+pub proper : Proper theSource
 proper =
     record {
       sized =
@@ -439,7 +439,7 @@ proper =
       texts = record { stamp = bytes-fill 0 12 (omega arith); idlen = omega arith; id = bytes-fill 0 80 (omega arith); validator = bytes-fill 0 66 (omega arith) };
     }
 
-bytes-of : (xs : List ℕ) → All (λ (x : ℕ). x < 256) xs → Bytes xs
+pub bytes-of : (xs : List ℕ) → All (λ (x : ℕ). x < 256) xs → Bytes xs
 unfolding All
 bytes-of [] p = bytes-nil
 bytes-of (x ∷ xs) p = bytes-cons x xs (p .0) (bytes-of xs (p .1))
@@ -520,12 +520,12 @@ cutAtTheWordsEndData = data-by (cut word 0 4) tt cutAtTheWordsEnd given-cut
 
 -- ---- one update, then other events
 
-next-append : (xs ys : List Event) (r : Run) → nextAll r (xs ++ ys) ≡ nextAll (nextAll r xs) ys
+pub next-append : (xs ys : List Event) (r : Run) → nextAll r (xs ++ ys) ≡ nextAll (nextAll r xs) ys
 unfolding nextAll
 next-append [] ys r = refl
 next-append (x ∷ xs) ys r = next-append xs ys (next r x)
 
-typed-append : (xs ys : List Event) → AllTyped xs → AllTyped ys → AllTyped (xs ++ ys)
+pub typed-append : (xs ys : List Event) → AllTyped xs → AllTyped ys → AllTyped (xs ++ ys)
 typed-append [] ys p q = q
 typed-append (x ∷ xs) ys p q = (p .0, typed-append xs ys (p .1) q)
 
@@ -597,11 +597,11 @@ module _ (hd : Loaded) (ok : activeOk hd ≡ true) (region : List ℕ) (l : leng
       ∙ (λ i. write sectorSize (data-op i) ∷ ops-commit i)))
 
 -- the two words, byte by byte
-blank-is : blankWord ≡ 255 ∷ 255 ∷ 255 ∷ 255 ∷ []
+pub blank-is : blankWord ≡ 255 ∷ 255 ∷ 255 ∷ 255 ∷ []
 unfolding blankWord fill
 blank-is = refl
 
-word-is : commitBytes ≡ 84 ∷ 77 ∷ 79 ∷ 67 ∷ []
+pub word-is : commitBytes ≡ 84 ∷ 77 ∷ 79 ∷ 67 ∷ []
 unfolding commitBytes le32
 word-is = refl
 

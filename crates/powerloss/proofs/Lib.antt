@@ -21,6 +21,7 @@ pub mod States
 pub mod Unchanged
 pub mod Computed
 pub mod ShortRuns
+pub mod UpperComputed
 pub mod Exactly
 pub mod Count
 pub mod Events

@@ -4,3 +4,4 @@ pub mod Claim
 pub mod Instances
 pub mod Ranges
 pub mod Operations
+pub mod UpperInstances
