@@ -1,33 +1,39 @@
 -- The runs of upper calls, computed while the tail isn't full. Nothing is due then, so the due calls of a run change nothing, and bytes
 -- appended one by one leave what one append of all of them does. By induction on the bytes.
-use mathlib.Core.Path.{_≡_, refl, sym, ap, _∙_}
+use mathlib.Core.Path.{_≡_, refl, sym, ap, _∙_, subst}
 use mathlib.Core.Bool.{Bool, true, false, _&&_}
 use mathlib.Core.Option.{none}
 use mathlib.Core.List.{List, [], _∷_, _++_, append-nil}
 use Prim.Native.Nat.{ℕ, suc, _+_, _≤_, _<_}
 use native.Mathlib.Omega.{arith}
-use borrow.Author.Tests.{ne-eqb}
+use borrow.Author.Tests.{eq-eqb, ne-eqb}
 use lib.Dec.{eqb}
-use lib.ListN.{length, set}
+use lib.ListN.{length, take, set}
 use lib.Seq.{sets}
 use Rattle.base.specs.Number.{pick}
 use Rattle.leaf.proofs.Checksum.{crc32-append}
-use Rattle.region.specs.Region.{regionSize, capacity}
-use Rattle.flash.specs.Flash.{Op, performed}
+use Rattle.record.specs.declared.Source.{Source}
+use Rattle.region.specs.Region.{regionSize, capacity, sectorSize}
+use Rattle.flash.specs.Flash.{Op, erase, write, applied, performed}
+use Rattle.flash.proofs.Laws.{length-performed}
+use Rattle.writer.specs.declared.Operation.the-variants.{Erase, Write}
 use Rattle.writer.specs.declared.Stage.{Stage}
-use Rattle.writer.specs.declared.Stage.the-variants.{Idle}
+use Rattle.writer.specs.declared.Stage.the-variants.{Idle, Due}
+use Rattle.writer.specs.declared.Beginning.{Beginning}
 use Rattle.writer.specs.declared.Contents.{Contents}
+use Rattle.writer.specs.declared.Tables.{Tables}
 use Rattle.writer.specs.declared.Writer.{Writer}
 use Rattle.writer.specs.declared.Step.{Step}
 use Rattle.writer.specs.declared.Answer.the-variants.{Appended}
-use Rattle.writer.specs.State.{position, isDue, stageOf, target, inRange, tailSize, did}
+use Rattle.writer.specs.State.{position, isDue, dataDue, stageOf, target, inRange, tailSize, did}
 use Rattle.lower.specs.Lower.{moreContents, withBytes}
-use Rattle.due.specs.Due.{opsOf, dueOps, dueStep}
+use Rattle.due.specs.Due.{padded, opsOf, dueOps, operated, dueStep}
 use Rattle.run.specs.Run.{Lower, bytes, due, lowerStep, lowerOps, ranWriter, ranRegion, ranOps}
 use Rattle.run.specs.Appends.{dues, appends}
 use Rattle.run.proofs.Laws.{quiet, quiet-step}
 use Rattle.upper.specs.Upper.{Upper, appendedBytes, lowerOf, runOf, refusalOf, upperRun, upperStep, upperRegion, upperOps}
-use Rattle.powerloss.proofs.Keeps.{keeps-bytes}
+use Rattle.powerloss.proofs.Load.{target-fits}
+use Rattle.powerloss.proofs.Keeps.{keeps-bytes, keeps-call}
 use Rattle.powerloss.proofs.Answers.{Fit, byte-step, bytes-closed, bytes-position}
 
 -- the state, the region and the operations of a run
@@ -137,6 +143,58 @@ short region w y ys f e d h k =
     ∙ chunk region [] ys y w f e d (omega arith) k
     ∙ idle-dues region (withBytes w (y ∷ ys)) (appends []) (more-idle w (y ∷ ys) e h)
     ∙ unfold appends in (no-call region (withBytes w (y ∷ ys)))
+
+-- ---- the first write of an update
+
+-- the header sector's erase is due: it, the data sector's and the write are done
+module _ (b : Beginning) (n crc : ℕ) (d c : Bool) (x : Tables) (ss : List Source) (tail : List ℕ) where
+  abbrev pub unwritten : Stage → Writer
+  unwritten g = record { stage = g; beginning = b; contents = record { written = 0; fill = n; crc = crc; different = d; closed = c }; tables = x; sources = ss; tail = tail }
+
+  abbrev pub flushed : Writer
+  flushed = record { stage = Idle; beginning = b; contents = record { written = 0 + n; fill = 0; crc = crc; different = d; closed = c }; tables = x; sources = ss; tail = tail }
+
+  abbrev pub firstWrite : Op
+  firstWrite = write sectorSize (padded (take n tail))
+
+  abbrev Does : List ℕ → Stage → Writer → Op → Type 0
+  Does region g w op = (lowerStep region (unwritten g) due ≡ did w) × (lowerOps region (unwritten g) due ≡ op ∷ [])
+
+  module _ (region : List ℕ) where
+    header-erase : Fit region (unwritten (Due (Erase 0))) → Does region (Due (Erase 0)) (unwritten (Due (Erase 1))) (erase 0)
+    unfolding lowerStep lowerOps dueStep dueOps operated dataDue
+    header-erase f = rw (eq-eqb (length region) regionSize (f .size), f .range) (refl, refl)
+
+    data-erase : Fit region (unwritten (Due (Erase 1))) → Does region (Due (Erase 1)) (unwritten (Due (Write 0 n))) (erase sectorSize)
+    unfolding lowerStep lowerOps dueStep dueOps operated
+    data-erase f = rw (eq-eqb (length region) regionSize (f .size), f .range) (refl, refl)
+
+    data-write : Fit region (unwritten (Due (Write 0 n))) → Does region (Due (Write 0 n)) flushed firstWrite
+    unfolding lowerStep lowerOps dueStep dueOps operated
+    data-write f = rw (eq-eqb (length region) regionSize (f .size), f .range) (refl, refl)
+
+  pub first-flush : (region : List ℕ) (cs : List Lower) → Fit region (unwritten (Due (Erase 0)))
+      → outcome region (unwritten (Due (Erase 0))) (dues ++ cs)
+      ≡ after (erase 0 ∷ erase sectorSize ∷ firstWrite ∷ []) (outcome (performed (target (b .active)) (erase 0 ∷ erase sectorSize ∷ firstWrite ∷ []) region) flushed cs)
+  unfolding performed
+  first-flush region cs f =
+      let h = header-erase region f in
+      let r1 = applied (target (b .active)) (erase 0) region in
+      let f1 : Fit r1 (unwritten (Due (Erase 1))) = after-call region (Due (Erase 0)) (unwritten (Due (Erase 1))) (erase 0) f h in
+      let s = data-erase r1 f1 in
+      let r2 = applied (target (b .active)) (erase sectorSize) r1 in
+      let f2 : Fit r2 (unwritten (Due (Write 0 n))) = after-call r1 (Due (Erase 1)) (unwritten (Due (Write 0 n))) (erase sectorSize) f1 s in
+      let t = data-write r2 f2 in
+      with-call region _ due (due ∷ due ∷ cs) _ (erase 0 ∷ []) (h .0) (h .1)
+      ∙ ap (after (erase 0 ∷ [])) (with-call r1 _ due (due ∷ cs) _ (erase sectorSize ∷ []) (s .0) (s .1)
+      ∙ ap (after (erase sectorSize ∷ [])) (with-call r2 _ due cs _ (firstWrite ∷ []) (t .0) (t .1)))
+    where
+      after-call : (region : List ℕ) (g : Stage) (w : Writer) (op : Op) → Fit region (unwritten g) → Does region g w op → Fit (applied (target (b .active)) op region) w
+      after-call region g w op f d =
+          record {
+            size = length-performed (target (b .active)) (op ∷ []) region (target-fits (b .active)) (f .size);
+            range = subst (λ (s : Step). inRange (s .writer) ≡ true) (d .0) (keeps-call region (unwritten g) (f .range) due);
+          }
 
 -- ---- an upper call that isn't refused does its run
 

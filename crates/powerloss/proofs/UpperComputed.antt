@@ -11,7 +11,7 @@ use native.Mathlib.Omega.{arith}
 use borrow.Author.Tests.{eq-eqb}
 use lib.IntN.{ℤ, pos}
 use lib.Signed.{leZ}
-use lib.ListN.{length, take, set, getD}
+use lib.ListN.{length, take, set, getD, length-append}
 use lib.Seq.{sets}
 use mir.Syntax.{w64}
 use mir.Val.{SFits}
@@ -28,6 +28,7 @@ use Rattle.record.specs.declared.Source.{Source}
 use Rattle.record.specs.Record.{noSource}
 use Rattle.record.specs.Types.{All}
 use Rattle.base.specs.Lists.{fill, each}
+use Rattle.base.proofs.Lists.{length-fill}
 use Rattle.header.specs.Header.{spanOk, sourceOk, judge, maxSources, commitOffset}
 use Rattle.header.specs.Types.{Bytes}
 use Rattle.header.specs.WriteHeader.{isFit, headerBytes, blankWord, commitBytes}
@@ -38,7 +39,7 @@ use Rattle.bank.specs.declared.Loaded.the-variants.{Found}
 use Rattle.bank.specs.Bank.{loaded}
 use Rattle.flash.specs.Flash.{Op, erase, write, torn, applied, performed}
 use Rattle.flash.proofs.Laws.{length-performed}
-use Rattle.writer.specs.declared.Operation.the-variants.{Erase, Write, Compare}
+use Rattle.writer.specs.declared.Operation.the-variants.{Erase, Compare}
 use Rattle.writer.specs.declared.Stage.{Stage}
 use Rattle.writer.specs.declared.Stage.the-variants.{Idle, Due, HeaderWritten, Committed}
 use Rattle.writer.specs.declared.Contents.{Contents}
@@ -46,7 +47,7 @@ use Rattle.writer.specs.declared.Tables.{Tables}
 use Rattle.writer.specs.declared.Answer.{Answer}
 use Rattle.writer.specs.declared.Answer.the-variants.{Done, Same, Different}
 use Rattle.writer.specs.declared.Writer.{Writer}
-use Rattle.writer.specs.State.{isDue, firstDue, dataDue, stageOf, target, begunIn, activeOk, contentsOk, tablesOk, operationOk, stageOk, inRange, tailSize, nextGeneration, did}
+use Rattle.writer.specs.State.{isDue, firstDue, stageOf, target, begunIn, activeOk, contentsOk, tablesOk, operationOk, stageOk, inRange, tailSize, nextGeneration, did}
 use Rattle.lower.specs.Lower.{started, withSource, sourceStep, withTable, tableStep, withBytes, withEnd, endStep, withClosed, closeStep, emptied, withBlock, pastEnd}
 use Rattle.commit.specs.declared.Stamp.the-variants.{Given}
 use Rattle.commit.specs.Commit.{checkedTime, bankFor, recordsFor, commitStep, commitOps, wordStep, wordOps}
@@ -59,16 +60,17 @@ use Rattle.powerloss.specs.History.{Update, Note, bankOf, recordsOf, rec
 use Rattle.powerloss.specs.Machine.{Event, call, beginKey, upper, upperCut, cutAt, Run, Image, onCall, onUpper, onUpperCut, imageAfter, bankIn, recordsIn, found, next, nextAll}
 use Rattle.powerloss.specs.Claim.{AllTyped, Holds, datesAndBlocks, IsEqual, UnchangedAt}
 use Rattle.powerloss.specs.Operations.{since, opsAfter}
-use Rattle.powerloss.specs.Instances.{dates, theSource}
-use Rattle.powerloss.specs.UpperInstances.{key, names, texts, lengths, rowBytes, data·, answerOn, now, later, earlier, toTableEnd, updateAt, updated, written, Gives, StampAfterNow, StampBeforeNow, FiveOperations, beginningCut, CutBeginning, closingCut, CutClosing, AfterOne, compared, SameRow, OtherRow}
-use Rattle.powerloss.proofs.Bytes.{bytes-nil}
+use Rattle.powerloss.specs.Instances.{dates, theSource, theOld}
+use Rattle.powerloss.specs.UpperInstances.{key, names, texts, lengths, rowBytes, data·, answerOn, now, later, earlier, toTableEnd, updateAt, updated, written, Gives, StampAfterNow, StampBeforeNow, FiveOperations, After, beginningCut, CutBeginning, identity, keyWrite, keyCut, CutInTheKey, closingCut, CutClosing, compared, SameRow, OtherRow}
+use Rattle.powerloss.proofs.Bytes.{bytes-nil, bytes-fill}
+use Rattle.powerloss.proofs.Answers.{Fit}
 use Rattle.powerloss.proofs.Cuts.{cut-none, cut-inside, cut-after}
 use Rattle.powerloss.proofs.Load.{target-fits, active-ok}
 use Rattle.powerloss.proofs.Lowers.{mk}
 use Rattle.powerloss.proofs.Uppers.{inv-all, inv-found, demand3}
 use Rattle.powerloss.proofs.Unchanged.{exactly}
 use Rattle.powerloss.proofs.Computed.{proper, bytes-of, next-append, typed-append, blank-is, word-is}
-use Rattle.powerloss.proofs.ShortRuns.{Outcome, outcome, after, ends, no-call, with-call, quiet-call, idle-due, idle-dues, short, Still, call-bytes, only-bytes, only-call, upper-outcome}
+use Rattle.powerloss.proofs.ShortRuns.{Outcome, outcome, after, ends, no-call, quiet-call, idle-due, idle-dues, chunk, short, first-flush, Still, call-bytes, only-bytes, only-call, upper-outcome}
 
 -- a state of this update
 abbrev st : Loaded → Bool → Stage → Contents → Tables → List Source → List ℕ → Writer
@@ -220,53 +222,19 @@ module _ (hd : Loaded) (ok : activeOk hd ≡ true) (comparing : Bool) (region : 
       upper-outcome region s6 closing _ close-fits (only-call region s6 closing refl close s7 refl close-step (unfold lowerOps in refl) (unfold appendedBytes in refl) ∙ f)
 
 -- what is due then, writing
-abbrev eraseHeader : List Op
-eraseHeader = erase 0 ∷ []
-
-abbrev eraseData : List Op
-eraseData = erase sectorSize ∷ []
-
-abbrev writeData : List ℕ → List Op
-writeData tail = write sectorSize (padded (take 53 tail)) ∷ []
-
 abbrev closingOps : List ℕ → List Op
 closingOps tail = erase 0 ∷ erase sectorSize ∷ write sectorSize (padded (take 53 tail)) ∷ []
 
-module _ (hd : Loaded) (ok : activeOk hd ≡ true) (ss : List Source) (tail : List ℕ) (a b : ℕ) where
-  abbrev closedIn : Stage → Writer
-  closedIn g = st hd false g (tk 0 53 a false true) (tb 1 8 9 b 1) ss tail
+module _ (hd : Loaded) (ok : activeOk hd ≡ true) (ss : List Source) (tail : List ℕ) (a b : ℕ) (region : List ℕ) (l : length region ≡ regionSize) where
+  abbrev dueErase : Writer
+  dueErase = st hd false (Due (Erase 0)) (tk 0 53 a false true) (tb 1 8 9 b 1) ss tail
 
-  abbrev writtenAll : Writer
-  writtenAll = st hd false Idle (tk 53 0 a false true) (tb 1 8 9 b 1) ss tail
+  erase-fit : Fit region dueErase
+  unfolding inRange contentsOk tablesOk stageOk operationOk isDue
+  erase-fit = record { size = l; range = rw ok refl }
 
-  module _ (region : List ℕ) (l : length region ≡ regionSize) where
-    due-header : (lowerStep region (closedIn (Due (Erase 0))) due ≡ did (closedIn (Due (Erase 1)))) × (lowerOps region (closedIn (Due (Erase 0))) due ≡ eraseHeader)
-    unfolding lowerStep lowerOps dueStep dueOps operated dataDue inRange contentsOk tablesOk stageOk operationOk isDue
-    due-header = rw (eq-eqb (length region) regionSize l, ok) (refl, refl)
-
-    due-sector : (lowerStep region (closedIn (Due (Erase 1))) due ≡ did (closedIn (Due (Write 0 53)))) × (lowerOps region (closedIn (Due (Erase 1))) due ≡ eraseData)
-    unfolding lowerStep lowerOps dueStep dueOps operated inRange contentsOk tablesOk stageOk operationOk isDue
-    due-sector = rw (eq-eqb (length region) regionSize l, ok) (refl, refl)
-
-    due-write : (lowerStep region (closedIn (Due (Write 0 53))) due ≡ did writtenAll) × (lowerOps region (closedIn (Due (Write 0 53))) due ≡ writeData tail)
-    unfolding lowerStep lowerOps dueStep dueOps operated inRange contentsOk tablesOk stageOk operationOk isDue
-    due-write = rw (eq-eqb (length region) regionSize l, ok) (refl, refl)
-
-  closing-does : (region : List ℕ) → length region ≡ regionSize
-      → outcome region (closedIn (Due (Erase 0))) dues ≡ record { writer = writtenAll; region = performed (target hd) (closingOps tail) region; ops = closingOps tail }
-  unfolding performed
-  closing-does region l =
-      let n = target hd in
-      let r1 = performed n eraseHeader region in
-      let l1 = length-performed n eraseHeader region (target-fits hd) l in
-      let r2 = performed n eraseData r1 in
-      let l2 = length-performed n eraseData r1 (target-fits hd) l1 in
-      let h = due-header region l in
-      let s = due-sector r1 l1 in
-      let t = due-write r2 l2 in
-      with-call region _ due (due ∷ due ∷ []) _ eraseHeader (h .0) (h .1)
-      ∙ ap (after eraseHeader) (with-call r1 _ due (due ∷ []) _ eraseData (s .0) (s .1)
-      ∙ ap (after eraseData) (with-call r2 _ due [] _ (writeData tail) (t .0) (t .1) ∙ ap (after (writeData tail)) (no-call _ _)))
+  closing-does : outcome region dueErase dues ≡ record { writer = st hd false Idle (tk 53 0 a false true) (tb 1 8 9 b 1) ss tail; region = performed (target hd) (closingOps tail) region; ops = closingOps tail }
+  closing-does = first-flush _ 53 a false true _ ss tail region [] erase-fit ∙ ap (after (closingOps tail)) (no-call _ _)
 
 -- comparing
 module _ (hd : Loaded) (ok : activeOk hd ≡ true) (ss : List Source) (tail : List ℕ) (a b : ℕ) (region : List ℕ) (l : length region ≡ regionSize) where
@@ -321,6 +289,73 @@ module _ (hd : Loaded) (ok : activeOk hd ≡ true) (comparing : Bool) (region : 
     (λ i. ranRegion region (started (e i) comparing now) (runIf (begin-fits i) (appends (key-is i)))) ∙ ap (λ (o : Outcome). o .region) begin-run,
     (λ i. ranOps region (started (e i) comparing now) (runIf (begin-fits i) (appends (key-is i)))) ∙ ap (λ (o : Outcome). o .ops) begin-run,
   )
+
+-- a beginning with an identity: 256 bytes are written, 48 are left in the tail
+abbrev keyFirst : List ℕ
+keyFirst = 44 ∷ 1 ∷ fill 65 253
+
+abbrev keyRest : List ℕ
+keyRest = fill 65 46 ++ (0 ∷ [])
+
+key-parts : keyBytes identity [] [] ≡ 255 ∷ (keyFirst ++ (65 ∷ keyRest))
+unfolding Key.keyOf Key.prefix Key.joined Picks.firsts Picks.distinct fill
+key-parts = refl
+
+abbrev keyOps : List Op
+keyOps = erase 0 ∷ erase sectorSize ∷ keyWrite ∷ []
+
+-- the tail is the key's first 256 bytes
+tail-full : padded (take 256 (sets (fill 0 tailSize) 0 (255 ∷ keyFirst))) ≡ 255 ∷ keyFirst
+unfolding padded fill
+tail-full = refl
+
+module _ (hd : Loaded) (ok : activeOk hd ≡ true) (region : List ℕ) (l : length region ≡ regionSize) (e : loaded region ≡ hd) where
+  abbrev fullIn : Stage → Writer
+  fullIn g = st hd false g (tk 0 256 (crc32 0 (255 ∷ keyFirst)) false false) (tb 0 8 0 (crc32 0 (255 ∷ keyFirst)) 0) (fill noSource maxSources) (sets (fill 0 tailSize) 0 (255 ∷ keyFirst))
+
+  full-is : withBytes (first hd false) (255 ∷ keyFirst) ≡ fullIn (Due (Erase 0))
+  unfolding withBytes stageOf firstDue isDue fill
+  full-is = refl
+
+  full-fit : Fit region (fullIn (Due (Erase 0)))
+  unfolding inRange contentsOk tablesOk stageOk operationOk isDue
+  full-fit = record { size = l; range = rw ok refl }
+
+  abbrev fullAfter : Writer
+  fullAfter = st hd false Idle (tk 256 0 (crc32 0 (255 ∷ keyFirst)) false false) (tb 0 8 0 (crc32 0 (255 ∷ keyFirst)) 0) (fill noSource maxSources) (sets (fill 0 tailSize) 0 (255 ∷ keyFirst))
+
+  after-range : inRange fullAfter ≡ true
+  unfolding inRange contentsOk tablesOk stageOk isDue
+  after-range = rw ok refl
+
+  after-none : isDue (fullAfter .contents) ≡ false
+  unfolding isDue
+  after-none = refl
+
+  abbrev fullOps : List Op
+  fullOps = erase 0 ∷ erase sectorSize ∷ write sectorSize (padded (take 256 (sets (fill 0 tailSize) 0 (255 ∷ keyFirst)))) ∷ []
+
+  key-run : outcome region (first hd false) (appends (255 ∷ (keyFirst ++ (65 ∷ keyRest)))) .ops ≡ keyOps
+  key-run =
+      let n = length-fill {A = ℕ} 65 253 in
+      let m = length-append {A = ℕ} (fill 65 46) (0 ∷ []) in
+      let k = length-fill {A = ℕ} 65 46 in
+      let region′ = performed (target hd) fullOps region in
+      let f : Fit region′ fullAfter = record { size = length-performed (target hd) fullOps region (target-fits hd) l; range = after-range } in
+      ap (λ (o : Outcome). o .ops)
+      (chunk region (65 ∷ keyRest) keyFirst 255 (first hd false) (begin-still hd ok false region l e .fit) refl (begin-still hd ok false region l e .none·) (omega arith) (omega arith)
+      ∙ ap (λ (w : Writer). outcome region w (dues ++ appends (65 ∷ keyRest))) full-is
+      ∙ first-flush _ 256 _ false false _ _ _ region (appends (65 ∷ keyRest)) full-fit
+      ∙ ap (after fullOps) (short region′ fullAfter 65 keyRest f refl after-none (omega arith) (omega arith)))
+      ∙ (λ i. erase 0 ∷ erase sectorSize ∷ write sectorSize (tail-full i) ∷ [])
+
+  key-fits : beginRefusal region identity [] [] ≡ none
+  unfolding beginRefusal Key.fit Key.every
+  key-fits = rw (eq-eqb (length region) regionSize l, length-fill {A = ℕ} 65 300) refl
+
+  key-does : beginOps region false now identity [] [] ≡ keyOps
+  unfolding beginOps beginRun started
+  key-does = (λ i. ranOps region (started (e i) false now) (runIf (key-fits i) (appends (key-parts i)))) ∙ key-run
 
 -- the sources at the table's end: the record with its block, b the CRC of its Routes
 abbrev sources1 : List Source
@@ -561,7 +596,7 @@ module _ (hd : Loaded) (ok : activeOk hd ≡ true) (r : Run) (e : loaded (r .reg
   closing-region : nextAll r closingCut .region ≡ torn (target hd) 100 (erase sectorSize) (applied (target hd) (erase 0) (r .region))
   closing-region = ap (λ (x : Run). x .region) to-cut ∙ cut-ops ∙ cut-after (target hd) (erase 0) _ (r .region) 0 100 ∙ cut-inside (target hd) (erase sectorSize) _ (applied (target hd) (erase 0) (r .region)) 100
 
-  -- the beginning, cut
+  -- the beginnings, cut
   beginning-held : (k j : ℕ) → nextAll r (beginningCut k j) .history .held ≡ hd
   unfolding nextAll next
   beginning-held k j = f
@@ -569,6 +604,21 @@ module _ (hd : Loaded) (ok : activeOk hd ≡ true) (r : Run) (e : loaded (r .reg
   beginning-region : (k j : ℕ) → nextAll r (beginningCut k j) .region ≡ r .region
   unfolding nextAll next
   beginning-region k j = rw (begin-does hd ok false (r .region) l e .2) (cut-none _ k j (r .region))
+
+  key-held : nextAll r keyCut .history .held ≡ hd
+  unfolding keyCut nextAll next
+  key-held = f
+
+  cut-key : nextAll r keyCut .region ≡ cutAt (target hd) 2 100 keyOps (r .region)
+  unfolding keyCut nextAll next started
+  cut-key = λ i. cutAt (target (e i)) 2 100 (key-does hd ok (r .region) l e i) (r .region)
+
+  key-region : nextAll r keyCut .region ≡ torn (target hd) 100 keyWrite (applied (target hd) (erase sectorSize) (applied (target hd) (erase 0) (r .region)))
+  key-region =
+      cut-key
+      ∙ cut-after (target hd) (erase 0) (erase sectorSize ∷ keyWrite ∷ []) (r .region) 1 100
+      ∙ cut-after (target hd) (erase sectorSize) (keyWrite ∷ []) (applied (target hd) (erase 0) (r .region)) 0 100
+      ∙ cut-inside (target hd) keyWrite [] (applied (target hd) (erase sectorSize) (applied (target hd) (erase 0) (r .region))) 100
 
 -- ---- what the arguments' types say
 
@@ -590,6 +640,13 @@ typed stamp s = typed-append (toTableEnd false texts) _ (typed-to-end false 55 (
 typed-cut : AllTyped closingCut
 unfolding closingCut
 typed-cut = typed-append (toTableEnd false texts) _ (typed-to-end false 55 (omega arith)) (tt, tt)
+
+bytes-identity : Bytes identity
+bytes-identity = bytes-fill 65 300 (omega arith)
+
+typed-key : AllTyped keyCut
+unfolding keyCut
+typed-key = ((now-fits, bytes-identity, bytes-nil), tt)
 
 typed-beginning : (k j : ℕ) → AllTyped (beginningCut k j)
 typed-beginning k j = ((now-fits, bytes-nil, bytes-nil), tt)
@@ -659,24 +716,6 @@ fiveOperations region l =
     unfold found in (after-ops (loaded region) (hd-ok region l) (found region) refl refl l later refl)
     ∙ (λ i. erase 0 ∷ erase sectorSize ∷ write sectorSize (data-op i) ∷ header-op (loaded region) i ∷ write commitOffset (word-is i) ∷ [])
 
--- ---- cuts
-
-pub cutBeginning : CutBeginning
-cutBeginning k j =
-    let h : (region : List ℕ) → length region ≡ regionSize → nextAll (found region) (beginningCut k j) .history .held ≡ loaded region =
-    λ region l. unfold found in (beginning-held (loaded region) (hd-ok region l) (found region) refl refl l k j) in (
-      record { held = h; loads = λ region l y. demand3 region (beginningCut k j) l y (typed-beginning k j) .loads ∙ h region l },
-      λ region l. unfold found in (beginning-region (loaded region) (hd-ok region l) (found region) refl refl l k j),
-    )
-
-pub cutClosing : CutClosing
-cutClosing =
-    let h : (region : List ℕ) → length region ≡ regionSize → nextAll (found region) closingCut .history .held ≡ loaded region =
-    λ region l. unfold found in (closing-held (loaded region) (hd-ok region l) (found region) refl refl l) in (
-      record { held = h; loads = λ region l y. demand3 region closingCut l y typed-cut .loads ∙ h region l },
-      λ region l. unfold found in (closing-region (loaded region) (hd-ok region l) (found region) refl refl l),
-    )
-
 -- ---- after the whole update
 
 module _ (region : List ℕ) (l : length region ≡ regionSize) (y : Bytes region) where
@@ -698,19 +737,41 @@ module _ (region : List ℕ) (l : length region ≡ regionSize) (y : Bytes regio
   one-ok : activeOk newHeld ≡ true
   one-ok = active-ok (one .region) newHeld one-size one-loads
 
-after-one : (es : List Event) → AllTyped es
-    → ((hd : Loaded) → activeOk hd ≡ true → (r : Run) → loaded (r .region) ≡ hd → r .history .held ≡ hd → length (r .region) ≡ regionSize → nextAll r es .history .held ≡ hd)
-    → AfterOne es
-after-one es p g region l y =
-    demand3 region (updateAt later ++ es) l y (typed-append (updateAt later) es (typed later later-fits) p) .loads
-    ∙ ap (λ (x : Run). x .history .held) (next-append (updateAt later) es (found region))
-    ∙ g (newHeld region l y) (one-ok region l y) (one region l y) (one-loads region l y) (one-held region l y) (one-size region l y)
+-- ---- cuts
 
-pub beginningAfterOne : (k j : ℕ) → AfterOne (beginningCut k j)
-beginningAfterOne k j = after-one (beginningCut k j) (typed-beginning k j) (λ hd ok r e f l. beginning-held hd ok r e f l k j)
+-- on any run whose history holds what load gives, so on the region found and after the whole update
+abbrev Held : List Event → Type 0
+Held es = (hd : Loaded) → activeOk hd ≡ true → (r : Run) → loaded (r .region) ≡ hd → r .history .held ≡ hd → length (r .region) ≡ regionSize → nextAll r es .history .held ≡ hd
 
-pub closingAfterOne : AfterOne closingCut
-closingAfterOne = after-one closingCut typed-cut closing-held
+held-first : (es : List Event) → Held es → (region : List ℕ) → length region ≡ regionSize → nextAll (found region) es .history .held ≡ loaded region
+unfolding found
+held-first es g region l = g (loaded region) (hd-ok region l) (found region) refl refl l
+
+keeps : (es : List Event) → AllTyped es → Held es → After es theOld
+keeps es p g =
+    record {
+      held· = held-first es g;
+      loads = λ region l y. demand3 region es l y p .loads ∙ held-first es g region l;
+      afterOne = λ region l y.
+          demand3 region (updateAt later ++ es) l y (typed-append (updateAt later) es (typed later later-fits) p) .loads
+          ∙ ap (λ (x : Run). x .history .held) (next-append (updateAt later) es (found region))
+          ∙ g (newHeld region l y) (one-ok region l y) (one region l y) (one-loads region l y) (one-held region l y) (one-size region l y);
+    }
+
+pub cutBeginning : CutBeginning
+unfolding found
+cutBeginning k j = (
+  keeps (beginningCut k j) (typed-beginning k j) (λ hd ok r e f l. beginning-held hd ok r e f l k j),
+  λ region l. beginning-region (loaded region) (hd-ok region l) (found region) refl refl l k j,
+)
+
+pub cutInTheKey : CutInTheKey
+unfolding found
+cutInTheKey = (keeps keyCut typed-key key-held, λ region l. key-region (loaded region) (hd-ok region l) (found region) refl refl l)
+
+pub cutClosing : CutClosing
+unfolding found
+cutClosing = (keeps closingCut typed-cut closing-held, λ region l. closing-region (loaded region) (hd-ok region l) (found region) refl refl l)
 
 -- ---- comparing mode
 

@@ -1,5 +1,5 @@
 -- Worked instances of DEMAND 3 by upper calls, on every region of 983,040 bytes, whatever load finds there: an update of 53 data bytes,
--- which is no multiple of 4, with a stamp after now and one before; a cut beginning; a cut closing; and comparing mode, with the same row
+-- which is no multiple of 4, with a stamp after now and one before; cut beginnings; a cut closing; and comparing mode, with the same row
 -- and with another.
 use mathlib.Core.Path.{_≡_}
 use mathlib.Core.Bool.{Bool, true, false}
@@ -9,6 +9,7 @@ use Prim.Native.Nat.{ℕ}
 use lib.IntN.{ℤ, pos}
 use lib.ListN.{length}
 use Rattle.leaf.specs.Crc.{crc32}
+use Rattle.base.specs.Lists.{fill}
 use Rattle.row.specs.Columns.{routeId, routeShortName, routeType}
 use Rattle.record.specs.declared.Source.{Source}
 use Rattle.record.specs.Record.{currentVersion}
@@ -20,7 +21,7 @@ use Rattle.header.specs.Types.{Bytes}
 use Rattle.bank.specs.declared.Loaded.{Loaded}
 use Rattle.bank.specs.declared.Loaded.the-variants.{Found}
 use Rattle.bank.specs.Bank.{loaded}
-use Rattle.flash.specs.Flash.{erase, write, torn, applied}
+use Rattle.flash.specs.Flash.{Op, erase, write, torn, applied}
 use Rattle.writer.specs.declared.Answer.{Answer}
 use Rattle.writer.specs.declared.Answer.the-variants.{Same, Different}
 use Rattle.writer.specs.declared.Writer.{Writer}
@@ -31,7 +32,7 @@ use Rattle.run.specs.Run.{Lower, unchanged, commit, word, lowerStep}
 use Rattle.upper.specs.Upper.{sourceWithDates, tableWithNames, row, tableEnd, closing}
 use Rattle.powerloss.specs.Machine.{Event, call, beginKey, beginKeyCut, upper, upperCut, Run, found, nextAll}
 use Rattle.powerloss.specs.Operations.{opsAfter}
-use Rattle.powerloss.specs.Instances.{dates, theSource}
+use Rattle.powerloss.specs.Instances.{dates, theSource, theOld}
 
 -- the key without identity and picks: one byte, how many picks
 abbrev pub key : List ℕ
@@ -104,8 +105,8 @@ updated checked l =
 abbrev pub written : Source
 written = withBlock (emptied theSource) 0 (record { offset = 9; length = 44; crc = crc32 0 (names ++ rowBytes) })
 
--- after the update with this stamp, G and load's answer are the update's bank, checked at this time; its record and its data are in that
--- bank
+-- After the update with this stamp, G and load's answer are the update's bank, checked at this time, and that bank has its record and its
+-- data.
 pub record Gives (stamp checked : ℤ) : Type 0 where
   pub held : (region : List ℕ) → length region ≡ regionSize → nextAll (found region) (updateAt stamp) .history .held ≡ Found (updated checked (loaded region))
   pub loads : (region : List ℕ) → length region ≡ regionSize → Bytes region → loaded (nextAll (found region) (updateAt stamp) .region) ≡ Found (updated checked (loaded region))
@@ -134,32 +135,48 @@ FiveOperations =
 
 -- ---- cuts
 
--- after these events G and load's answer are as at first
-pub record Keeps (events : List Event) : Type 0 where
-  pub held : (region : List ℕ) → length region ≡ regionSize → nextAll (found region) events .history .held ≡ loaded region
-  pub loads : (region : List ℕ) → length region ≡ regionSize → Bytes region → loaded (nextAll (found region) events .region) ≡ loaded region
+-- the update's bank, over what load found; `theOld` is what load found
+abbrev pub theNew : Loaded → Loaded
+theNew l = Found (updated later l)
 
--- a beginning, cut anywhere; its key of one byte needs no operation, so the region is as found
+-- After these events G and load's answer are `held` of what load found at first. After the whole update and then these, load's answer is
+-- `held` of the update's bank.
+pub record After (events : List Event) (held : Loaded → Loaded) : Type 0 where
+  pub held· : (region : List ℕ) → length region ≡ regionSize → nextAll (found region) events .history .held ≡ held (loaded region)
+  pub loads : (region : List ℕ) → length region ≡ regionSize → Bytes region → loaded (nextAll (found region) events .region) ≡ held (loaded region)
+  pub afterOne : (region : List ℕ) → length region ≡ regionSize → Bytes region → loaded (nextAll (found region) (updateAt later ++ events) .region) ≡ held (theNew (loaded region))
+
+-- the region that these events leave: `left` of the bank that is written, by its number, and of the region found
+abbrev pub Leaves : List Event → (ℕ → List ℕ → List ℕ) → Type 0
+Leaves events left = (region : List ℕ) → length region ≡ regionSize → nextAll (found region) events .region ≡ left (target (loaded region)) region
+
+-- a beginning, cut anywhere: its key of one byte needs no operation
 abbrev pub beginningCut : ℕ → ℕ → List Event
 beginningCut k j = beginKeyCut false now [] [] [] k j ∷ []
 
 abbrev pub CutBeginning : Type 0
-CutBeginning = (k j : ℕ) → Keeps (beginningCut k j) × ((region : List ℕ) → length region ≡ regionSize → nextAll (found region) (beginningCut k j) .region ≡ region)
+CutBeginning = (k j : ℕ) → After (beginningCut k j) theOld × Leaves (beginningCut k j) (λ n region. region)
+
+-- A beginning with an identity of 300 bytes, all of them 65. Its key has 304 bytes: 255, the length in two bytes, the identity, 0 picks.
+-- The first 256 are written. It is cut after 100 bytes of that write, its third operation.
+abbrev pub identity : List ℕ
+identity = fill 65 300
+
+abbrev pub keyWrite : Op
+keyWrite = write sectorSize (255 ∷ 44 ∷ 1 ∷ fill 65 253)
+
+unfoldable pub keyCut : List Event
+keyCut = beginKeyCut false now identity [] [] 2 100 ∷ []
+
+abbrev pub CutInTheKey : Type 0
+CutInTheKey = After keyCut theOld × Leaves keyCut (λ n region. torn n 100 keyWrite (applied n (erase sectorSize) (applied n (erase 0) region)))
 
 -- closing, cut after 100 bytes of its second operation: the header sector is erased, of the first data sector the first 100 bytes
 unfoldable pub closingCut : List Event
 closingCut = toTableEnd false texts ++ (upperCut closing 1 100 ∷ [])
 
 abbrev pub CutClosing : Type 0
-CutClosing =
-    Keeps closingCut
-    × ((region : List ℕ) → length region ≡ regionSize
-    → nextAll (found region) closingCut .region ≡ torn (target (loaded region)) 100 (erase sectorSize) (applied (target (loaded region)) (erase 0) region))
-
--- After the whole update, both give the update's bank.
-abbrev pub AfterOne : List Event → Type 0
-AfterOne events =
-    (region : List ℕ) → length region ≡ regionSize → Bytes region → loaded (nextAll (found region) (updateAt later ++ events) .region) ≡ Found (updated later (loaded region))
+CutClosing = After closingCut theOld × Leaves closingCut (λ n region. torn n 100 (erase sectorSize) (applied n (erase 0) region))
 
 -- ---- comparing mode
 
@@ -168,10 +185,11 @@ abbrev pub answerOn : List ℕ → Option Writer → Lower → Option Answer
 answerOn region none c = none
 answerOn region (some w) c = some (lowerStep region w c .answer)
 
--- after the whole update, the same calls in comparing mode with these values: the answer of `unchanged`
+-- the whole update, then the calls in comparing mode with these values, up to closing
 abbrev pub compared : List ℕ → List ℕ → Run
 compared region values = nextAll (found region) (updateAt later ++ (toTableEnd true values ++ (upper closing ∷ [])))
 
+-- `unchanged` answers this then
 abbrev pub Compares : List ℕ → Answer → Type 0
 Compares values answer = (region : List ℕ) → length region ≡ regionSize → Bytes region → answerOn (compared region values .region) (compared region values .state) unchanged ≡ some answer
 
@@ -188,8 +206,7 @@ pub record UpperInstances : Type 0 where
   pub stampBeforeNow : StampBeforeNow
   pub operations : FiveOperations
   pub cutBeginning : CutBeginning
+  pub cutInTheKey : CutInTheKey
   pub cutClosing : CutClosing
-  pub beginningAfterOne : (k j : ℕ) → AfterOne (beginningCut k j)
-  pub closingAfterOne : AfterOne closingCut
   pub sameRow : SameRow
   pub otherRow : OtherRow

@@ -1,4 +1,4 @@
-use Rattle.powerloss.proofs.UpperComputed.{stampAfterNow, stampBeforeNow, fiveOperations, cutBeginning, cutClosing, beginningAfterOne, closingAfterOne, sameRow, otherRow}
+use Rattle.powerloss.proofs.UpperComputed.{stampAfterNow, stampBeforeNow, fiveOperations, cutBeginning, cutInTheKey, cutClosing, sameRow, otherRow}
 use Rattle.powerloss.proofs.instances.upper_instances_hold.Statement.{statement}
 use Rattle.powerloss.proofs.instances.upper_instances_hold.Tie as tie
 
@@ -9,9 +9,8 @@ returns c =
       stampBeforeNow = stampBeforeNow;
       operations = fiveOperations;
       cutBeginning = cutBeginning;
+      cutInTheKey = cutInTheKey;
       cutClosing = cutClosing;
-      beginningAfterOne = beginningAfterOne;
-      closingAfterOne = closingAfterOne;
       sameRow = sameRow;
       otherRow = otherRow;
     }
