@@ -22,7 +22,7 @@ use Rattle.run.specs.Run.{Lower, lowerOps}
 use Rattle.upper.specs.Upper.{Upper, upperOps, beginOps}
 use Rattle.powerloss.specs.History.{Update, History, afterLowerCut}
 use Rattle.powerloss.specs.Machine.{Run, cut, beginKeyCut, upperCut, cutAt, doneAt, onCut, onUpperCut, next}
-use Rattle.powerloss.specs.Claim.{Torn, CutTyped, NoneOpen, Dropped, Sized, Between}
+use Rattle.powerloss.specs.Claim.{Torn, EveryTyped, CutTyped, NoneOpen, Dropped, Sized, Between}
 
 -- no operations: nothing is torn, and none is done
 pub cut-none : (n k j : ℕ) (region : List ℕ) → cutAt n k j [] region ≡ region
@@ -113,6 +113,23 @@ torn-calls =
           begin-at r comparing now identity texts lengths (length before) j ∙ rw f (cut-at (target (loaded (r .region))) j before rest op (r .region));
       whole = λ n j op region h e l. torn-whole region n e h j op l;
       number = number-at;
+    }
+
+pub every-typed : EveryTyped
+every-typed =
+    record {
+      beginning = λ comparing now f. (f, f);
+      upperBeginning = λ comparing now identity texts lengths f i t. (f, i, t);
+      source· = λ s p. (p, p);
+      table· = λ t. (tt, tt);
+      bytes· = λ xs b. b;
+      row· = λ texts lengths b. b;
+      stamped = λ stamp current f. f;
+      unstamped = λ current. tt;
+      lower = (tt, tt, tt, tt, tt);
+      upper· = (tt, tt);
+      none· = tt;
+      more = λ e es p q. (p, q);
     }
 
 pub cut-typed : CutTyped

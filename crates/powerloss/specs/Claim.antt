@@ -111,6 +111,22 @@ pub record Torn : Type 0 where
   pub whole : (n j : ℕ) (op : Op) (region : List ℕ) → n ≤ lastBank → length region ≡ regionSize → size op ≤ j → torn n j op region ≡ applied n op region
   pub number : (before rest : List Op) (op : Op) (j : ℕ) → doneAt (length before) j (before ++ (op ∷ rest)) ≡ length before + pick (leb (size op) j) 1 0
 
+-- `Typed` asks for what the types of the arguments say and for nothing else, so no list of calls is left out: bytes are below 256, times have
+-- 64 bits, a record's fields have their widths; a table's number may be any. (proofs/Cuts.antt: every-typed)
+pub record EveryTyped : Type 0 where
+  pub beginning : (comparing : Bool) (now : ℤ) → SFits w64 now → Typed (begin comparing now) × Typed (beginCut comparing now)
+  pub upperBeginning : (comparing : Bool) (now : ℤ) (identity texts lengths : List ℕ) → SFits w64 now → Bytes identity → Bytes texts → Typed (beginKey comparing now identity texts lengths)
+  pub source· : (s : Source) → Proper s → Typed (call (source s)) × Typed (upper (sourceWithDates s))
+  pub table· : (t : ℕ) → Typed (call (table t)) × Typed (upper (tableWithNames t))
+  pub bytes· : (xs : List ℕ) → Bytes xs → Typed (call (bytes xs))
+  pub row· : (texts lengths : List ℕ) → Bytes texts → Typed (upper (row texts lengths))
+  pub stamped : (stamp : ℤ) (current : Bool) → SFits w64 stamp → Typed (call (commit (Given stamp) current))
+  pub unstamped : (current : Bool) → Typed (call (commit Missing current))
+  pub lower : Typed (call end) × Typed (call close) × Typed (call due) × Typed (call unchanged) × Typed (call word)
+  pub upper· : Typed (upper tableEnd) × Typed (upper closing)
+  pub none· : AllTyped []
+  pub more : (e : Event) (es : List Event) → Typed e → AllTyped es → AllTyped (e ∷ es)
+
 -- A cut requires no more of a call's arguments than the call does, and nothing of k and j (proofs/Cuts.antt: cut-typed).
 pub record CutTyped : Type 0 where
   pub lower : (c : Lower) (k j : ℕ) → Typed (call c) → Typed (cut c k j)
@@ -177,6 +193,7 @@ pub record Claims : Type 0 where
   pub survives : Demand3
   pub reached : Reached
   pub torn· : Torn
+  pub everyTyped : EveryTyped
   pub typed : CutTyped
   pub dropped : Dropped
   pub between : Between
