@@ -1,5 +1,6 @@
--- The runs of upper calls, computed while the tail isn't full. Nothing is due then, so the due calls of a run change nothing, and bytes
--- appended one by one leave what one append of all of them does. By induction on the bytes.
+-- The runs of upper calls, computed. While the tail isn't full nothing is due, so the due calls of a run change nothing, and bytes appended
+-- one by one leave what one append of all of them does: by induction on the bytes. Once the tail is full, or closed, the three due calls do
+-- the header sector's erase, the data sector's and the first write.
 use mathlib.Core.Path.{_≡_, refl, sym, ap, _∙_, subst}
 use mathlib.Core.Bool.{Bool, true, false, _&&_}
 use mathlib.Core.Option.{none}
