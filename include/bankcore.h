@@ -356,7 +356,7 @@ TtBankRowNumbers tt_bank_row(
 
 /* ---- Rows and the trip filter. */
 
-/* How many columns a table has. */
+/* How many columns a table has; refusal 2 above table 7. */
 TtColumnNumbers tt_column_count(uint32_t table);
 
 /* Writes a table's names line to out. */

@@ -101,7 +101,7 @@ fn of_filter(a: Filter) -> FilterNumbers
     }
 }
 
-// How many columns a table has.
+// How many columns a table has; refusal 2 above table 7.
 #[no_mangle]
 pub extern "C" fn tt_column_count(table: u32) -> ColumnNumbers
     ensures { λ r. ⌜ r ≡ Answers.ofColumns table ⌝ }

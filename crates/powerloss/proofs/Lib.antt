@@ -7,6 +7,7 @@ pub mod Laid
 pub mod Range
 pub mod Keeps
 pub mod Answers
+pub mod Answered
 pub mod Compared
 pub mod Quiet
 pub mod AppendBytes

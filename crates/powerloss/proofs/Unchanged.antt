@@ -2,7 +2,7 @@
 -- nothing is left in the tail, so all of the update's bytes were compared, and `different` says how; the rest is compared by the call, and
 -- its tests are equality.
 use mathlib.Core.Path.{_≡_, refl, sym, ap, _∙_, subst}
-use mathlib.Core.Bool.{Bool, true, false, not, _&&_, false≢true}
+use mathlib.Core.Bool.{Bool, true, false, not, _&&_, false≢true, and-false}
 use mathlib.Core.Logic.{_⊎_, inl, inr}
 use mathlib.Core.Option.{Option, none, some}
 use mathlib.Core.List.{List, [], _∷_, _++_, map, append-nil}
@@ -30,12 +30,13 @@ use Rattle.header.proofs.Laws.{span-length, passed}
 use Rattle.bank.specs.declared.Loaded.{Loaded}
 use Rattle.bank.specs.declared.Loaded.the-variants.{Found, Nothing, Refused as NotRead}
 use Rattle.flash.proofs.Laws.{length-bank}
-use Rattle.writer.specs.declared.Stage.the-variants.{Idle}
+use Rattle.writer.specs.declared.Stage.{Stage}
+use Rattle.writer.specs.declared.Stage.the-variants.{Idle, Due, HeaderWritten, Committed}
 use Rattle.writer.specs.declared.Answer.{Answer}
 use Rattle.writer.specs.declared.Answer.the-variants.{Done, Appended, NoneDue, Same, Different, Refused}
 use Rattle.writer.specs.declared.Contents.{Contents}
 use Rattle.writer.specs.declared.Writer.{Writer}
-use Rattle.writer.specs.State.{keyLength, inRange, stays}
+use Rattle.writer.specs.State.{keyLength, inRange, isDue, stageOk, stays}
 use Rattle.commit.specs.Commit.{isIdle, routesOffset, recordsFor}
 use Rattle.commit.specs.Unchanged.{sameBlock, sameEach, sameSource, sameBank, isUnchanged, mayAsk, unchangedStep}
 use Rattle.powerloss.specs.History.{Update, recordsOf}
@@ -43,7 +44,8 @@ use Rattle.powerloss.specs.Machine.{Image, nextAll, found}
 use Rattle.powerloss.specs.Claim.{datesAndBlocks, Equals, EqualsActive, UnchangedAt, Unchanged}
 use Rattle.powerloss.proofs.Load.{Own, load-own, passes-header}
 use Rattle.powerloss.proofs.Inv.{Kept, Begins, Compared, Open, State}
-use Rattle.powerloss.proofs.Range.{idle-due, closed-empty}
+use Rattle.powerloss.proofs.Range.{true-false, due-ok, headed-end, committed-end, idle-due, closed-empty}
+use Rattle.writer.proofs.Laws.{ranged}
 use Rattle.powerloss.proofs.Dues.{seen, stage-is}
 use Rattle.powerloss.proofs.Keeps.{is-idle}
 use Rattle.powerloss.proofs.Commits.{span-some, records-is, length-records, routes-is}
@@ -340,8 +342,38 @@ module _ (region : List ℕ) (hd : Loaded) (rs : List Source) (im : Image) (w : 
   result-is : mayAsk w ≡ true → result ≡ isUnchanged region w hd
   result-is m = ap (isUnchanged region w) (active-is region hd rs im w u k o m)
 
-  asked-at : mayAsk w ≡ true → (answer ≡ Same) ⊎ (answer ≡ Different)
-  asked-at m = subst (λ (x : Answer). (x ≡ Same) ⊎ (x ≡ Different)) (sym (answer-is region w (k .size))) (answer-asked w (mayAsk w) result m)
+  may-at : mayAsk w ≡ true → (answer ≡ Same) ⊎ (answer ≡ Different)
+  may-at m = subst (λ (x : Answer). (x ≡ Same) ⊎ (x ≡ Different)) (sym (answer-is region w (k .size))) (answer-asked w (mayAsk w) result m)
+
+  -- in comparing mode a state with nothing due is idle
+  is-idle-at : (st : Stage) → stageOk (w .beginning .comparing) (w .contents) st ≡ true → w .beginning .comparing ≡ true → isDue (w .contents) ≡ false → isIdle st ≡ true
+  is-idle-at Idle s c d = refl
+  is-idle-at (Due p) s c d = true-false (isDue (w .contents)) (due-ok (w .beginning .comparing) (w .contents) p s .0) d
+  is-idle-at HeaderWritten s c d = true-false (w .beginning .comparing) c (headed-end (w .beginning .comparing) (w .contents) s .writing)
+  is-idle-at Committed s c d = true-false (w .beginning .comparing) c (committed-end (w .beginning .comparing) (w .contents) s .writing)
+
+  asked-at : w .beginning .comparing ≡ true → w .contents .closed ≡ true → isDue (w .contents) ≡ false → (answer ≡ Same) ⊎ (answer ≡ Different)
+  asked-at c e d = may-at (rw (o .tied .range, c, e, is-idle-at (w .stage) (ranged w (o .tied .range) .stage) c d))
+
+  -- otherwise it is refused
+  turn-at : mayAsk w ≡ false → answer ≡ Refused Turn
+  turn-at m = answer-is region w (k .size) ∙ ap (λ (a : Bool). answerFor w a result) m
+
+  not-idle-at : (st : Stage) → stageOk (w .beginning .comparing) (w .contents) st ≡ true → isDue (w .contents) ≡ true → isIdle st ≡ false
+  not-idle-at Idle s d = true-false (isDue (w .contents)) d (idle-due (w .beginning .comparing) (w .contents) s)
+  not-idle-at (Due p) s d = refl
+  not-idle-at HeaderWritten s d = refl
+  not-idle-at Committed s d = refl
+
+  writing-at : w .beginning .comparing ≡ false → answer ≡ Refused Turn
+  writing-at e = turn-at (rw (o .tied .range, e))
+
+  before-at : w .contents .closed ≡ false → answer ≡ Refused Turn
+  before-at e = turn-at (rw (o .tied .range, e) (and-false (w .beginning .comparing)))
+
+  due-at : isDue (w .contents) ≡ true → answer ≡ Refused Turn
+  due-at d =
+      turn-at (rw (o .tied .range, not-idle-at (w .stage) (ranged w (o .tied .range) .stage) d, and-false (w .contents .closed)) (and-false (w .beginning .comparing)))
 
   yes-at : answer ≡ Same → EqualsActive (some u) hd (im .bank) rs
   yes-at e =
@@ -358,7 +390,14 @@ at region hd rs im none v w k o e = absurd (false≢true (ap isState e))
 at region hd rs im (some x) none w k o e = absurd o
 at region hd rs im (some x) (some u) w k o e =
     let q = subst (λ (y : Writer). Open region hd y u) (ap (stateOr w) e) o in
-    record { asked = asked-at region hd rs im w u k q; yes = yes-at region hd rs im w u k q; no = no-at region hd rs im w u k q }
+    record {
+      writing = writing-at region hd rs im w u k q;
+      before = before-at region hd rs im w u k q;
+      whileDue = due-at region hd rs im w u k q;
+      asked = asked-at region hd rs im w u k q;
+      yes = yes-at region hd rs im w u k q;
+      no = no-at region hd rs im w u k q;
+    }
 
 pub exactly : Unchanged
 exactly region events l y p w e =

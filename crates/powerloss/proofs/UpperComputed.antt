@@ -51,7 +51,7 @@ use Rattle.writer.specs.State.{isDue, firstDue, stageOf, target, begunIn, activ
 use Rattle.lower.specs.Lower.{started, withSource, sourceStep, withTable, tableStep, withBytes, withEnd, endStep, withClosed, closeStep, emptied, withBlock, pastEnd}
 use Rattle.commit.specs.declared.Stamp.the-variants.{Given}
 use Rattle.commit.specs.Commit.{checkedTime, bankFor, recordsFor, commitStep, commitOps, wordStep, wordOps}
-use Rattle.commit.specs.Unchanged.{mayAsk, unchangedStep}
+use Rattle.commit.specs.Unchanged.{unchangedStep}
 use Rattle.due.specs.Due.{padded, dueOps, differs, operated, dueStep}
 use Rattle.run.specs.Run.{source, table, end, close, due, unchanged, commit, word, lowerStep, lowerOps, ranWriter, ranRegion, ranOps}
 use Rattle.run.specs.Appends.{dues, appends}
@@ -803,9 +803,9 @@ module _ (region : List ℕ) (l : length region ≡ regionSize) (y : Bytes regio
   theorem : UnchangedAt reached asking
   theorem = subst (λ (x : Run). UnchangedAt x asking) reached-is (exactly region (updateAt later ++ comparing) l y typed-comparing asking (ap (λ (x : Run). x .state) reached-is))
 
-  may-ask : mayAsk asking ≡ true
-  unfolding inRange contentsOk tablesOk stageOk isDue
-  may-ask = rw (one-ok region l y) refl
+  none-due : isDue (asking .contents) ≡ false
+  unfolding isDue
+  none-due = refl
 
   answer-is : (x : Answer) → unchangedStep (r1 .region) asking .answer ≡ x → answerOn (compared region (values z) .region) (compared region (values z) .state) unchanged ≡ some x
   unfolding lowerStep
@@ -856,9 +856,9 @@ plain56 = refl
 pub sameRow : SameRow
 sameRow region l y =
     let h : 55 < 256 = omega arith in
-    answer-is region l y 55 plain55 h Same (same-if region l y 55 plain55 h refl (theorem region l y 55 plain55 h .asked (may-ask region l y 55 plain55 h)))
+    answer-is region l y 55 plain55 h Same (same-if region l y 55 plain55 h refl (theorem region l y 55 plain55 h .asked refl refl (none-due region l y 55 plain55 h)))
 
 pub otherRow : OtherRow
 otherRow region l y =
     let h : 56 < 256 = omega arith in
-    answer-is region l y 56 plain56 h Different (different-if region l y 56 plain56 h (λ e. omega arith) (theorem region l y 56 plain56 h .asked (may-ask region l y 56 plain56 h)))
+    answer-is region l y 56 plain56 h Different (different-if region l y 56 plain56 h (λ e. omega arith) (theorem region l y 56 plain56 h .asked refl refl (none-due region l y 56 plain56 h)))

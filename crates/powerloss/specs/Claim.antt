@@ -5,7 +5,7 @@
 --   G's 491,520 bytes are as found or as the commit word left them;
 --   and its data are the bytes that the update appended, in order.
 use mathlib.Core.Path.{_≡_}
-use mathlib.Core.Bool.{Bool, true}
+use mathlib.Core.Bool.{Bool, true, false}
 use mathlib.Core.List.{List, [], _∷_, _++_, map}
 use mathlib.Core.Option.{Option, none, some}
 use mathlib.Core.Logic.{_⊎_}
@@ -26,12 +26,13 @@ use Rattle.header.specs.declared.Bank.{Bank}
 use Rattle.header.specs.Types.{Bytes, Proper}
 use Rattle.flash.specs.Flash.{Op, size, torn, applied, performed}
 use Rattle.writer.specs.declared.Writer.{Writer}
-use Rattle.writer.specs.declared.Answer.the-variants.{Same, Different}
-use Rattle.writer.specs.State.{target, keyLength, inRange}
+use Rattle.writer.specs.declared.Answer.the-variants.{Same, Different, Refused}
+use Rattle.writer.specs.State.{target, keyLength, inRange, isDue}
 use Rattle.commit.specs.declared.Stamp.{Stamp}
 use Rattle.commit.specs.declared.Stamp.the-variants.{Given, Missing}
 use Rattle.commit.specs.Commit.{routesOffset}
-use Rattle.commit.specs.Unchanged.{mayAsk, unchangedStep}
+use Rattle.commit.specs.Unchanged.{unchangedStep}
+use Rattle.refusal.specs.declared.Refusal.the-variants.{Turn}
 use Rattle.run.specs.Run.{Lower, source, table, bytes, end, close, due, unchanged, commit, word, lowerOps}
 use Rattle.upper.specs.Upper.{Upper, sourceWithDates, tableWithNames, row, tableEnd, closing, upperOps, beginOps}
 use Rattle.powerloss.specs.History.{Update, recordsOf}
@@ -177,9 +178,14 @@ EqualsActive none held bank records = ⊥
 abbrev pub IsEqual : Run → Type 0
 IsEqual r = EqualsActive (r .history .open·) (r .history .held) (r .image .bank) (r .history .records)
 
--- In order, it answers yes or no; yes only if they are equal, and no only if they aren't (proofs/Unchanged.antt: exactly).
+-- It "meets 11 in writing mode, before closing, or while a call is due"; otherwise it answers yes or no; yes only if they are equal, and no
+-- only if they aren't (proofs/Unchanged.antt: exactly).
 pub record UnchangedAt (r : Run) (w : Writer) : Type 0 where
-  pub asked : mayAsk w ≡ true → (unchangedStep (r .region) w .answer ≡ Same) ⊎ (unchangedStep (r .region) w .answer ≡ Different)
+  pub writing : w .beginning .comparing ≡ false → unchangedStep (r .region) w .answer ≡ Refused Turn
+  pub before : w .contents .closed ≡ false → unchangedStep (r .region) w .answer ≡ Refused Turn
+  pub whileDue : isDue (w .contents) ≡ true → unchangedStep (r .region) w .answer ≡ Refused Turn
+  pub asked : w .beginning .comparing ≡ true → w .contents .closed ≡ true → isDue (w .contents) ≡ false
+      → (unchangedStep (r .region) w .answer ≡ Same) ⊎ (unchangedStep (r .region) w .answer ≡ Different)
   pub yes : unchangedStep (r .region) w .answer ≡ Same → IsEqual r
   pub no : unchangedStep (r .region) w .answer ≡ Different → IsEqual r → ⊥
 

@@ -120,7 +120,7 @@ onUpperCut c k j r (some w) =
       image = r .image;
     }
 
--- a refused beginning leaves the state unchanged
+-- a refused beginning leaves the state unchanged: the host keeps the one it had (the one returned meets 11 with every call)
 abbrev pub stateAfter : Answer → Writer → Option Writer → Option Writer
 stateAfter Done w old = some w
 stateAfter (Appended n) w old = old

@@ -1,4 +1,5 @@
--- What holds of every state, reached by calls or not: a saved state that passes 11 is as good as one that calls made.
+-- What holds of every state, reached by calls or not. It isn't demand 3, which is of reached states: one that was saved before a commit and is
+-- used after it is within its ranges, and its update writes the bank that was just committed.
 use mathlib.Core.Path.{_≡_}
 use mathlib.Core.Bool.{Bool, true, false}
 use mathlib.Core.Logic.{_⊎_}
@@ -13,7 +14,11 @@ use Rattle.writer.specs.declared.Contents.{Contents}
 use Rattle.writer.specs.declared.Writer.{Writer}
 use Rattle.writer.specs.State.{tailSize, isDue, inRange}
 use Rattle.bank.specs.Bank.{loaded}
-use Rattle.lower.specs.Lower.{started, begun}
+use Rattle.lower.specs.Lower.{started, begun, bytesStep}
+use Rattle.commit.specs.declared.Stamp.{Stamp}
+use Rattle.commit.specs.Commit.{commitStep, wordStep}
+use Rattle.refusal.specs.declared.Refusal.the-variants.{Turn}
+use Rattle.writer.specs.declared.Stage.the-variants.{Committed}
 use Rattle.due.specs.Due.{dueStep, dueOps}
 use Rattle.run.specs.Run.{Lower, lowerStep, lowerRegion}
 use Rattle.upper.specs.Upper.{Upper, upperRun, upperStep, beginRun, beginStep}
@@ -37,6 +42,17 @@ pub record Exactly (region : List ℕ) (w : Writer) : Type 0 where
 -- (proofs/Exactly.antt: due-exactly)
 abbrev pub DueInRange : Type 0
 DueInRange = (region : List ℕ) (w : Writer) → length region ≡ regionSize → inRange w ≡ true → Exactly region w
+
+-- "takes bytes until its 256-byte tail is full and says how many; while an operation is due it takes none" (proofs/Answered.antt)
+abbrev pub AppendsAll : Type 0
+AppendsAll = (w : Writer) (xs : List ℕ) (n : ℕ) → bytesStep w xs .answer ≡ Appended n
+    → ((isDue (w .contents) ≡ true) × (n ≡ 0)) ⊎ ((n ≡ length xs) ⊎ (bytesStep w xs .writer .contents .fill ≡ tailSize))
+
+-- "a third commit call" is out of order: after the second, both commit calls meet 11
+pub record TwoCommits : Type 0 where
+  pub second : (region : List ℕ) (w : Writer) → wordStep region w .answer ≡ Done → wordStep region w .writer .stage ≡ Committed
+  pub noFirst : (region : List ℕ) (w : Writer) (stamp : Stamp) (current : Bool) → length region ≡ regionSize → w .stage ≡ Committed → commitStep region w stamp current .answer ≡ Refused Turn
+  pub noSecond : (region : List ℕ) (w : Writer) → length region ≡ regionSize → w .stage ≡ Committed → wordStep region w .answer ≡ Refused Turn
 
 -- ---- every call keeps a state within its ranges, and a beginning that is answered gives one (proofs/Keeps.antt, proofs/Answers.antt)
 
@@ -77,3 +93,5 @@ pub record Ranges : Type 0 where
   pub due : DueInRange
   pub keeps : Keeps
   pub answers : Answers
+  pub appends· : AppendsAll
+  pub commits : TwoCommits

@@ -103,7 +103,7 @@ pub struct ColumnAnswer {
     pub count: usize,
 }
 
-/// How many columns a table has; 2 above table 7.
+/// How many columns a table has; refusal 2 above table 7.
 pub fn column_count(table: u32) -> ColumnAnswer {
     let columns = tt_column_count(table);
     ColumnAnswer { refusal: columns.refusal, count: columns.count as usize }
