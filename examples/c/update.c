@@ -40,10 +40,10 @@ static void prepare(Host *h)
     TtKeyNumbers key = tt_key(identity, sizeof identity - 1, values, 0, lengths, 0, h->key, sizeof h->key);
     refused(key.refusal);
     h->key_length = key.length;
-    tt_put(h->record, RECORD, 0, 20260101);
-    tt_put(h->record, RECORD, 4, 20261231);
-    tt_put(h->record, RECORD, 8, 1 << ROUTES);
-    tt_put_time(h->record, RECORD, 12, now - 600);
+    refused(tt_put(h->record, RECORD, 0, 20260101));
+    refused(tt_put(h->record, RECORD, 4, 20261231));
+    refused(tt_put(h->record, RECORD, 8, 1 << ROUTES));
+    refused(tt_put_time(h->record, RECORD, 12, now - 600));
     memcpy(h->dates, h->record, sizeof h->dates);
     TtRowNumbers line = tt_names_line(ROUTES, h->table, sizeof h->table);
     refused(line.refusal);
