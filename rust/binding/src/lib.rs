@@ -54,7 +54,7 @@ mod core_interface {
             bank: u32,
             index: u32,
             out: *mut u8,
-            room: u64,
+            out_length: u64,
         ) -> u32;
         pub fn tt_fresh(
             region: *const u8,
@@ -76,7 +76,7 @@ mod core_interface {
             lengths: *const u32,
             lengths_length: u64,
             out: *mut u8,
-            room: u64,
+            out_length: u64,
         ) -> KeyNumbers;
         pub fn tt_same_key(
             region: *const u8,
@@ -106,7 +106,7 @@ mod core_interface {
             table: u32,
             place: u64,
             out: *mut u8,
-            room: u64,
+            out_length: u64,
             ends: *mut u64,
             slots: u64,
         ) -> BankRowNumbers;

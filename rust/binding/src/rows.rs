@@ -26,7 +26,7 @@ mod core_interface {
 
     unsafe extern "C" {
         pub safe fn tt_column_count(table: u32) -> ColumnNumbers;
-        pub fn tt_names_line(table: u32, out: *mut u8, room: u64) -> RowNumbers;
+        pub fn tt_names_line(table: u32, out: *mut u8, out_length: u64) -> RowNumbers;
         pub fn tt_row(
             table: u32,
             texts: *const u8,
@@ -34,7 +34,7 @@ mod core_interface {
             lengths: *const u32,
             lengths_length: u64,
             out: *mut u8,
-            room: u64,
+            out_length: u64,
         ) -> RowNumbers;
         pub fn tt_read_row(
             table: *const u8,
@@ -42,7 +42,7 @@ mod core_interface {
             width: u64,
             place: u64,
             out: *mut u8,
-            room: u64,
+            out_length: u64,
             ends: *mut u64,
             slots: u64,
         ) -> ReadNumbers;

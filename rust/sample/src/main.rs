@@ -64,11 +64,11 @@ Rows. LENGTHS and ENDS are numbers of 16 bits, in hexadecimal.
                              values in a row, their lengths, the row
   read FROM LENGTH WIDTH PLACE NEXT ENDS VALUES
                              the row of so many values at a place of the table
-                             that stands at FROM of the region: the next row's
+                             that is at FROM of the region: the next row's
                              place, where each value ends, the values joined; or
                              - instead of these three, at the table's end
 
-The filter stands at the region's start.
+The filter is at the region's start.
 
   insert SIZE ID 0|1         ID in hexadecimal; whether all bits were set before
   query SIZE ID 0|1
