@@ -27,25 +27,25 @@ use Rattle.powerloss.proofs.Range.{or-true, true-false, due-ok, headed-
 use Rattle.powerloss.proofs.Answers.{empty-due}
 use Rattle.powerloss.proofs.Uppers.{inv-found, inv-all}
 use Rattle.powerloss.proofs.States.{reached}
-use Rattle.powerloss.specs.Ranges.{Unwritten, Exactly, DueInRange}
+use Rattle.powerloss.specs.Ranges.{SomethingDue, Exactly, DueInRange}
 use Rattle.powerloss.specs.Operations.{DueExactly}
 
 -- ---- the condition as a test
 
-unwritten-due : (t : Contents) → Unwritten t → isDue t ≡ true
+unwritten-due : (t : Contents) → SomethingDue t → isDue t ≡ true
 unfolding isDue
 unwritten-due t (inl e) = rw (eq-eqb (t .fill) tailSize (omega arith))
 unwritten-due t (inr h) = rw (h .0, lt-ltb 0 (t .fill) (omega (arith, h .1))) (or-true (eqb (t .fill) tailSize))
 
-unwritten-by : (t : Contents) (z : Bool) → eqb (t .fill) tailSize ≡ z → (z || (t .closed && ltb 0 (t .fill))) ≡ true → Unwritten t
+unwritten-by : (t : Contents) (z : Bool) → eqb (t .fill) tailSize ≡ z → (z || (t .closed && ltb 0 (t .fill))) ≡ true → SomethingDue t
 unwritten-by t true f e = inl (omega (arith, eqb-true (t .fill) tailSize f))
 unwritten-by t false f e = inr (and-left (t .closed) (ltb 0 (t .fill)) e, omega (arith, ltb-true 0 (t .fill) (and-right (t .closed) (ltb 0 (t .fill)) e)))
 
-due-unwritten : (t : Contents) → isDue t ≡ true → Unwritten t
+due-unwritten : (t : Contents) → isDue t ≡ true → SomethingDue t
 unfolding isDue
 due-unwritten t e = unwritten-by t (eqb (t .fill) tailSize) refl e
 
-not-due : (t : Contents) (d : Bool) → isDue t ≡ d → (Unwritten t → ⊥) → isDue t ≡ false
+not-due : (t : Contents) (d : Bool) → isDue t ≡ d → (SomethingDue t → ⊥) → isDue t ≡ false
 not-due t true e n = absurd (n (due-unwritten t e))
 not-due t false e n = e
 

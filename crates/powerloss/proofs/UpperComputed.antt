@@ -678,7 +678,7 @@ module _ (stamp checked : ℤ) (g : leZ (pos 0) (checkedTime (Given stamp) now) 
             ap (recordsIn (nextAll (found region) (updateAt stamp) .region)) (sym (gives-held region l))
             ∙ demand3 region (updateAt stamp) l y (typed stamp s) .records
             ∙ after-records (loaded region) (hd-ok region l) (found region) refl refl l stamp g;
-        data· = λ region l y.
+        bytes· = λ region l y.
             let r = nextAll (found region) (updateAt stamp) in
             let d = demand3 region (updateAt stamp) l y (typed stamp s) in
             let b : Region.bankOf (r .region) (target (loaded region)) ≡ r .image .bank = ap (bankIn (r .region)) (sym (gives-held region l)) ∙ d .image in

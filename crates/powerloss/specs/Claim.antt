@@ -203,4 +203,4 @@ pub record Claims : Type 0 where
   pub typed : CutTyped
   pub dropped : Dropped
   pub between : Between
-  pub exactly : Unchanged
+  pub unchanged· : Unchanged

@@ -141,10 +141,10 @@ isDone Same = false
 isDone Different = false
 isDone (Refused r) = false
 
--- whether a cut call did an operation whole; k is how many it did
+-- whether a cut call did an operation whole, by how many it did
 abbrev pub anyDone : ℕ → Bool
 anyDone zero = false
-anyDone (suc k) = true
+anyDone (suc did) = true
 
 unfoldable pub committed : Bool → Bool → Update → History → History
 committed true true u h = record { held = Found (bankOf u); records = recordsOf u; open· = h .open· }
@@ -154,14 +154,14 @@ committed false b u h = h
 abbrev pub withOpen : Option Update → History → History
 withOpen v h = record { held = h .held; records = h .records; open· = v }
 
--- a lower call, answered, or cut with k operations done: "A cut drops the update."
+-- a lower call, answered, or cut after it did some operations (`did` is their number; not the cut's k): "A cut drops the update."
 unfoldable pub afterLower : Lower → Answer → History → Option Update → History
 afterLower c a h none = h
 afterLower c a h (some u) = withOpen (some (updateAfter c a u)) (committed (isWord c) (isDone a) u h)
 
 unfoldable pub afterLowerCut : Lower → ℕ → History → Option Update → History
-afterLowerCut c k h none = withOpen none h
-afterLowerCut c k h (some u) = withOpen none (committed (isWord c) (anyDone k) u h)
+afterLowerCut c did h none = withOpen none h
+afterLowerCut c did h (some u) = withOpen none (committed (isWord c) (anyDone did) u h)
 
 -- "Upper calls take all of theirs: key, dates, names line, row."
 abbrev pub upperNoted : Upper → Update → Update

@@ -26,17 +26,17 @@ use Rattle.upper.specs.Upper.{Upper, upperRun, upperStep, beginRun, beginStep}
 -- ---- what is due
 
 -- "the tail is full, or after closing while bytes are unwritten"
-abbrev pub Unwritten : Contents → Type 0
-Unwritten t = (t .fill ≡ tailSize) ⊎ ((t .closed ≡ true) × (0 < t .fill))
+abbrev pub SomethingDue : Contents → Type 0
+SomethingDue t = (t .fill ≡ tailSize) ⊎ ((t .closed ≡ true) × (0 < t .fill))
 
 -- "One call does exactly one erase or write, or says none is due. One is due exactly when" the above. "Comparing mode writes nothing."
 pub record Exactly (region : List ℕ) (w : Writer) : Type 0 where
-  pub then· : Unwritten (w .contents) → dueStep region w .answer ≡ Done
-  pub only : dueStep region w .answer ≡ Done → Unwritten (w .contents)
-  pub else· : (Unwritten (w .contents) → ⊥) → dueStep region w .answer ≡ NoneDue
-  pub never : dueStep region w .answer ≡ NoneDue → Unwritten (w .contents) → ⊥
-  pub one : w .beginning .comparing ≡ false → Unwritten (w .contents) → length (dueOps region w) ≡ 1
-  pub nothing : (Unwritten (w .contents) → ⊥) → dueOps region w ≡ []
+  pub then· : SomethingDue (w .contents) → dueStep region w .answer ≡ Done
+  pub only : dueStep region w .answer ≡ Done → SomethingDue (w .contents)
+  pub else· : (SomethingDue (w .contents) → ⊥) → dueStep region w .answer ≡ NoneDue
+  pub never : dueStep region w .answer ≡ NoneDue → SomethingDue (w .contents) → ⊥
+  pub one : w .beginning .comparing ≡ false → SomethingDue (w .contents) → length (dueOps region w) ≡ 1
+  pub nothing : (SomethingDue (w .contents) → ⊥) → dueOps region w ≡ []
   pub compares : w .beginning .comparing ≡ true → dueOps region w ≡ []
 
 -- (proofs/Exactly.antt: due-exactly)

@@ -112,7 +112,7 @@ pub record Gives (stamp checked : ℤ) : Type 0 where
   pub loads : (region : List ℕ) → length region ≡ regionSize → Bytes region → loaded (nextAll (found region) (updateAt stamp) .region) ≡ Found (updated checked (loaded region))
   pub records : (region : List ℕ) → length region ≡ regionSize → Bytes region
       → recordsOf currentVersion (bankOf (nextAll (found region) (updateAt stamp) .region) (target (loaded region))) 1 ≡ written ∷ []
-  pub data· : (region : List ℕ) → length region ≡ regionSize → Bytes region → dataOf (bankOf (nextAll (found region) (updateAt stamp) .region) (target (loaded region))) 53 ≡ data·
+  pub bytes· : (region : List ℕ) → length region ≡ regionSize → Bytes region → dataOf (bankOf (nextAll (found region) (updateAt stamp) .region) (target (loaded region))) 53 ≡ data·
 
 -- "the checked time is the host's stamp if at least now, else now"
 abbrev pub StampAfterNow : Type 0
