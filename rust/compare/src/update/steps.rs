@@ -73,7 +73,7 @@ impl Fields {
         Ok(Answer { answer: TOOK, count: taken.len() as u32, ..Answer::default() })
     }
     fn end(&mut self) -> Outcome {
-        unless(self.may_take() && self.open(), 11)?;
+        unless(self.in_range() && self.open(), 11)?;
         let length = self.position() as u32 - self.numbers[START];
         let block = [self.numbers[START], length, self.numbers[TABLE_CRC]];
         let at = 84 + 12 * self.n(TABLE);
@@ -215,7 +215,9 @@ impl Model {
             Call::Row(..) | Call::TableEnd => f.open(),
             _ => !f.open(),
         };
-        unless(f.may_take() && order, 11)?;
+        // A table's end after closing isn't among what document 01 has out of order.
+        let open = !f.is(CLOSED) || matches!(call, Call::TableEnd);
+        unless(f.in_range() && open && order, 11)?;
         let taken = call.taken();
         if let Call::Row(_, lengths) = call {
             let columns = crate::rows::columns(f.n(TABLE));
