@@ -9,10 +9,8 @@ use Prim.Native.Nat.{ℕ, suc, _+_, _≤_, _<_}
 use native.Mathlib.Omega.{arith}
 use borrow.Author.Tests.{eq-eqb, ne-eqb}
 use lib.Dec.{eqb}
-use lib.ListN.{length, take, set}
-use lib.Seq.{sets}
+use lib.ListN.{length, take}
 use Rattle.base.specs.Number.{pick}
-use Rattle.leaf.proofs.Checksum.{crc32-append}
 use Rattle.record.specs.declared.Source.{Source}
 use Rattle.region.specs.Region.{regionSize, capacity, sectorSize}
 use Rattle.flash.specs.Flash.{Op, erase, write, applied, performed}
@@ -31,6 +29,7 @@ use Rattle.lower.specs.Lower.{moreContents, withBytes}
 use Rattle.due.specs.Due.{padded, opsOf, dueOps, operated, dueStep}
 use Rattle.run.specs.Run.{Lower, bytes, due, lowerStep, lowerOps, ranWriter, ranRegion, ranOps}
 use Rattle.run.specs.Appends.{dues, appends}
+use Rattle.run.proofs.Chunk.{both-bytes}
 use Rattle.run.proofs.Laws.{quiet, quiet-step}
 use Rattle.upper.specs.Upper.{Upper, appendedBytes, lowerOf, runOf, refusalOf, upperRun, upperStep, upperRegion, upperOps}
 use Rattle.powerloss.proofs.Load.{target-fits}
@@ -94,26 +93,6 @@ module _ (w : Writer) (xs : List ℕ) (e : w .contents .closed ≡ false) (h : w
   more-idle : withBytes w xs .stage ≡ Idle
   unfolding withBytes stageOf
   more-idle = rw (none-due (moreContents (w .contents) xs) e h)
-
--- two appends are one
-module _ (w : Writer) (y : ℕ) (xs : List ℕ) where
-  both-contents : moreContents (moreContents (w .contents) (y ∷ [])) xs ≡ moreContents (w .contents) (y ∷ xs)
-  both-contents =
-      let f : w .contents .fill + length (y ∷ []) + length xs ≡ w .contents .fill + length (y ∷ xs) = omega arith in
-      λ i. record { written = w .contents .written; fill = f i; crc = crc32-append (w .contents .crc) (y ∷ []) xs i; different = w .contents .different; closed = w .contents .closed }
-
-  both-bytes : withBytes (withBytes w (y ∷ [])) xs ≡ withBytes w (y ∷ xs)
-  unfolding withBytes
-  both-bytes =
-      let e : w .contents .fill + length (y ∷ []) ≡ suc (w .contents .fill) = omega arith in
-      λ i. record {
-        stage = stageOf (w .beginning .comparing) (both-contents i);
-        beginning = w .beginning;
-        contents = both-contents i;
-        tables = record { count = w .tables .count; table = w .tables .table; start = w .tables .start; crc = crc32-append (w .tables .crc) (y ∷ []) xs i; begun = w .tables .begun };
-        sources = w .sources;
-        tail = sets (set (w .tail) (w .contents .fill) y) (e i) xs;
-      }
 
 bytes-fill : (w : Writer) (x : ℕ) → withBytes w (x ∷ []) .contents .fill ≡ w .contents .fill + 1
 unfolding withBytes

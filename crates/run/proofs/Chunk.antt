@@ -135,7 +135,7 @@ module _ (w : Writer) (y : ℕ) (xs : List ℕ) where
       let f : w .contents .fill + length (y ∷ []) + length xs ≡ w .contents .fill + length (y ∷ xs) = omega arith in
       λ i. record { written = w .contents .written; fill = f i; crc = crc32-append (w .contents .crc) (y ∷ []) xs i; different = w .contents .different; closed = w .contents .closed }
 
-  both-bytes : withBytes (withBytes w (y ∷ [])) xs ≡ withBytes w (y ∷ xs)
+  pub both-bytes : withBytes (withBytes w (y ∷ [])) xs ≡ withBytes w (y ∷ xs)
   unfolding withBytes
   both-bytes =
       let e : w .contents .fill + length (y ∷ []) ≡ suc (w .contents .fill) = omega arith in
