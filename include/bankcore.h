@@ -235,6 +235,17 @@ typedef struct TtUpdateStep {
     TtState state;
 } TtUpdateStep;
 
+/* An operation: 0 none, 1 an erase, 2 a write, 3 a comparison, 4 the header, 5 the commit word;
+   its bank, the offset of its first byte in the bank, and how many bytes it has, padding too. A
+   comparison reads the active bank, bank 0 if there is none; the others change the other one. */
+typedef struct TtOperationNumbers {
+    uint32_t refusal;
+    uint32_t kind;
+    uint32_t bank;
+    uint64_t offset;
+    uint64_t length;
+} TtOperationNumbers;
+
 /* Link libbankcore.a, which `rt staticlib bankcore` makes. */
 
 /* ---- The leaves: numbers in bytes, CRC-32, generations, dates. */
@@ -426,6 +437,11 @@ TtUpdateStep tt_update_close(TtState state);
 
 /* Does the erase, write or comparison that is due, or says that none is. */
 TtUpdateStep tt_update_due(uint8_t *region, uint64_t region_length, TtState state);
+
+/* The operation that comes next: what is due; else, once an update that isn't compared is
+   closed, the header that the commit writes unless it is refused, then the commit word; else
+   none. */
+TtOperationNumbers tt_update_operation(TtState state);
 
 /* Whether the update that was compared is the same as the active bank. */
 TtUpdateStep tt_update_unchanged(const uint8_t *region, uint64_t region_length, TtState state);

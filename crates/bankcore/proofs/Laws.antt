@@ -1,5 +1,5 @@
 -- What C gets back. Sources and tail are returned without looking at the answer. Either way they are the definition's, since a refused call leaves both.
-use mathlib.Core.Path.{_≡_, refl, sym}
+use mathlib.Core.Path.{_≡_, refl, sym, ap}
 use mathlib.Core.Bool.{Bool, true, false, false≢true}
 use mathlib.Core.List.{List}
 use Prim.Native.Nat.{ℕ, _+_}
@@ -7,16 +7,18 @@ use lib.Dec.{leb}
 use lib.ListN.{length, take}
 use Rattle.base.specs.Number.{pick}
 use Rattle.refusal.specs.declared.Refusal.the-variants.{Full, Turn}
+use Rattle.refusal.specs.Refusal.{numberOf}
 use Rattle.writer.specs.declared.Writer.{Writer}
 use Rattle.writer.specs.declared.Answer.{Answer}
 use Rattle.writer.specs.declared.Answer.the-variants.{Done, Appended, NoneDue, Same, Different, Refused}
-use Rattle.writer.specs.State.{stays, position, isDue, isDone}
+use Rattle.writer.specs.State.{stays, position, isDue, isDone, inRange}
 use Rattle.lower.specs.Lower.{mayAppend, accepted, withBytes, appended, bytesStep}
 use Rattle.rowread.specs.declared.ReadAnswer.{ReadAnswer}
 use Rattle.rowread.specs.declared.ReadAnswer.the-variants.{Stored, End, Refused as NoRow}
 use Rattle.cstate.specs.Answers.{isAnswer}
 use Rattle.bankcore.specs.BankAnswers.{ofBankRow, asBankRow}
 use Rattle.bankcore.specs.RowAnswers.{ofRead}
+use Rattle.bankcore.specs.Operation.{noOperation, nextOperation, operationOf}
 use Rattle.region.specs.Region.{capacity}
 
 -- a refused call isn't done
@@ -47,3 +49,12 @@ pub as-row : (x : ReadAnswer) → asBankRow (ofRead x) ≡ ofBankRow x
 as-row (Stored next size) = refl
 as-row End = refl
 as-row (NoRow r) = refl
+
+-- the next operation: refused out of range, else by the stage
+pub out-of-range : (w : Writer) → inRange w ≡ false → operationOf w ≡ noOperation (numberOf Turn)
+unfolding operationOf
+out-of-range w e = ap (λ (b : Bool). pick b (nextOperation (w .beginning) (w .contents) (w .stage)) (noOperation (numberOf Turn))) e
+
+pub within-range : (w : Writer) → inRange w ≡ true → operationOf w ≡ nextOperation (w .beginning) (w .contents) (w .stage)
+unfolding operationOf
+within-range w e = ap (λ (b : Bool). pick b (nextOperation (w .beginning) (w .contents) (w .stage)) (noOperation (numberOf Turn))) e

@@ -2,3 +2,4 @@ pub mod LeafAnswers
 pub mod BankAnswers
 pub mod RowAnswers
 pub mod Stamp
+pub mod Operation

@@ -8,6 +8,8 @@ ghost use Rattle.commit.specs.Unchanged as Unchanged;
 ghost use Rattle.cstate.specs.State.{writerOf};
 ghost use Rattle.cstate.specs.Answers as Answers;
 ghost use Rattle.bankcore.specs.Stamp.{stampOf};
+ghost use Rattle.bankcore.specs.Operation as Operations;
+use bank::Loaded;
 use commit::Stamp;
 use cstate::State;
 use cstate::UpdateStep;
@@ -17,6 +19,9 @@ use cstate::beginning_of;
 use cstate::parts_of;
 use cstate::writer_of;
 use due::due_parts;
+use header::COMMIT_OFFSET;
+use header::HEADER_SIZE;
+use leaf::bytes::WORD_SIZE;
 use lower::append::append_parts;
 use lower::begin::close_parts;
 use lower::source::source_parts;
@@ -26,7 +31,41 @@ use lower::table::sources_ended;
 use lower::table::table_parts;
 use record::VERSION;
 use record::decode;
+use refusal::Refusal;
+use refusal::number_u32;
+use region::SECTOR_SIZE;
+use region::WRITE_UNIT;
+use writer::Beginning;
+use writer::Contents;
+use writer::Operation;
+use writer::Stage;
 use writer::is_done;
+use writer::parts_in_range;
+use writer::target;
+
+// The numbers of an update's operations.
+pub const OPERATION_NONE: u32 = 0;
+
+pub const OPERATION_ERASE: u32 = 1;
+
+pub const OPERATION_WRITE: u32 = 2;
+
+pub const OPERATION_COMPARE: u32 = 3;
+
+pub const OPERATION_HEADER: u32 = 4;
+
+pub const OPERATION_COMMIT_WORD: u32 = 5;
+
+// An operation: 0 none, 1 an erase, 2 a write, 3 a comparison, 4 the header, 5 the commit word; its bank, the offset of its first byte in the
+// bank, and how many bytes it has, padding too. A comparison reads the active bank, bank 0 if there is none; the others change the other one.
+#[repr(C)]
+pub struct OperationNumbers {
+    pub refusal: u32,
+    pub kind: u32,
+    pub bank: u32,
+    pub offset: usize,
+    pub length: usize,
+}
 
 // Begins an update: loads the region; in comparing mode nothing is written. It appends no key.
 #[no_mangle]
@@ -125,6 +164,123 @@ pub extern "C" fn tt_update_due(region: &mut [u8], state: State) -> UpdateStep
     let s = due_parts(b, p, &tail, region);
     let sources = state.sources;
     after_parts(b, s, sources, tail, state)
+}
+
+fn no_operation(refusal: u32) -> OperationNumbers
+    ensures { λ x. ⌜ x ≡ Operations.noOperation refusal ⌝ }
+{
+    OperationNumbers {
+        refusal,
+        kind: OPERATION_NONE,
+        bank: 0,
+        offset: 0,
+        length: 0,
+    }
+}
+
+// The bank that is compared with; 0 with no active bank.
+fn compared(l: Loaded) -> u32
+    ensures { λ r. ⌜ r ≡ Operations.compared l ⌝ }
+{
+    match l {
+        Loaded::Found(b) => b.number,
+        Loaded::Nothing => 0,
+        Loaded::Refused(_) => 0,
+    }
+}
+
+// n rounded up to a multiple of the write unit.
+fn padded_length(n: u32) -> usize
+    ensures { λ r. ⌜ r ≡ Operations.paddedLength n ⌝ }
+{
+    let m = n as usize;
+    m + (WRITE_UNIT - m % WRITE_UNIT) % WRITE_UNIT
+}
+
+fn due_operation(l: Loaded, o: Operation) -> OperationNumbers
+    ensures { λ x. ⌜ x ≡ Operations.dueOperation l o ⌝ }
+{
+    match o {
+        Operation::Erase { sector } => OperationNumbers {
+            refusal: 0,
+            kind: OPERATION_ERASE,
+            bank: target(l),
+            offset: sector as usize * SECTOR_SIZE,
+            length: SECTOR_SIZE,
+        },
+        Operation::Write { offset, length } => OperationNumbers {
+            refusal: 0,
+            kind: OPERATION_WRITE,
+            bank: target(l),
+            offset: SECTOR_SIZE + offset as usize,
+            length: padded_length(length),
+        },
+        Operation::Compare { offset, length } => OperationNumbers {
+            refusal: 0,
+            kind: OPERATION_COMPARE,
+            bank: compared(l),
+            offset: SECTOR_SIZE + offset as usize,
+            length: length as usize,
+        },
+    }
+}
+
+// With nothing due: a closed update that isn't compared is committed next.
+fn idle_operation(b: Beginning, t: Contents) -> OperationNumbers
+    ensures { λ x. ⌜ x ≡ Operations.idleOperation b t ⌝ }
+{
+    let l = b.active;
+    if t.closed & !b.comparing {
+        return OperationNumbers {
+            refusal: 0,
+            kind: OPERATION_HEADER,
+            bank: target(l),
+            offset: 0,
+            length: HEADER_SIZE,
+        };
+    }
+    no_operation(0)
+}
+
+fn word_operation(l: Loaded) -> OperationNumbers
+    ensures { λ x. ⌜ x ≡ Operations.wordOperation l ⌝ }
+{
+    OperationNumbers {
+        refusal: 0,
+        kind: OPERATION_COMMIT_WORD,
+        bank: target(l),
+        offset: COMMIT_OFFSET,
+        length: WORD_SIZE,
+    }
+}
+
+fn next_operation(b: Beginning, t: Contents, s: Stage) -> OperationNumbers
+    ensures { λ x. ⌜ x ≡ Operations.nextOperation b t s ⌝ }
+{
+    let l = b.active;
+    match s {
+        Stage::Idle => idle_operation(b, t),
+        Stage::Due(o) => due_operation(l, o),
+        Stage::HeaderWritten => word_operation(l),
+        Stage::Committed => no_operation(0),
+    }
+}
+
+// The operation that comes next: what is due; else, once an update that isn't compared is closed, the header that the commit writes
+// unless it is refused, then the commit word; else none.
+#[no_mangle]
+pub extern "C" fn tt_update_operation(state: State) -> OperationNumbers
+    ensures { λ x. ⌜ x ≡ Operations.operationOf (writerOf state) ⌝ }
+{
+    let b = beginning_of(state);
+    let p = parts_of(state);
+    let t = p.contents;
+    let x = p.tables;
+    let s = p.stage;
+    if !parts_in_range(b, t, x, s) {
+        return no_operation(number_u32(Refusal::Turn));
+    }
+    next_operation(b, t, s)
 }
 
 // Whether the update that was compared is the same as the active bank.

@@ -3,19 +3,13 @@
 use bankcore::{
     Refusal,
     banks::Picks,
-    cache::{self, Bank, Block, Operation, Source, Writer},
+    cache::{self, Bank, Block, Kind, Operation, Source, Writer},
     put,
     rows::{self, Values},
 };
 
 const NOW: i64 = 1_790_000_000;
 const ROUTES: u32 = 0;
-const SECTOR: usize = 4096;
-const HEADER: usize = 1200;
-/// The commit word's offset in a bank, and its size.
-const WORD: usize = 44;
-const WORD_SIZE: usize = 4;
-const COMMIT_WORD: &str = "commit word";
 
 /// What the host passes next.
 enum Next {
@@ -115,41 +109,32 @@ fn update(region: &mut [u8], power: usize) -> Result<(usize, bool), Refusal> {
     Ok((done, false))
 }
 
-/// The bytes of the region that a turn erases or writes.
-struct Span {
-    what: &'static str,
-    offset: usize,
-    size: usize,
-}
-
-/// The flash operation of the next turn, if it does one. A writer says which erase
-/// or write is due; a commit writes the header, then the commit word.
-fn operation(writer: &Writer, rest: &[Next], bank: usize) -> Option<Span> {
-    let span = |what, offset, size| Some(Span { what, offset, size });
-    match (writer.operation(), rest.first()) {
-        (Some(Operation::Erase { offset }), _) => span("erase", offset, SECTOR),
-        (Some(Operation::Write { offset, length }), _) => span("write", offset, length),
-        (None, Some(Next::Commit)) => span("header", bank, HEADER),
-        (None, Some(Next::Word)) => span(COMMIT_WORD, bank + WORD, WORD_SIZE),
-        (None, _) => None,
+fn name(kind: Kind) -> &'static str {
+    match kind {
+        Kind::Erase => "erase",
+        Kind::Write => "write",
+        Kind::Compare => "compare",
+        Kind::Header => "header",
+        Kind::CommitWord => "commit word",
     }
 }
 
 /// The power fails inside an operation, after each of its bytes: those so far are
 /// as the operation leaves them, the others as they were. The commit word is shown
 /// byte by byte.
-fn cut_inside(number: usize, span: &Span, before: &[u8], after: &[u8]) -> Result<(), Refusal> {
-    let Span { what, offset, size } = *span;
+fn cut_inside(number: usize, next: Operation, before: &[u8], after: &[u8]) -> Result<(), Refusal> {
+    let (what, offset, size) = (name(next.kind), next.range().start, next.length);
+    let word = next.kind == Kind::CommitWord;
     let old = cache::load(before)?;
     let (mut torn, mut kept) = (before.to_vec(), 0);
     for j in 1..=size {
         torn[offset + j - 1] = after[offset + j - 1];
-        if what == COMMIT_WORD {
+        if word {
             show(&format!("operation {number}, {what} at {offset}, {j} of {size} bytes"), &torn)?;
         }
         kept += usize::from(j < size && cache::load(&torn)? == old);
     }
-    if what != COMMIT_WORD {
+    if !word {
         let (cuts, old) = (size - 1, given(old));
         println!("inside operation {number}, {what} at {offset}: {old} at {kept} of {cuts} cuts");
     }
@@ -159,20 +144,18 @@ fn cut_inside(number: usize, span: &Span, before: &[u8], after: &[u8]) -> Result
 /// The update once more, each operation cut inside.
 fn cuts_inside(image: &[u8]) -> Result<(), Refusal> {
     let mut region = image.to_vec();
-    let first = cache::load(image)?.is_some_and(|active| active.number == 0);
-    let bank = if first { cache::BANK_SIZE } else { 0 };
     let mut writer = Writer::new(&region, false, NOW)?;
     let mut rest = content()?;
     let mut number = 0;
     loop {
-        let next = operation(&writer, &rest, bank);
+        let next = writer.operation()?;
         let before = region.clone();
         if turn(&mut writer, &mut region, &mut rest)?.is_none() {
             return Ok(());
         }
-        if let Some(span) = next {
+        if let Some(next) = next {
             number += 1;
-            cut_inside(number, &span, &before, &region)?;
+            cut_inside(number, next, &before, &region)?;
         }
     }
 }

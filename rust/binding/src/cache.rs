@@ -20,8 +20,6 @@ fn answered<T>(number: u32, value: T) -> Result<T, Refusal> {
     }
 }
 
-pub use crate::update::Operation;
-
 pub const SIZE: usize = 983_040;
 pub const BANK_SIZE: usize = SIZE / 2;
 pub const SOURCES: usize = 3;
@@ -76,6 +74,35 @@ pub struct Freshness {
 pub struct Stored {
     pub next: usize,
     pub size: usize,
+}
+
+/// What an operation does. All but a comparison are flash operations, on the bank
+/// that isn't active; a comparison reads the active one, bank 0 if there is none.
+#[derive(Clone, Copy, Debug, PartialEq, Eq)]
+pub enum Kind {
+    Erase,
+    Write,
+    Compare,
+    Header,
+    CommitWord,
+}
+
+/// An operation of an update: `length` bytes of a bank, from an offset of the bank
+/// on; a write's length is with its padding.
+#[derive(Clone, Copy, Debug, PartialEq, Eq)]
+pub struct Operation {
+    pub kind: Kind,
+    pub bank: u32,
+    pub offset: usize,
+    pub length: usize,
+}
+
+impl Operation {
+    /// The operation's bytes of the region.
+    pub fn range(&self) -> core::ops::Range<usize> {
+        let start = self.bank as usize * BANK_SIZE + self.offset;
+        start..start + self.length
+    }
 }
 
 fn known(time: i64) -> Option<i64> {
@@ -329,11 +356,21 @@ impl Writer {
         done(self.0.close())
     }
 
-    /// The flash operation that the next `due` does, on a writer that calls have
-    /// reached: for a driver that does it on the chip. None if nothing is due, and
-    /// in comparing mode.
-    pub fn operation(&self) -> Option<Operation> {
-        self.0.operation()
+    /// The operation that comes next, for a driver that does it on the chip: what
+    /// `due` does; else, once an update that isn't compared is closed, the header
+    /// that `commit` writes unless it is refused, then the commit word; else none.
+    pub fn operation(&self) -> Result<Option<Operation>, Refusal> {
+        let next = self.0.operation();
+        let kind = match next.kind {
+            update::ERASE => Some(Kind::Erase),
+            update::WRITE => Some(Kind::Write),
+            update::COMPARE => Some(Kind::Compare),
+            update::HEADER => Some(Kind::Header),
+            update::COMMIT_WORD => Some(Kind::CommitWord),
+            _ => None,
+        };
+        let (bank, offset, length) = (next.bank, next.offset, next.length);
+        answered(next.refusal, kind.map(|kind| Operation { kind, bank, offset, length }))
     }
 
     /// Does the operation that is due, and says whether there was one.

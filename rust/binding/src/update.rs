@@ -6,6 +6,15 @@ use crate::{answers::Refusal, banks::Picks, rows::Values};
 mod core_interface {
     use super::{State, Step};
 
+    #[repr(C)]
+    pub struct OperationNumbers {
+        pub refusal: u32,
+        pub kind: u32,
+        pub bank: u32,
+        pub offset: u64,
+        pub length: u64,
+    }
+
     unsafe extern "C" {
         pub fn tt_update_begin(
             region: *const u8,
@@ -20,6 +29,7 @@ mod core_interface {
         pub safe fn tt_update_end(state: State) -> Step;
         pub safe fn tt_update_close(state: State) -> Step;
         pub fn tt_update_due(region: *mut u8, n: u64, state: State) -> Step;
+        pub safe fn tt_update_operation(state: State) -> OperationNumbers;
         pub fn tt_update_unchanged(region: *const u8, n: u64, state: State) -> Step;
         pub fn tt_update_commit(
             region: *mut u8,
@@ -142,15 +152,23 @@ pub const STEP: usize = size_of::<Step>();
 
 const _: () = assert!(size_of::<State>() == 1400 && STEP == 1416);
 
-const BANK_SIZE: usize = 491_520;
-const SECTOR: usize = 4_096;
+pub const NO_OPERATION: u32 = 0;
+pub const ERASE: u32 = 1;
+pub const WRITE: u32 = 2;
+pub const COMPARE: u32 = 3;
+pub const HEADER: u32 = 4;
+pub const COMMIT_WORD: u32 = 5;
 
-/// A flash operation, by its offset in the region: an erase of a sector of 4,096
-/// bytes, or a write of a number of bytes.
-#[derive(Clone, Copy, Debug, PartialEq, Eq)]
-pub enum Operation {
-    Erase { offset: usize },
-    Write { offset: usize, length: usize },
+/// The operation that comes next: its kind, the number of its bank, the offset of
+/// its first byte in the bank, and how many bytes it has. All are 0 beside a
+/// refusal, and if there is none.
+#[derive(Clone, Copy, Debug, Default, PartialEq, Eq)]
+pub struct OperationAnswer {
+    pub refusal: u32,
+    pub kind: u32,
+    pub bank: u32,
+    pub offset: usize,
+    pub length: usize,
 }
 
 /// Goes through a state's bytes in order, and copies them to or from the state.
@@ -253,27 +271,13 @@ impl State {
         self.take_numbers(other);
         self.tail = other.tail;
     }
-    /// The bank that is written: the one that isn't active, 0 if none is.
-    fn target(&self) -> usize {
-        usize::from(self.stage[3] == 1 && self.bank.numbers[0] == 0)
-    }
-    /// The flash operation that the next due call does, on a state that calls have
-    /// reached: for a driver that does it on the chip. None if nothing is due, and
-    /// in comparing mode.
-    pub fn operation(&self) -> Option<Operation> {
-        let [kind, first, second, _] = self.stage.map(|n| n as usize);
-        let bank = self.target() * BANK_SIZE;
-        let inside = first < BANK_SIZE && second <= self.tail.len();
-        match kind {
-            1 if first < BANK_SIZE / SECTOR => {
-                Some(Operation::Erase { offset: bank + first * SECTOR })
-            }
-            2 if inside => Some(Operation::Write {
-                offset: bank + SECTOR + first,
-                length: second.next_multiple_of(4),
-            }),
-            _ => None,
-        }
+    /// The operation that comes next: what `due` does; else, once an update that
+    /// isn't compared is closed, the header that `commit` writes unless it is
+    /// refused, then the commit word; else none.
+    pub fn operation(&self) -> OperationAnswer {
+        let next = tt_update_operation(*self);
+        let (offset, length) = (next.offset as usize, next.length as usize);
+        OperationAnswer { refusal: next.refusal, kind: next.kind, bank: next.bank, offset, length }
     }
 }
 

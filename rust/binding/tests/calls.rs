@@ -2,7 +2,7 @@
 use bankcore::{
     Refusal, banks,
     banks::Picks,
-    cache::{self, Checking, Operation, SIZE, SOURCE_BYTES, Source, Turn, Writer},
+    cache::{self, Checking, Kind, Operation, SIZE, SOURCE_BYTES, Source, Turn, Writer},
     get,
     rows::Values,
     update,
@@ -197,41 +197,68 @@ fn what_a_call_leaves_is_not_taken_back() {
 
 /// The flash model of document 01, on a chip that a driver writes.
 fn driven(chip: &mut [u8], operation: Operation, region: &[u8]) {
-    match operation {
-        Operation::Erase { offset } => chip[offset..offset + 4096].fill(255),
-        Operation::Write { offset, length } => {
-            let bytes = offset..offset + length;
+    let bytes = operation.range();
+    match operation.kind {
+        Kind::Compare => (),
+        Kind::Erase => chip[bytes].fill(255),
+        Kind::Write | Kind::Header | Kind::CommitWord => {
             chip[bytes.clone()].iter_mut().zip(&region[bytes]).for_each(|(old, new)| *old &= new);
         }
     }
+}
+
+/// Does the operation that comes next, if there is one, on the region and on a chip
+/// beside it, which must then be the same.
+fn operated(writer: &mut Writer, region: &mut [u8], chip: &mut [u8]) -> Option<Operation> {
+    let next = writer.operation().unwrap()?;
+    match next.kind {
+        Kind::Header => writer.commit(region, None, true).unwrap(),
+        Kind::CommitWord => writer.commit_word(region).unwrap(),
+        _ => assert_eq!(writer.due(region), Ok(true)),
+    }
+    driven(chip, next, region);
+    assert!(chip == region);
+    Some(next)
 }
 
 #[test]
 fn a_driver_is_told_each_operation_before_it_is_done() {
     for (name, length) in [("two-good", 5_000), ("both-7", 257), ("two-good", 256)] {
         let mut region = sample(name);
-        let mut chip = region.clone();
-        let mut writer = Writer::new(&region, false, 0).unwrap();
-        let mut bytes = &vec![9; length][..];
-        let mut operations = 0;
-        while !bytes.is_empty() || writer.operation().is_some() {
-            let told = writer.operation();
-            assert_eq!(writer.due(&mut region), Ok(told.is_some()));
-            if let Some(operation) = told {
-                driven(&mut chip, operation, &region);
-                operations += 1;
+        let source = cache::load(&sample("two-good")).unwrap().unwrap();
+        let source = source.source(&sample("two-good"), 0).unwrap();
+        let written = u32::from(cache::load(&region).unwrap().is_some_and(|b| b.number == 0));
+        for comparing in [true, false] {
+            let mut chip = region.clone();
+            let mut writer = Writer::new(&region, comparing, source.updated.unwrap()).unwrap();
+            let mut done = vec![];
+            let key = [9; 256];
+            assert_eq!(writer.append(&key), Ok(256));
+            writer.source(&source).unwrap();
+            writer.start(0).unwrap();
+            let mut bytes = &vec![9; length - 256][..];
+            while !bytes.is_empty() {
+                done.extend(operated(&mut writer, &mut region, &mut chip));
+                bytes = &bytes[writer.append(bytes).unwrap()..];
             }
-            assert!(chip == region);
-            let taken = writer.append(bytes).unwrap_or(0);
-            bytes = &bytes[taken..];
-            if bytes.is_empty() {
-                let _ = writer.close();
+            writer.end().unwrap();
+            writer.close().unwrap();
+            while let Some(next) = operated(&mut writer, &mut region, &mut chip) {
+                done.push(next);
             }
+            assert_eq!(writer.due(&mut region), Ok(false));
+            let writes = length.div_ceil(256);
+            if comparing {
+                assert!(done.iter().all(|o| o.kind == Kind::Compare) && done.len() == writes);
+                continue;
+            }
+            assert_eq!(done.len(), 1 + length.div_ceil(4096) + writes + 2);
+            assert!(done.iter().all(|o| o.bank == written));
+            assert_eq!(cache::load(&region).unwrap().unwrap().number, written);
         }
-        assert_eq!(operations, 1 + length.div_ceil(4096) + length.div_ceil(256));
     }
     let forged = Writer::from_bytes([1; update::SIZE]);
-    assert_eq!(forged.operation(), None);
+    assert_eq!(forged.operation(), Err(Refusal::Turn));
 }
 
 #[test]
