@@ -7,19 +7,14 @@
 
 #include "bankcore.h"
 
-enum { REGION = 983040, BANK = REGION / 2, SECTOR = 4096, HEADER = 1200, RECORD = 384 };
-enum { ROUTES = 0, NONE_DUE = 2, ERASE = 1, WRITE = 2 };
-/* The commit word's offset in a bank, and its size. */
-enum { WORD = 44, WORD_SIZE = 4 };
-
 static const int64_t now = 1790000000;
 
 /* What the host passes, and how much of it is done. */
 typedef struct Host {
-    uint8_t key[64], record[RECORD], dates[8], table[1024];
+    uint8_t key[64], record[TT_RECORD_SIZE], dates[TT_DATES_SIZE], table[1024];
     uint64_t key_length, table_length;
     int next;
-    uint64_t taken;
+    uint64_t appended;
     TtState state;
 } Host;
 
@@ -35,22 +30,24 @@ static void refused(uint32_t refusal)
 static void prepare(Host *h)
 {
     static const uint8_t identity[] = "shelter 12", values[] = "r7Harbour3";
-    static const uint32_t lengths[3] = {2, 7, 1};
+    static const uint32_t lengths[TT_ROUTES_COLUMNS] = {2, 7, 1};
+    static const TtState begin_with = TT_STATE_INIT;
     memset(h, 0, sizeof *h);
-    TtKeyNumbers key = tt_key(identity, sizeof identity - 1, values, 0, lengths, 0, h->key, sizeof h->key);
+    h->state = begin_with;
+    TtKeyNumbers key = tt_key(identity, sizeof identity - 1, NULL, 0, NULL, 0, h->key, sizeof h->key);
     refused(key.refusal);
     h->key_length = key.length;
-    refused(tt_put(h->record, RECORD, 0, 20260101));
-    refused(tt_put(h->record, RECORD, 4, 20261231));
-    refused(tt_put(h->record, RECORD, 8, 1 << ROUTES));
-    refused(tt_put_time(h->record, RECORD, 12, now - 600));
-    memcpy(h->dates, h->record, sizeof h->dates);
-    TtRowNumbers line = tt_names_line(ROUTES, h->table, sizeof h->table);
+    refused(tt_put(h->record, TT_RECORD_SIZE, TT_RECORD_START, 20260101));
+    refused(tt_put(h->record, TT_RECORD_SIZE, TT_RECORD_END, 20261231));
+    refused(tt_put(h->record, TT_RECORD_SIZE, TT_RECORD_PRESENT, 1 << TT_TABLE_ROUTES));
+    refused(tt_put_time(h->record, TT_RECORD_SIZE, TT_RECORD_UPDATED, now - 600));
+    memcpy(h->dates, h->record + TT_RECORD_START, sizeof h->dates);
+    TtRowNumbers line = tt_names_line(TT_TABLE_ROUTES, h->table, sizeof h->table);
     refused(line.refusal);
     h->table_length = line.length;
     for (int i = 0; i < 40; i++) {
         uint8_t *end = h->table + h->table_length;
-        line = tt_row(ROUTES, values, sizeof values - 1, lengths, 3, end, sizeof h->table - h->table_length);
+        line = tt_row(TT_TABLE_ROUTES, values, sizeof values - 1, lengths, TT_ROUTES_COLUMNS, end, sizeof h->table - h->table_length);
         refused(line.refusal);
         h->table_length += line.length;
     }
@@ -67,10 +64,10 @@ static TtUpdateNumbers keep(Host *h, TtUpdateStep step)
 /* Passes bytes, as many as are appended; whether that was all. */
 static bool append(Host *h, const uint8_t *bytes, uint64_t n)
 {
-    h->taken += keep(h, tt_update_bytes(h->state, bytes + h->taken, n - h->taken)).count;
-    if (h->taken < n)
+    h->appended += keep(h, tt_update_bytes(h->state, bytes + h->appended, n - h->appended)).count;
+    if (h->appended < n)
         return false;
-    h->taken = 0;
+    h->appended = 0;
     return true;
 }
 
@@ -79,18 +76,18 @@ static bool append(Host *h, const uint8_t *bytes, uint64_t n)
 static int turn(Host *h, uint8_t *region)
 {
     bool over = true;
-    if (keep(h, tt_update_due(region, REGION, h->state)).answer != NONE_DUE)
+    if (keep(h, tt_update_due(region, TT_REGION_SIZE, h->state)).answer != TT_ANSWER_NONE_DUE)
         return 1;
     switch (h->next) {
     case 0: over = append(h, h->key, h->key_length); break;
-    case 1: keep(h, tt_update_source(h->state, h->record, RECORD)); break;
+    case 1: keep(h, tt_update_source(h->state, h->record, TT_RECORD_SIZE)); break;
     case 2: over = append(h, h->dates, sizeof h->dates); break;
-    case 3: keep(h, tt_update_table(h->state, ROUTES)); break;
+    case 3: keep(h, tt_update_table(h->state, TT_TABLE_ROUTES)); break;
     case 4: over = append(h, h->table, h->table_length); break;
     case 5: keep(h, tt_update_end(h->state)); break;
     case 6: keep(h, tt_update_close(h->state)); break;
-    case 7: keep(h, tt_update_commit(region, REGION, h->state, false, 0, true)); break;
-    case 8: keep(h, tt_update_commit_word(region, REGION, h->state)); break;
+    case 7: keep(h, tt_update_commit(region, TT_REGION_SIZE, h->state, false, 0, true)); break;
+    case 8: keep(h, tt_update_commit_word(region, TT_REGION_SIZE, h->state)); break;
     default: return -1;
     }
     if (over)
@@ -105,7 +102,7 @@ static int update(uint8_t *region, int power, bool *whole)
     static Host h;
     int done = 0;
     prepare(&h);
-    keep(&h, tt_update_begin(region, REGION, false, now, h.state));
+    keep(&h, tt_update_begin(region, TT_REGION_SIZE, false, now, h.state));
     *whole = false;
     while (done < power && !*whole) {
         int operations = turn(&h, region);
@@ -117,7 +114,7 @@ static int update(uint8_t *region, int power, bool *whole)
 
 static TtBankNumbers load(const uint8_t *region)
 {
-    TtBankNumbers bank = tt_load(region, REGION);
+    TtBankNumbers bank = tt_load(region, TT_REGION_SIZE);
     refused(bank.refusal);
     return bank;
 }
@@ -140,34 +137,31 @@ static void show(const char *what, int done, const uint8_t *region)
     printf("\n");
 }
 
-/* The bytes of the region that a turn erases or writes. */
+/* The bytes of the region that a turn erases or writes; none if the size is 0. */
 typedef struct Span {
-    const char *what;
+    uint32_t kind;
     uint64_t offset, size;
 } Span;
 
-static Span span(const char *what, uint64_t offset, uint64_t size)
+/* The flash operation of the next turn. */
+static Span operation(const Host *h)
 {
-    Span s = {what, offset, size};
+    TtOperationNumbers next = tt_update_operation(h->state);
+    refused(next.refusal);
+    Span s = {next.kind, next.bank * (uint64_t)TT_BANK_SIZE + next.offset, next.length};
     return s;
 }
 
-/* The flash operation of the next turn; its size is 0 if it does none. The state has the one that
-   is due: of an erase the number of its sector, of a write its offset in the data and its length
-   without padding. A commit writes the header, then the commit word. */
-static Span operation(const Host *h)
+static const char *operation_name(uint32_t kind)
 {
-    const TtState *s = &h->state;
-    uint64_t bank = s->active == 1 && s->bank.number == 0 ? BANK : 0;
-    if (s->stage == ERASE)
-        return span("erase", bank + (uint64_t)s->first * SECTOR, SECTOR);
-    if (s->stage == WRITE)
-        return span("write", bank + SECTOR + s->first, ((uint64_t)s->second + 3) / 4 * 4);
-    if (h->next == 7)
-        return span("header", bank, HEADER);
-    if (h->next == 8)
-        return span("commit word", bank + WORD, WORD_SIZE);
-    return span("", 0, 0);
+    switch (kind) {
+    case TT_OPERATION_ERASE: return "erase";
+    case TT_OPERATION_WRITE: return "write";
+    case TT_OPERATION_COMPARE: return "compare";
+    case TT_OPERATION_HEADER: return "header";
+    case TT_OPERATION_COMMIT_WORD: return "commit word";
+    default: return "";
+    }
 }
 
 static bool same(TtBankNumbers a, TtBankNumbers b)
@@ -180,21 +174,21 @@ static bool same(TtBankNumbers a, TtBankNumbers b)
 static void cut_inside(int number, Span cut, uint8_t *torn, const uint8_t *after)
 {
     TtBankNumbers old = load(torn);
-    bool word = cut.offset % BANK == WORD;
+    bool word = cut.kind == TT_OPERATION_COMMIT_WORD;
     uint64_t kept = 0;
     for (uint64_t j = 1; j <= cut.size; j++) {
         torn[cut.offset + j - 1] = after[cut.offset + j - 1];
         TtBankNumbers found = load(torn);
         kept += j < cut.size && same(found, old);
         if (word) {
-            printf("operation %d, %s at %" PRIu64 ", ", number, cut.what, cut.offset);
+            printf("operation %d, %s at %" PRIu64 ", ", number, operation_name(cut.kind), cut.offset);
             printf("%" PRIu64 " of %" PRIu64 " bytes: ", j, cut.size);
             give(found);
             printf("\n");
         }
     }
     if (!word) {
-        printf("inside operation %d, %s at %" PRIu64 ": ", number, cut.what, cut.offset);
+        printf("inside operation %d, %s at %" PRIu64 ": ", number, operation_name(cut.kind), cut.offset);
         give(old);
         printf(" at %" PRIu64 " of %" PRIu64 " cuts\n", kept, cut.size - 1);
     }
@@ -204,13 +198,13 @@ static void cut_inside(int number, Span cut, uint8_t *torn, const uint8_t *after
 static void cuts_inside(uint8_t *region)
 {
     static Host h;
-    static uint8_t before[REGION];
+    static uint8_t before[TT_REGION_SIZE];
     int number = 0;
     prepare(&h);
-    keep(&h, tt_update_begin(region, REGION, false, now, h.state));
+    keep(&h, tt_update_begin(region, TT_REGION_SIZE, false, now, h.state));
     for (;;) {
         Span next = operation(&h);
-        memcpy(before, region, REGION);
+        memcpy(before, region, TT_REGION_SIZE);
         if (turn(&h, region) < 0)
             return;
         if (next.size > 0)
@@ -220,17 +214,17 @@ static void cuts_inside(uint8_t *region)
 
 int main(int argc, char **argv)
 {
-    static uint8_t image[REGION], region[REGION];
+    static uint8_t image[TT_REGION_SIZE], region[TT_REGION_SIZE];
     bool whole = false;
     FILE *file = argc == 2 ? fopen(argv[1], "rb") : NULL;
-    if (!file || fread(image, 1, REGION, file) != REGION) {
-        fprintf(stderr, "update: name one image, of 983040 bytes\n");
+    if (!file || fread(image, 1, TT_REGION_SIZE, file) != TT_REGION_SIZE) {
+        fprintf(stderr, "update: name one image, of %d bytes\n", TT_REGION_SIZE);
         return 2;
     }
     fclose(file);
     show("at the start", -1, image);
     for (int power = 0; !whole; power++) {
-        memcpy(region, image, REGION);
+        memcpy(region, image, TT_REGION_SIZE);
         int done = update(region, power, &whole);
         show(whole ? "whole," : "cut after", done, region);
         if (!whole) {

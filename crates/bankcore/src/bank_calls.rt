@@ -38,7 +38,8 @@ use snapshot::rows::BlockAnswer;
 use snapshot::rows::bytes_of;
 use snapshot::rows::table_block;
 
-// A bank's numbers, if found; `key` is the key's length.
+// A bank, if found is 1: its number, format version and generation, the data's length and CRC, how many sources it has, the key's length,
+// and when it was checked.
 #[repr(C)]
 pub struct BankNumbers {
     pub refusal: u32,
@@ -53,6 +54,7 @@ pub struct BankNumbers {
     pub checked: i64,
 }
 
+// When a bank was checked, and when its sources were updated.
 #[repr(C)]
 pub struct FreshNumbers {
     pub refusal: u32,
@@ -60,19 +62,22 @@ pub struct FreshNumbers {
     pub updated: i64,
 }
 
+// A written key's length.
 #[repr(C)]
 pub struct KeyNumbers {
     pub refusal: u32,
     pub length: usize,
 }
 
+// Whether a key is the same: 1 or 0.
 #[repr(C)]
 pub struct MatchNumbers {
     pub refusal: u32,
     pub same: u32,
 }
 
-// A turn's refusal, verdict or count, and the state after it.
+// A turn: verdict is 1 if all data were hashed and their CRC is the header's, else count is how many bytes were hashed. The state for the
+// next turn is bank, position and CRC.
 #[repr(C)]
 pub struct TurnNumbers {
     pub refusal: u32,
@@ -83,7 +88,7 @@ pub struct TurnNumbers {
     pub crc: u32,
 }
 
-// Whether there is a row; the place of the next one, and how many bytes the values have.
+// A row of a bank: found is 1 if there is one; next is the offset of the row after it, size how many bytes its values have, joined.
 #[repr(C)]
 pub struct BankRowNumbers {
     pub refusal: u32,
@@ -243,7 +248,10 @@ fn of_bank_row(x: ReadNumbers) -> BankRowNumbers
     }
 }
 
-// Tests a bank except for its data's CRC, refusals 1 to 6, and gives its numbers.
+// Tests a bank except for its data's CRC, and gives its numbers.
+//   region: the region, TT_REGION_SIZE bytes
+//   bank: 0 or 1
+//   refusals: 1, 2, 3, 4, 5, 6
 #[no_mangle]
 pub extern "C" fn tt_header(region: &[u8], bank: u32) -> BankNumbers
     ensures { λ r. ⌜ r ≡ Answers.ofValidated (Banks.named (now (region .entry)) bank) ⌝ }
@@ -251,7 +259,10 @@ pub extern "C" fn tt_header(region: &[u8], bank: u32) -> BankNumbers
     of_validated(bank::header(region, bank))
 }
 
-// Tests a bank, refusals 1 to 7, and gives its numbers.
+// Tests a bank, its data's CRC too, and gives its numbers.
+//   region: the region, TT_REGION_SIZE bytes
+//   bank: 0 or 1
+//   refusals: 1, 2, 3, 4, 5, 6, 7
 #[no_mangle]
 pub extern "C" fn tt_validate(region: &[u8], bank: u32) -> BankNumbers
     ensures { λ r. ⌜ r ≡ Answers.ofValidated (Banks.validated (now (region .entry)) bank) ⌝ }
@@ -259,7 +270,9 @@ pub extern "C" fn tt_validate(region: &[u8], bank: u32) -> BankNumbers
     of_validated(bank::validate(region, bank))
 }
 
-// The bank in use: the first to pass, the newer one tried first; found is 0 if none passes.
+// The bank in use: the first to pass all tests, the newer one tried first. If none passes, found is 0, and that is no refusal.
+//   region: the region, TT_REGION_SIZE bytes
+//   refusals: 1
 #[no_mangle]
 pub extern "C" fn tt_load(region: &[u8]) -> BankNumbers
     ensures { λ r. ⌜ r ≡ Answers.ofLoaded (Banks.loaded (now (region .entry))) ⌝ }
@@ -267,7 +280,10 @@ pub extern "C" fn tt_load(region: &[u8]) -> BankNumbers
     of_loaded(bank::load(region))
 }
 
-// Begins checking a bank's data in turns.
+// Begins checking a bank's data in turns: the state for the first one. A refused beginning gives a state of bank TT_NO_BANK.
+//   region: the region, TT_REGION_SIZE bytes
+//   bank: 0 or 1
+//   refusals: 1, 2, 3, 4, 5, 6
 #[no_mangle]
 pub extern "C" fn tt_check_start(region: &[u8], bank: u32) -> TurnNumbers
     ensures { λ r. ⌜ r ≡ Answers.ofTurn (Turns.started (now (region .entry)) bank) ⌝ }
@@ -275,7 +291,14 @@ pub extern "C" fn tt_check_start(region: &[u8], bank: u32) -> TurnNumbers
     of_turn(bank::turns::check_start(region, bank))
 }
 
-// One turn of at most n bytes from the state passed; with nothing left it gives the verdict, 1 or refusal 7.
+// One turn: hashes the next bytes of the data and gives their count; with none left it gives the verdict, 1 or refusal 7, and so does a
+// further turn.
+//   region: the region, TT_REGION_SIZE bytes
+//   bank: the state's bank, as the last turn gave it
+//   position: the state's position: the bytes hashed before
+//   crc: the state's CRC
+//   n: the most bytes to hash in this turn
+//   refusals: 1, 11 by the state, 3, 4, 5, 6, 11 by a position past the data, 7
 #[no_mangle]
 pub extern "C" fn tt_check_turn(
     region: &[u8],
@@ -297,7 +320,13 @@ pub extern "C" fn tt_check_turn(
     ))
 }
 
-// Writes the key of an identity and picks to out; five lengths to a pick: line, route, stop code, stop, stop name.
+// Writes the key of an identity and picks to the first bytes of out, and gives its length.
+//   identity: at most TT_MAX_IDENTITY bytes; it may be empty
+//   texts: the fields of all picks, joined (Joined texts, above)
+//   lengths: TT_PICK_FIELDS lengths to a pick, of line, route, stop code, stop and stop name, at most TT_MAX_PICKS picks; a length that is
+//     missing in the last pick is 0
+//   out: a buffer; TT_MAX_KEY bytes are enough for any key
+//   refusals: 2, 8, 9
 #[no_mangle]
 pub extern "C" fn tt_key(
     identity: &[u8],
@@ -311,7 +340,13 @@ pub extern "C" fn tt_key(
     of_key(key::key(identity, texts, lengths, out))
 }
 
-// Whether a bank's key is that of an identity and picks.
+// Whether a bank's key is that of an identity and picks: same is 1 or 0.
+//   region: the region, TT_REGION_SIZE bytes
+//   bank: 0 or 1
+//   identity: as for tt_key
+//   texts: as for tt_key
+//   lengths: as for tt_key
+//   refusals: 1, 2, 3, 4, 5, 6, 8
 #[no_mangle]
 pub extern "C" fn tt_same_key(
     region: &[u8],
@@ -331,7 +366,18 @@ fn day(date: u32, wanted: bool) -> Day
     Day { date, wanted }
 }
 
-// When a bank was checked and the sources of the wanted days were updated; the lowest number means unknown.
+// When a bank was checked, and when the sources that give the wanted days were updated, the oldest time; TT_UNKNOWN_TIME if it is not
+// known.
+//   region: the region, TT_REGION_SIZE bytes
+//   bank: 0 or 1
+//   day0: a date
+//   day1: a date
+//   day2: a date
+//   wanted0: whether the first date counts; it must be one in any case
+//   wanted1: the same of the second
+//   wanted2: the same of the third
+//   at: the time now: an updated time after it is unknown
+//   refusals: 1, 2, 3, 4, 5, 6
 #[no_mangle]
 pub extern "C" fn tt_fresh(
     region: &[u8],
@@ -363,7 +409,12 @@ fn refusal_of_capacity(capacity: usize) -> u32
     0
 }
 
-// Writes a source's record to the first 384 bytes of out, in version 3's form.
+// Writes a source's record to the first TT_RECORD_SIZE bytes of out, in version 3's form. Gives 0 or the refusal.
+//   region: the region, TT_REGION_SIZE bytes
+//   bank: 0 or 1
+//   index: the source's, below the bank's count
+//   out: a buffer of at least TT_RECORD_SIZE bytes
+//   refusals: 1, 2, 3, 4, 5, 6, 6 by the index, 9
 #[no_mangle]
 pub extern "C" fn tt_source(region: &[u8], bank: u32, index: u32, out: &mut [u8]) -> u32
     ensures { λ r. ⌜ r ≡ Answers.refusalOf (length (now (out .entry))) (Sources.sourceAnswer (now (region .entry)) bank index .outcome) ⌝ }
@@ -381,7 +432,16 @@ pub extern "C" fn tt_source(region: &[u8], bank: u32, index: u32, out: &mut [u8]
     }
 }
 
-// Reads the row at a place of a source's table: its values, joined, to out, and where each ends to ends.
+// Reads the row at an offset of a source's table: its values, joined, to the first bytes of out, and to ends the offset in out where each
+// ends. Offset 0 is the table's names line. At the table's end found is 0, and that is no refusal.
+//   region: the region, TT_REGION_SIZE bytes
+//   bank: 0 or 1
+//   source: its index, below the bank's count
+//   table: TT_TABLE_ROUTES to TT_TABLE_TRANSFERS
+//   place: the row's offset in the table: 0, or the next that the row before gave
+//   out: a buffer; TT_MAX_ROW bytes are enough for any row
+//   ends: at least as many elements as the table has columns; TT_MAX_COLUMNS are enough for any table
+//   refusals: 1, 2, 3, 4, 5, 6, 6 by the source, 14, 9
 #[no_mangle]
 pub extern "C" fn tt_bank_row(
     region: &[u8],

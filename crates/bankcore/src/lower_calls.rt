@@ -1,4 +1,4 @@
-// An update's lower calls. The state is passed by value, as numbers; any numbers are allowed.
+// An update's lower calls: each does one flash operation at most. The state is passed by value, as numbers; any numbers are allowed.
 ghost use mathlib.Core.Path.{_≡_};
 ghost use Rattle.record.specs.Record.{decoded, currentVersion};
 ghost use Rattle.lower.specs.Lower as Lower;
@@ -56,8 +56,9 @@ pub const OPERATION_HEADER: u32 = 4;
 
 pub const OPERATION_COMMIT_WORD: u32 = 5;
 
-// An operation: 0 none, 1 an erase, 2 a write, 3 a comparison, 4 the header, 5 the commit word; its bank, the offset of its first byte in the
-// bank, and how many bytes it has, padding too. A comparison reads the active bank, bank 0 if there is none; the others change the other one.
+// An operation of an update, by its kind (TT_OPERATION_..): on bytes of a bank, from an offset of the bank on. An erase, a write, the
+// header and the commit word are flash operations on the bank that isn't active; a write's length is with its padding. A comparison reads
+// the active bank, bank 0 if there is none, and does nothing to the chip.
 #[repr(C)]
 pub struct OperationNumbers {
     pub refusal: u32,
@@ -67,7 +68,12 @@ pub struct OperationNumbers {
     pub length: usize,
 }
 
-// Begins an update: loads the region; in comparing mode nothing is written. It appends no key.
+// Begins an update: loads the region. It appends no key. Refused, it gives back the state that it was passed.
+//   region: the region, TT_REGION_SIZE bytes
+//   comparing: whether the update is compared with the active bank, and nothing is written
+//   at: the time now; the checked time of the bank, unless the commit has a later stamp
+//   state: the last update's, which the new one replaces, or TT_STATE_INIT
+//   refusals: 1
 #[no_mangle]
 pub extern "C" fn tt_update_begin(
     region: &[u8],
@@ -81,7 +87,10 @@ pub extern "C" fn tt_update_begin(
     after(s, state)
 }
 
-// Begins a source; its record is version 3's, 384 bytes, and its blocks start as zero.
+// Begins a source, at most TT_SOURCES in an update. Its blocks start as zero.
+//   state: the update's
+//   bytes: its record, TT_RECORD_SIZE bytes; missing ones are 0, further ones ignored
+//   refusals: 11, 10
 #[no_mangle]
 pub extern "C" fn tt_update_source(state: State, bytes: &[u8]) -> UpdateStep
     ensures { λ x. ⌜ x ≡ Answers.after (Lower.sourceStep (writerOf state) (decoded currentVersion (now (bytes .entry)))) state ⌝ }
@@ -97,7 +106,10 @@ pub extern "C" fn tt_update_source(state: State, bytes: &[u8]) -> UpdateStep
     after_parts(b, s, sources, tail, state)
 }
 
-// Begins a table of the last source.
+// Begins a table of the last source; the first one of the first source is routes.
+//   state: the update's
+//   table: TT_TABLE_ROUTES to TT_TABLE_TRANSFERS
+//   refusals: 2, 11
 #[no_mangle]
 pub extern "C" fn tt_update_table(state: State, table: u32) -> UpdateStep
     ensures { λ x. ⌜ x ≡ Answers.after (Lower.tableStep (writerOf state) table) state ⌝ }
@@ -110,7 +122,11 @@ pub extern "C" fn tt_update_table(state: State, table: u32) -> UpdateStep
     after_parts(b, s, sources, tail, state)
 }
 
-// Appends bytes until the tail is full, and says how many; none while an operation is due.
+// Appends bytes until the tail is full, and gives how many were appended as count; 0 while an operation is due. Pass the others again
+// after tt_update_due.
+//   state: the update's
+//   bytes: the bytes; all of them count for refusal 10
+//   refusals: 11, 10
 #[no_mangle]
 pub extern "C" fn tt_update_bytes(state: State, bytes: &[u8]) -> UpdateStep
     ensures { λ x. ⌜ x ≡ Answers.after (Lower.bytesStep (writerOf state) (now (bytes .entry))) state ⌝ }
@@ -124,6 +140,8 @@ pub extern "C" fn tt_update_bytes(state: State, bytes: &[u8]) -> UpdateStep
 }
 
 // Ends the open table.
+//   state: the update's
+//   refusals: 11
 #[no_mangle]
 pub extern "C" fn tt_update_end(state: State) -> UpdateStep
     ensures { λ x. ⌜ x ≡ Answers.after (Lower.endStep (writerOf state)) state ⌝ }
@@ -139,7 +157,9 @@ pub extern "C" fn tt_update_end(state: State) -> UpdateStep
     after_parts(b, s, sources, tail, state)
 }
 
-// Closes the update: the bytes in the tail are then due.
+// Closes the update: no more bytes. Those in the tail are then due.
+//   state: the update's
+//   refusals: 11
 #[no_mangle]
 pub extern "C" fn tt_update_close(state: State) -> UpdateStep
     ensures { λ x. ⌜ x ≡ Answers.after (Lower.closeStep (writerOf state)) state ⌝ }
@@ -152,7 +172,10 @@ pub extern "C" fn tt_update_close(state: State) -> UpdateStep
     after_parts(b, s, sources, tail, state)
 }
 
-// Does the erase, write or comparison that is due, or says that none is.
+// Does the erase, write or comparison that is due, or answers TT_ANSWER_NONE_DUE.
+//   region: the region, TT_REGION_SIZE bytes
+//   state: the update's
+//   refusals: 1, 11
 #[no_mangle]
 pub extern "C" fn tt_update_due(region: &mut [u8], state: State) -> UpdateStep
     ensures { λ x. ⌜ x ≡ Answers.after (Due.dueStep (now (region .entry)) (writerOf state)) state ⌝ }
@@ -266,8 +289,10 @@ fn next_operation(b: Beginning, t: Contents, s: Stage) -> OperationNumbers
     }
 }
 
-// The operation that comes next: what is due; else, once an update that isn't compared is closed, the header that the commit writes
-// unless it is refused, then the commit word; else none.
+// The operation that comes next, for a driver that does it on a chip: what tt_update_due does; else, once an update that isn't compared is
+// closed, the header that tt_update_commit writes unless it is refused, then the commit word that tt_update_commit_word writes; else none.
+//   state: the update's
+//   refusals: 11
 #[no_mangle]
 pub extern "C" fn tt_update_operation(state: State) -> OperationNumbers
     ensures { λ x. ⌜ x ≡ Operations.operationOf (writerOf state) ⌝ }
@@ -283,7 +308,10 @@ pub extern "C" fn tt_update_operation(state: State) -> OperationNumbers
     next_operation(b, t, s)
 }
 
-// Whether the update that was compared is the same as the active bank.
+// Whether the update that was compared is the same as the active bank: TT_ANSWER_SAME or TT_ANSWER_DIFFERENT.
+//   region: the region, TT_REGION_SIZE bytes
+//   state: the update's, closed, with nothing due
+//   refusals: 1, 11
 #[no_mangle]
 pub extern "C" fn tt_update_unchanged(region: &[u8], state: State) -> UpdateStep
     ensures { λ x. ⌜ x ≡ Answers.after (Unchanged.unchangedStep (now (region .entry)) (writerOf state)) state ⌝ }
@@ -301,7 +329,13 @@ fn stamp_of(stamped: bool, stamp: i64) -> Stamp
     Stamp::Missing
 }
 
-// The first write of a commit: the header with 255 in the commit word.
+// The first write of a commit: the header, with 255 in the commit word.
+//   region: the region, TT_REGION_SIZE bytes
+//   state: the update's, closed, with nothing due
+//   stamped: whether there is a stamp
+//   stamp: the checked time, if it is after the time of the beginning; ignored unless stamped
+//   current: whether the update is still wanted; refusal 12 if not
+//   refusals: 1, 11, 12, 13
 #[no_mangle]
 pub extern "C" fn tt_update_commit(
     region: &mut [u8],
@@ -318,7 +352,10 @@ pub extern "C" fn tt_update_commit(
     after(s, state)
 }
 
-// The second write of a commit: the commit word.
+// The second write of a commit: the commit word. From then on load gives the new bank.
+//   region: the region, TT_REGION_SIZE bytes
+//   state: the update's, after tt_update_commit
+//   refusals: 1, 11
 #[no_mangle]
 pub extern "C" fn tt_update_commit_word(region: &mut [u8], state: State) -> UpdateStep
     ensures { λ x. ⌜ x ≡ Answers.after (Commit.wordStep (now (region .entry)) (writerOf state)) state ⌝ }

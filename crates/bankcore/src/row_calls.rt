@@ -14,19 +14,21 @@ use refusal::number_u32;
 use row::RowAnswer;
 use rowread::ReadAnswer;
 
+// A written line's length, with its LF.
 #[repr(C)]
 pub struct RowNumbers {
     pub refusal: u32,
     pub length: usize,
 }
 
+// How many columns there are.
 #[repr(C)]
 pub struct ColumnNumbers {
     pub refusal: u32,
     pub count: usize,
 }
 
-// A row, if found: the place of the next one, and how many bytes its values have.
+// A row that was read: found is 1 if there is one; next is the offset of the row after it, size how many bytes its values have, joined.
 #[repr(C)]
 pub struct ReadNumbers {
     pub refusal: u32,
@@ -35,6 +37,7 @@ pub struct ReadNumbers {
     pub size: usize,
 }
 
+// Whether an id may be in the filter: 1 or 0.
 #[repr(C)]
 pub struct FilterNumbers {
     pub refusal: u32,
@@ -101,7 +104,9 @@ fn of_filter(a: Filter) -> FilterNumbers
     }
 }
 
-// How many columns a table has; refusal 2 above table 7.
+// How many columns a table has.
+//   table: TT_TABLE_ROUTES to TT_TABLE_TRANSFERS
+//   refusals: 2
 #[no_mangle]
 pub extern "C" fn tt_column_count(table: u32) -> ColumnNumbers
     ensures { λ r. ⌜ r ≡ Answers.ofColumns table ⌝ }
@@ -118,7 +123,10 @@ pub extern "C" fn tt_column_count(table: u32) -> ColumnNumbers
     }
 }
 
-// Writes a table's names line to out.
+// Writes a table's names line to the first bytes of out, with its LF, and gives its length.
+//   table: TT_TABLE_ROUTES to TT_TABLE_TRANSFERS
+//   out: a buffer; TT_MAX_NAMES_LINE bytes are enough for any table
+//   refusals: 2, 9
 #[no_mangle]
 pub extern "C" fn tt_names_line(table: u32, out: &mut [u8]) -> RowNumbers
     ensures { λ r. ⌜ r ≡ Answers.ofRow (Rows.namesAnswer table (length (now (out .entry)))) ⌝ }
@@ -127,7 +135,12 @@ pub extern "C" fn tt_names_line(table: u32, out: &mut [u8]) -> RowNumbers
     of_row(row::names_line(table, out))
 }
 
-// Writes the row of a table's values to out; a length for each value.
+// Writes the row of a table's values to the first bytes of out, quoted where needed, with its LF, and gives its length.
+//   table: TT_TABLE_ROUTES to TT_TABLE_TRANSFERS
+//   texts: the values, joined (Joined texts, above)
+//   lengths: the length of each value, as many as the table has columns
+//   out: a buffer; TT_MAX_ROW bytes are enough for any row
+//   refusals: 2, 14, 9
 #[no_mangle]
 pub extern "C" fn tt_row(table: u32, texts: &[u8], lengths: &[u32], out: &mut [u8]) -> RowNumbers
     ensures { λ r. ⌜ r ≡ Answers.ofRow (Rows.rowAnswer table (now (texts .entry)) (now (lengths .entry)) (length (now (out .entry)))) ⌝ }
@@ -136,7 +149,14 @@ pub extern "C" fn tt_row(table: u32, texts: &[u8], lengths: &[u32], out: &mut [u
     of_row(row::row(table, texts, lengths, out))
 }
 
-// Reads the row of width values at a place of a stored table: its values, joined, to out, and where each ends to ends.
+// Reads the row at an offset of stored rows: its values, joined, to the first bytes of out, and to ends the offset in out where each ends.
+// At the end of the table found is 0, and that is no refusal.
+//   table: the rows' bytes; offset 0 of a stored table is its names line
+//   width: how many values the row must have
+//   place: the row's offset in the table
+//   out: a buffer; TT_MAX_ROW bytes are enough for any row
+//   ends: at least width elements
+//   refusals: 14, 9
 #[no_mangle]
 pub extern "C" fn tt_read_row(
     table: &[u8],
@@ -152,7 +172,10 @@ pub extern "C" fn tt_read_row(
     of_read(rowread::read_row(table, width, place, out, ends))
 }
 
-// Whether a trip id may be in the filter.
+// Whether a trip id may be in the filter: present is 1 or 0.
+//   bits: the filter, 1 to TT_MAX_FILTER bytes
+//   id: the trip id
+//   refusals: 2
 #[no_mangle]
 pub extern "C" fn tt_filter_query(bits: &[u8], id: &[u8]) -> FilterNumbers
     ensures { λ r. ⌜ r ≡ Answers.ofFilter (Bloom.query (now (bits .entry)) (now (id .entry))) ⌝ }
@@ -160,7 +183,10 @@ pub extern "C" fn tt_filter_query(bits: &[u8], id: &[u8]) -> FilterNumbers
     of_filter(bloom::query(bits, id))
 }
 
-// Inserts a trip id into the filter, and says whether it may have been there before.
+// Inserts a trip id into the filter; present says whether it may have been there before.
+//   bits: the filter, 1 to TT_MAX_FILTER bytes
+//   id: the trip id
+//   refusals: 2
 #[no_mangle]
 pub extern "C" fn tt_filter_insert(bits: &mut [u8], id: &[u8]) -> FilterNumbers
     ensures { λ r. ⌜ r ≡ Answers.ofFilter (Bloom.insertAnswer (now (bits .entry)) (now (id .entry))) ⌝ }

@@ -1,4 +1,4 @@
-// An update's upper calls. Several texts are passed joined, with their lengths.
+// An update's upper calls: each does all its flash operations before it returns, and leaves none due. Several texts are passed joined, with their lengths.
 ghost use mathlib.Core.Path.{_≡_};
 ghost use Rattle.record.specs.Record.{decoded, currentVersion};
 ghost use Rattle.upper.specs.Upper as Upper;
@@ -15,7 +15,15 @@ use record::VERSION;
 use record::decode;
 use upper::rows::row_parts;
 
-// Begins an update and appends the key of an identity and picks; five lengths to a pick.
+// Begins an update and appends the key of an identity and picks. Refused, it gives back the state that it was passed.
+//   region: the region, TT_REGION_SIZE bytes
+//   comparing: as for tt_update_begin
+//   at: as for tt_update_begin
+//   identity: as for tt_key
+//   texts: as for tt_key
+//   lengths: as for tt_key
+//   state: the last update's, or TT_STATE_INIT
+//   refusals: 1, 2, 8
 #[no_mangle]
 pub extern "C" fn tt_upper_begin(
     region: &mut [u8],
@@ -33,7 +41,11 @@ pub extern "C" fn tt_upper_begin(
     after(s, state)
 }
 
-// Begins a source and appends its dates; its record is version 3's, 384 bytes.
+// Begins a source and appends its dates.
+//   region: the region, TT_REGION_SIZE bytes
+//   state: the update's
+//   bytes: its record, as for tt_update_source
+//   refusals: 1, 11, 10
 #[no_mangle]
 pub extern "C" fn tt_upper_source(region: &mut [u8], state: State, bytes: &[u8]) -> UpdateStep
     ensures { λ x. ⌜ x ≡ Answers.after (Upper.upperStep (now (region .entry)) (writerOf state) (Upper.sourceWithDates (decoded currentVersion (now (bytes .entry))))) state ⌝ }
@@ -45,6 +57,10 @@ pub extern "C" fn tt_upper_source(region: &mut [u8], state: State, bytes: &[u8])
 }
 
 // Begins a table of the last source and appends its names line.
+//   region: the region, TT_REGION_SIZE bytes
+//   state: the update's
+//   table: TT_TABLE_ROUTES to TT_TABLE_TRANSFERS
+//   refusals: 1, 2, 11, 10
 #[no_mangle]
 pub extern "C" fn tt_upper_table(region: &mut [u8], state: State, table: u32) -> UpdateStep
     ensures { λ x. ⌜ x ≡ Answers.after (Upper.upperStep (now (region .entry)) (writerOf state) (Upper.tableWithNames table)) state ⌝ }
@@ -54,7 +70,12 @@ pub extern "C" fn tt_upper_table(region: &mut [u8], state: State, table: u32) ->
     after(s, state)
 }
 
-// Appends a row of the open table; a length for each value.
+// Appends a row of the open table.
+//   region: the region, TT_REGION_SIZE bytes
+//   state: the update's
+//   texts: the values, joined (Joined texts, above)
+//   lengths: the length of each value, as many as the table has columns
+//   refusals: 1, 11, 14, 10
 #[no_mangle]
 pub extern "C" fn tt_upper_row(
     region: &mut [u8],
@@ -74,6 +95,9 @@ pub extern "C" fn tt_upper_row(
 }
 
 // Ends the open table.
+//   region: the region, TT_REGION_SIZE bytes
+//   state: the update's
+//   refusals: 1, 11
 #[no_mangle]
 pub extern "C" fn tt_upper_end(region: &mut [u8], state: State) -> UpdateStep
     ensures { λ x. ⌜ x ≡ Answers.after (Upper.upperStep (now (region .entry)) (writerOf state) Upper.tableEnd) state ⌝ }
@@ -84,6 +108,9 @@ pub extern "C" fn tt_upper_end(region: &mut [u8], state: State) -> UpdateStep
 }
 
 // Closes the update: the bytes in the tail are written, or compared in comparing mode.
+//   region: the region, TT_REGION_SIZE bytes
+//   state: the update's
+//   refusals: 1, 11
 #[no_mangle]
 pub extern "C" fn tt_upper_close(region: &mut [u8], state: State) -> UpdateStep
     ensures { λ x. ⌜ x ≡ Answers.after (Upper.upperStep (now (region .entry)) (writerOf state) Upper.closing) state ⌝ }

@@ -56,9 +56,9 @@ pub const ANSWER_SAME: u32 = 3;
 
 pub const ANSWER_DIFFERENT: u32 = 4;
 
-// The stage is 0 idle, 1 an erase due, 2 a write due, 3 a comparison due, 4 header written, 5 committed. First is the due erase's sector
-// (0 is the header's), or the offset in the data of the due write or comparison, and second its length, without padding. Active is 0
-// with no active bank, 1 with one; with another number, or a stage above 5, calls meet 11. A flag is set if its number isn't 0.
+// The state of an update. The stage is one of TT_STAGE_..; first is the due erase's sector (0 is the header's), or the offset in the data
+// of the due write or comparison, and second its length, without padding. Active is TT_ACTIVE_NONE or TT_ACTIVE_SOME; with another number,
+// or another stage, calls meet 11. A flag is set if its number isn't 0. Written and fill are the bytes written and those in the tail.
 #[repr(C)]
 pub struct State {
     pub stage: u32,
@@ -300,7 +300,7 @@ pub fn state_of(w: Writer) -> State
     state_with(b, p, sources, tail)
 }
 
-// An answer: 0 done, 1 bytes were appended, 2 none is due, 3 the same, 4 different. Count is the number of bytes appended.
+// What a call of an update answers: answer is one of TT_ANSWER_.., count the number of bytes appended.
 #[repr(C)]
 pub struct UpdateNumbers {
     pub refusal: u32,
@@ -308,7 +308,7 @@ pub struct UpdateNumbers {
     pub count: u32,
 }
 
-// What a call gives back: the answer, and the state after it.
+// What a call of an update gives back: its answer, and the state for the next call.
 #[repr(C)]
 pub struct UpdateStep {
     pub numbers: UpdateNumbers,

@@ -2,19 +2,9 @@
 //! tables' rows. show IMAGE
 use bankcore::{
     Refusal,
-    cache::{self, Bank, TABLES},
+    cache::{self, Bank},
+    constants::{MAX_COLUMNS, MAX_ROW, REGION_SIZE, TABLE_NAMES, TABLES},
 };
-
-const NAMES: [&str; TABLES] = [
-    "routes",
-    "stops",
-    "trips",
-    "stop_times",
-    "calendar",
-    "calendar_dates",
-    "feed_info",
-    "transfers",
-];
 
 fn show_bank(image: &[u8], number: u32) {
     match cache::validate(image, number) {
@@ -25,14 +15,14 @@ fn show_bank(image: &[u8], number: u32) {
 
 /// How many rows a table has after its names line, and whether one is malformed.
 fn show_table(image: &[u8], bank: &Bank, source: u32, table: usize) {
-    let (mut values, mut ends) = ([0; 8192], [0; 16]);
+    let (mut values, mut ends) = ([0; MAX_ROW], [0; MAX_COLUMNS]);
     let (mut place, mut rows) = (0, 0);
     loop {
         match bank.row(image, source, table as u32, place, &mut values, &mut ends) {
             Ok(Some(row)) => (place, rows) = (row.next, rows + 1),
             Ok(None) if rows == 0 => return,
-            Ok(None) => return println!("  {}: rows {}", NAMES[table], rows - 1),
-            Err(refusal) => return println!("  {}: {refusal} at {place}", NAMES[table]),
+            Ok(None) => return println!("  {}: rows {}", TABLE_NAMES[table], rows - 1),
+            Err(refusal) => return println!("  {}: {refusal} at {place}", TABLE_NAMES[table]),
         }
     }
 }
@@ -66,7 +56,7 @@ fn show(image: &[u8]) -> Result<(), Refusal> {
 
 fn main() {
     let Some(name) = std::env::args().nth(1) else {
-        eprintln!("show: name one image, of 983040 bytes");
+        eprintln!("show: name one image, of {REGION_SIZE} bytes");
         std::process::exit(2);
     };
     let image = std::fs::read(&name).unwrap_or_else(|error| {

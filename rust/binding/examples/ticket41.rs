@@ -2,11 +2,12 @@
 //! load gives: the trips of the first source, by destination. ticket41 IMAGE
 use bankcore::{
     Refusal,
-    cache::{self, BANK_SIZE, Bank},
+    cache::{self, Bank},
+    constants::{BANK_SIZE, MAX_COLUMNS, MAX_ROW, column, table},
     get, newer,
 };
 
-const TRIPS: u32 = 2;
+const HEADSIGN: usize = column::trips::TRIP_HEADSIGN;
 
 /// The bank that passes by its header, the newer one tried first; its data are
 /// not looked at.
@@ -25,13 +26,14 @@ fn show_run(trips: usize, headsign: &str) {
 
 /// The trips in stored order; consecutive trips to one destination are counted.
 fn show_trips(image: &[u8], bank: &Bank) {
-    let (mut values, mut ends) = ([0; 8192], [0; 16]);
+    let (mut values, mut ends) = ([0; MAX_ROW], [0; MAX_COLUMNS]);
     let (mut place, mut trips) = (0, 0);
     let mut headsign = String::new();
     loop {
-        match bank.row(image, 0, TRIPS, place, &mut values, &mut ends) {
+        match bank.row(image, 0, table::TRIPS, place, &mut values, &mut ends) {
             Ok(Some(row)) if place > 0 => {
-                let text = String::from_utf8_lossy(&values[ends[2]..ends[3]]).into_owned();
+                let text = String::from_utf8_lossy(&values[ends[HEADSIGN - 1]..ends[HEADSIGN]])
+                    .into_owned();
                 if text != headsign {
                     show_run(trips, &headsign);
                     (trips, headsign) = (0, text);

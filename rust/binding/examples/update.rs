@@ -4,12 +4,12 @@ use bankcore::{
     Refusal,
     banks::Picks,
     cache::{self, Bank, Block, Kind, Operation, Source, Writer},
+    constants::{DATES_SIZE, MAX_ROW, table::ROUTES},
     put,
     rows::{self, Values},
 };
 
 const NOW: i64 = 1_790_000_000;
-const ROUTES: u32 = 0;
 
 /// What the host passes next.
 enum Next {
@@ -24,7 +24,7 @@ enum Next {
 
 /// An update of one source with one table, in the order of its calls.
 fn content() -> Result<Vec<Next>, Refusal> {
-    let mut out = [0; 8192];
+    let mut out = [0; MAX_ROW];
     let n = cache::key(b"shelter 12", Picks { texts: &[], lengths: &[] }, &mut out)?;
     let key = out[..n].to_vec();
     let source = Source {
@@ -39,7 +39,7 @@ fn content() -> Result<Vec<Next>, Refusal> {
         id: [0; 80],
         validator: [0; 66],
     };
-    let mut dates = vec![0; 8];
+    let mut dates = vec![0; DATES_SIZE];
     put(&mut dates, 0, source.start);
     put(&mut dates, 4, source.end);
     let n = rows::names_line(ROUTES, &mut out).length;

@@ -4,9 +4,6 @@
 //! passed.
 pub use crate::refusal::Refusal;
 
-/// A time that isn't known.
-pub const UNKNOWN: i64 = i64::MIN;
-
 /// What is in a bank: all numbers are 0 if none was found.
 #[repr(C)]
 #[derive(Clone, Copy, Debug, Default, PartialEq, Eq)]

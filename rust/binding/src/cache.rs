@@ -3,8 +3,8 @@
 //! pick, value and offset have an answer, and so has a checking state or a writer
 //! made of any bytes.
 use crate::{
-    answers::UNKNOWN,
     banks::{self, Picks},
+    constants::*,
     get, get_time, put, put_time,
     refusal::Refusal,
     rows::{self, Values},
@@ -19,12 +19,6 @@ fn answered<T>(number: u32, value: T) -> Result<T, Refusal> {
         None => unreachable!("the core has no refusal {number}"),
     }
 }
-
-pub const SIZE: usize = 983_040;
-pub const BANK_SIZE: usize = SIZE / 2;
-pub const SOURCES: usize = 3;
-pub const SOURCE_BYTES: usize = 384;
-pub const TABLES: usize = 8;
 
 /// A bank that passed its tests.
 #[derive(Clone, Copy, Debug, PartialEq, Eq)]
@@ -55,10 +49,10 @@ pub struct Source {
     pub updated: Option<i64>,
     pub original: [[u32; 2]; TABLES],
     pub tables: [Block; TABLES],
-    pub stamp: [u8; 12],
+    pub stamp: [u8; STAMP_SIZE],
     pub id_length: u8,
-    pub id: [u8; 80],
-    pub validator: [u8; 66],
+    pub id: [u8; ID_SIZE],
+    pub validator: [u8; VALIDATOR_SIZE],
 }
 
 /// When a bank was checked and its sources were updated, if known.
@@ -106,7 +100,7 @@ impl Operation {
 }
 
 fn known(time: i64) -> Option<i64> {
-    (time != UNKNOWN).then_some(time)
+    (time != UNKNOWN_TIME).then_some(time)
 }
 
 fn bank(a: crate::answers::BankAnswer) -> Bank {
@@ -147,7 +141,7 @@ impl Bank {
 
     /// The record of a source below the count.
     pub fn source(&self, region: &[u8], i: u32) -> Result<Source, Refusal> {
-        let mut bytes = [0; SOURCE_BYTES];
+        let mut bytes = [0; RECORD_SIZE];
         let refusal = banks::source(region, self.number, i, &mut bytes);
         answered(refusal, Source::decode(&bytes))
     }
@@ -193,51 +187,55 @@ impl Bank {
 
 impl Source {
     /// From a record's bytes in version 3's form.
-    pub fn decode(bytes: &[u8; SOURCE_BYTES]) -> Self {
+    pub fn decode(bytes: &[u8; RECORD_SIZE]) -> Self {
         let mut s = Self {
-            start: get(bytes, 0),
-            end: get(bytes, 4),
-            present: get(bytes, 8),
-            updated: known(get_time(bytes, 12)),
+            start: get(bytes, RECORD_START),
+            end: get(bytes, RECORD_END),
+            present: get(bytes, RECORD_PRESENT),
+            updated: known(get_time(bytes, RECORD_UPDATED)),
             original: [[0; 2]; TABLES],
             tables: [Block::default(); TABLES],
-            stamp: [0; 12],
-            id_length: bytes[192],
-            id: [0; 80],
-            validator: [0; 66],
+            stamp: [0; STAMP_SIZE],
+            id_length: bytes[RECORD_ID_LENGTH],
+            id: [0; ID_SIZE],
+            validator: [0; VALIDATOR_SIZE],
         };
         for t in 0..TABLES {
-            s.original[t] = [get(bytes, 20 + t * 8), get(bytes, 24 + t * 8)];
+            let original = RECORD_ORIGINALS + t * ORIGINAL_SIZE;
+            s.original[t] = [get(bytes, original), get(bytes, original + 4)];
+            let block = RECORD_BLOCKS + t * BLOCK_SIZE;
             s.tables[t] = Block {
-                offset: get(bytes, 84 + t * 12),
-                length: get(bytes, 88 + t * 12),
-                crc: get(bytes, 92 + t * 12),
+                offset: get(bytes, block),
+                length: get(bytes, block + 4),
+                crc: get(bytes, block + 8),
             };
         }
-        s.stamp.copy_from_slice(&bytes[180..192]);
-        s.id.copy_from_slice(&bytes[193..273]);
-        s.validator.copy_from_slice(&bytes[273..339]);
+        s.stamp.copy_from_slice(&bytes[RECORD_STAMP..][..STAMP_SIZE]);
+        s.id.copy_from_slice(&bytes[RECORD_ID..][..ID_SIZE]);
+        s.validator.copy_from_slice(&bytes[RECORD_VALIDATOR..][..VALIDATOR_SIZE]);
         s
     }
 
     /// The record's bytes in version 3's form.
-    pub fn encode(&self) -> [u8; SOURCE_BYTES] {
-        let mut out = [0; SOURCE_BYTES];
-        put(&mut out, 0, self.start);
-        put(&mut out, 4, self.end);
-        put(&mut out, 8, self.present);
-        put_time(&mut out, 12, self.updated.unwrap_or(UNKNOWN));
+    pub fn encode(&self) -> [u8; RECORD_SIZE] {
+        let mut out = [0; RECORD_SIZE];
+        put(&mut out, RECORD_START, self.start);
+        put(&mut out, RECORD_END, self.end);
+        put(&mut out, RECORD_PRESENT, self.present);
+        put_time(&mut out, RECORD_UPDATED, self.updated.unwrap_or(UNKNOWN_TIME));
         for t in 0..TABLES {
-            put(&mut out, 20 + t * 8, self.original[t][0]);
-            put(&mut out, 24 + t * 8, self.original[t][1]);
-            put(&mut out, 84 + t * 12, self.tables[t].offset);
-            put(&mut out, 88 + t * 12, self.tables[t].length);
-            put(&mut out, 92 + t * 12, self.tables[t].crc);
+            let original = RECORD_ORIGINALS + t * ORIGINAL_SIZE;
+            put(&mut out, original, self.original[t][0]);
+            put(&mut out, original + 4, self.original[t][1]);
+            let block = RECORD_BLOCKS + t * BLOCK_SIZE;
+            put(&mut out, block, self.tables[t].offset);
+            put(&mut out, block + 4, self.tables[t].length);
+            put(&mut out, block + 8, self.tables[t].crc);
         }
-        out[180..192].copy_from_slice(&self.stamp);
-        out[192] = self.id_length;
-        out[193..273].copy_from_slice(&self.id);
-        out[273..339].copy_from_slice(&self.validator);
+        out[RECORD_STAMP..][..STAMP_SIZE].copy_from_slice(&self.stamp);
+        out[RECORD_ID_LENGTH] = self.id_length;
+        out[RECORD_ID..][..ID_SIZE].copy_from_slice(&self.id);
+        out[RECORD_VALIDATOR..][..VALIDATOR_SIZE].copy_from_slice(&self.validator);
         out
     }
 }
@@ -362,11 +360,11 @@ impl Writer {
     pub fn operation(&self) -> Result<Option<Operation>, Refusal> {
         let next = self.0.operation();
         let kind = match next.kind {
-            update::ERASE => Some(Kind::Erase),
-            update::WRITE => Some(Kind::Write),
-            update::COMPARE => Some(Kind::Compare),
-            update::HEADER => Some(Kind::Header),
-            update::COMMIT_WORD => Some(Kind::CommitWord),
+            operation::ERASE => Some(Kind::Erase),
+            operation::WRITE => Some(Kind::Write),
+            operation::COMPARE => Some(Kind::Compare),
+            operation::HEADER => Some(Kind::Header),
+            operation::COMMIT_WORD => Some(Kind::CommitWord),
             _ => None,
         };
         let (bank, offset, length) = (next.bank, next.offset, next.length);
@@ -376,13 +374,13 @@ impl Writer {
     /// Does the operation that is due, and says whether there was one.
     pub fn due(&mut self, region: &mut [u8]) -> Result<bool, Refusal> {
         let answer = self.0.due(region);
-        answered(answer.refusal, answer.answer != update::NONE_DUE)
+        answered(answer.refusal, answer.answer != answer::NONE_DUE)
     }
 
     /// Whether the active bank equals what was compared with it.
     pub fn unchanged(&mut self, region: &[u8]) -> Result<bool, Refusal> {
         let answer = self.0.unchanged(region);
-        answered(answer.refusal, answer.answer == update::SAME)
+        answered(answer.refusal, answer.answer == answer::SAME)
     }
 
     /// The first write of a commit: the header without its commit word.

@@ -13,6 +13,7 @@ const _: () = assert!(
 );
 
 pub mod cache;
+pub mod constants;
 pub mod refusal;
 pub use refusal::Refusal;
 

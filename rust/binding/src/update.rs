@@ -1,7 +1,7 @@
 //! An update, call by call: the lower layer, one flash operation a call, and the
 //! upper layer, whole rows and tables. Any state has an answer, and so has every
 //! region, table, record and row; nothing needs a check beforehand.
-use crate::{answers::Refusal, banks::Picks, rows::Values};
+use crate::{answers::Refusal, banks::Picks, constants::*, rows::Values};
 
 mod core_interface {
     use super::{State, Step};
@@ -76,11 +76,7 @@ mod core_interface {
 }
 use core_interface::*;
 
-pub const DONE: u32 = 0;
-pub const TOOK: u32 = 1;
-pub const NONE_DUE: u32 = 2;
-pub const SAME: u32 = 3;
-pub const DIFFERENT: u32 = 4;
+pub use crate::constants::answer::{APPENDED, DIFFERENT, DONE, NONE_DUE, SAME};
 
 /// What a call answers. A refusal is its number, 0 for none; beside one the other
 /// numbers are 0. The count is that of the bytes appended.
@@ -113,6 +109,9 @@ struct Bank {
     checked: i64,
 }
 
+/// Two numbers of a table's original, three of its block, for all tables.
+const TABLE_NUMBERS: usize = 5 * TABLES;
+
 #[repr(C)]
 #[derive(Clone, Copy, Debug, PartialEq, Eq)]
 struct Source {
@@ -121,11 +120,11 @@ struct Source {
     updated: i64,
     /// The originals' pairs (CRC and length), then offset, length and CRC of each
     /// block.
-    tables: [u32; 40],
-    stamp: [u8; 12],
+    tables: [u32; TABLE_NUMBERS],
+    stamp: [u8; STAMP_SIZE],
     idlen: u8,
-    id: [u8; 80],
-    validator: [u8; 66],
+    id: [u8; ID_SIZE],
+    validator: [u8; VALIDATOR_SIZE],
 }
 
 /// The state of an update. A refused call leaves it as it was.
@@ -139,8 +138,8 @@ pub struct State {
     /// Comparing, written, fill, CRC, different, closed; count, table, start,
     /// CRC, begun.
     numbers: [u32; 11],
-    sources: [Source; 3],
-    tail: [u8; 256],
+    sources: [Source; SOURCES],
+    tail: [u8; TAIL_SIZE],
 }
 
 /// How many bytes a state has, as `to_bytes` gives them: its numbers one after
@@ -152,14 +151,7 @@ pub const STEP: usize = size_of::<Step>();
 
 const _: () = assert!(size_of::<State>() == 1400 && STEP == 1416);
 
-pub const NO_OPERATION: u32 = 0;
-pub const ERASE: u32 = 1;
-pub const WRITE: u32 = 2;
-pub const COMPARE: u32 = 3;
-pub const HEADER: u32 = 4;
-pub const COMMIT_WORD: u32 = 5;
-
-/// The operation that comes next: its kind, the number of its bank, the offset of
+/// The operation that comes next: its kind (`constants::operation`), the number of its bank, the offset of
 /// its first byte in the bank, and how many bytes it has. All are 0 beside a
 /// refusal, and if there is none.
 #[derive(Clone, Copy, Debug, Default, PartialEq, Eq)]
@@ -225,19 +217,19 @@ impl State {
         let source = Source {
             numbers: [0; 3],
             updated: 0,
-            tables: [0; 40],
-            stamp: [0; 12],
+            tables: [0; TABLE_NUMBERS],
+            stamp: [0; STAMP_SIZE],
             idlen: 0,
-            id: [0; 80],
-            validator: [0; 66],
+            id: [0; ID_SIZE],
+            validator: [0; VALIDATOR_SIZE],
         };
         Self {
             stage: [u32::MAX, 0, 0, 0],
             bank: Bank { numbers: [0; 7], checked: 0 },
             now: 0,
             numbers: [0; 11],
-            sources: [source; 3],
-            tail: [0; 256],
+            sources: [source; SOURCES],
+            tail: [0; TAIL_SIZE],
         }
     }
     /// The state that these bytes are; any are allowed.

@@ -2,7 +2,8 @@
 use bankcore::{
     Refusal, banks,
     banks::Picks,
-    cache::{self, Checking, Kind, Operation, SIZE, SOURCE_BYTES, Source, Turn, Writer},
+    cache::{self, Checking, Kind, Operation, Source, Turn, Writer},
+    constants::{CAPACITY, RECORD_SIZE, REGION_SIZE, table},
     get,
     rows::Values,
     update,
@@ -43,7 +44,7 @@ fn load_gives_the_newer_bank_or_the_one_that_passes() {
 fn nothing_is_asked_of_the_caller() {
     let image = sample("two-good");
     let bank = cache::load(&image).unwrap().unwrap();
-    for length in [0, 1, SIZE - 1] {
+    for length in [0, 1, REGION_SIZE - 1] {
         assert_eq!(cache::load(&image[..length]), Err(Refusal::Region));
         assert_eq!(bank.source(&image[..length], 0), Err(Refusal::Region));
     }
@@ -81,7 +82,7 @@ fn a_record_is_its_bytes_again() {
         let image = sample(name);
         let bank = cache::load(&image).unwrap().unwrap();
         for i in 0..bank.count {
-            let mut bytes = [0; SOURCE_BYTES];
+            let mut bytes = [0; RECORD_SIZE];
             assert_eq!(banks::source(&image, bank.number, i, &mut bytes), 0);
             let source = bank.source(&image, i).unwrap();
             assert_eq!((source, source.encode()), (Source::decode(&bytes), bytes));
@@ -153,9 +154,9 @@ fn a_refused_call_leaves_the_writer() {
     let mut writer = Writer::new(&image, false, 0).unwrap();
     writer.append(b"key").unwrap();
     let before = (image.clone(), writer);
-    assert_eq!(writer.start(0), Err(Refusal::Turn));
+    assert_eq!(writer.start(table::ROUTES), Err(Refusal::Turn));
     assert_eq!(writer.start(8), Err(Refusal::Argument));
-    assert_eq!(writer.append(&vec![0; 487_422]), Err(Refusal::Full));
+    assert_eq!(writer.append(&vec![0; CAPACITY - 2]), Err(Refusal::Full));
     assert_eq!(writer.commit(&mut image, None, true), Err(Refusal::Turn));
     assert_eq!(writer.due(&mut image[1..]), Err(Refusal::Region));
     assert_eq!(writer.due(&mut image), Ok(false));
@@ -235,7 +236,7 @@ fn a_driver_is_told_each_operation_before_it_is_done() {
             let key = [9; 256];
             assert_eq!(writer.append(&key), Ok(256));
             writer.source(&source).unwrap();
-            writer.start(0).unwrap();
+            writer.start(table::ROUTES).unwrap();
             let mut bytes = &vec![9; length - 256][..];
             while !bytes.is_empty() {
                 done.extend(operated(&mut writer, &mut region, &mut chip));
@@ -271,7 +272,7 @@ fn an_update_by_upper_calls_reads_back() {
     writer.upper_source(&mut image, &source).unwrap();
     let stops = Values { texts: b"a,b\"", lengths: &[1, 2, 1] };
     assert_eq!(writer.row(&mut image, stops), Err(Refusal::Turn));
-    writer.upper_start(&mut image, 0).unwrap();
+    writer.upper_start(&mut image, table::ROUTES).unwrap();
     assert_eq!(writer.row(&mut image, Values { lengths: &[1], ..stops }), Err(Refusal::Row));
     writer.row(&mut image, stops).unwrap();
     writer.upper_end(&mut image).unwrap();

@@ -6,10 +6,9 @@ use crate::{
     run::{Plan, Tally},
 };
 use bankcore::{
-    answers::{
-        BankAnswer, BankRowAnswer, FreshAnswer, KeyAnswer, SameKeyAnswer, TurnAnswer, UNKNOWN,
-    },
+    answers::{BankAnswer, BankRowAnswer, FreshAnswer, KeyAnswer, SameKeyAnswer, TurnAnswer},
     banks,
+    constants::UNKNOWN_TIME,
 };
 use common::{
     Random,
@@ -238,7 +237,7 @@ impl<'a> Case<'a> {
         }
         let answer = banks::fresh(self.region(), self.bank(), days, [true, false, false], 5);
         let FreshAnswer { refusal, checked, updated } = answer;
-        refused(refusal, (checked, updated) == (UNKNOWN, UNKNOWN))
+        refused(refusal, (checked, updated) == (UNKNOWN_TIME, UNKNOWN_TIME))
     }
     fn key(&self) -> i64 {
         let mut out = vec![77; if self.has(Small) { self.way } else { 70_000 }];

@@ -4,7 +4,7 @@
 use super::calls::{Call, byte};
 use bankcore::{
     answers::BankAnswer,
-    update::{Answer, DONE, TOOK},
+    update::{APPENDED, Answer, DONE},
 };
 
 /// What source, table and table end calls note, with the number of bytes before any
@@ -93,7 +93,7 @@ impl Open {
             (Call::Commit(stamp, _), DONE) => {
                 self.checked = stamp.filter(|s| *s >= self.now).unwrap_or(self.now);
             }
-            (Call::Bytes(bytes), TOOK) => self.data.extend(&bytes[..answer.count as usize]),
+            (Call::Bytes(bytes), APPENDED) => self.data.extend(&bytes[..answer.count as usize]),
             _ => {}
         }
         if call.is_upper() && answer.answer == DONE {

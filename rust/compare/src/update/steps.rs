@@ -6,7 +6,7 @@ use super::{
     flash::perform,
     model::NO_TABLE,
 };
-use bankcore::update::{Answer, DIFFERENT, DONE, NONE_DUE, SAME, TOOK};
+use bankcore::update::{APPENDED, Answer, DIFFERENT, DONE, NONE_DUE, SAME};
 use common::made::{BANK, CAPACITY, COMMIT, REGION, SECTOR, WORD, layout};
 use lifted::{
     cache::{OFFSET, door},
@@ -61,7 +61,7 @@ impl Fields {
         unless(self.may_take(), 11)?;
         unless(self.position() + bytes.len() <= CAPACITY, 10)?;
         if self.is_due() {
-            return said(TOOK);
+            return said(APPENDED);
         }
         let fill = self.n(FILL);
         let taken = &bytes[..bytes.len().min(256 - fill)];
@@ -70,7 +70,7 @@ impl Fields {
         self.numbers[TAKEN_CRC] = crc32(self.numbers[TAKEN_CRC], taken);
         self.numbers[TABLE_CRC] = crc32(self.numbers[TABLE_CRC], taken);
         self.begin_due();
-        Ok(Answer { answer: TOOK, count: taken.len() as u32, ..Answer::default() })
+        Ok(Answer { answer: APPENDED, count: taken.len() as u32, ..Answer::default() })
     }
     fn end(&mut self) -> Outcome {
         unless(self.in_range() && self.open(), 11)?;
