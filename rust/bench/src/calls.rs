@@ -44,7 +44,7 @@ struct States {
     compared: State,
 }
 
-fn settle(state: &mut State, region: &mut [u8]) {
+fn flush(state: &mut State, region: &mut [u8]) {
     while state.due(region).answer != NONE_DUE {}
 }
 
@@ -63,14 +63,14 @@ impl States {
         // nothing is written yet: the header sector's erase is due
         let first = after(begun, |s| while s.append(&[7; 256]).count > 0 {});
         // an empty tail, and no erase before the next write
-        let written = after(first, |s| settle(s, region));
+        let written = after(first, |s| flush(s, region));
         let sourced = after(written, |s| _ = s.source(&case.record));
-        let open = after(sourced, |s| _ = s.start(0));
+        let open = after(sourced, |s| _ = s.table(0));
         let write = after(open, |s| while s.append(&[7; 256]).count > 0 {});
         let ended = after(open, |s| _ = (s.append(&[7; 8]), s.end()));
-        let closed = updates::core::fed(case, region, false);
+        let closed = updates::core::appended(case, region, false);
         let headed = after(closed, |s| _ = s.commit(region, None, true));
-        let compared = updates::core::fed(case, &mut case.region.borrow_mut(), true);
+        let compared = updates::core::appended(case, &mut case.region.borrow_mut(), true);
         Self { begun, first, sourced, open, write, ended, closed, headed, compared }
     }
 }
@@ -105,7 +105,7 @@ const CALLS: [(&str, Before, Run); 24] = [
     ),
     ("update: begin, a full bank there", |s| s.begun, |c| c.on(|s, r| s.begin(r, false, NOW))),
     ("update: source", |s| s.begun, |c| c.on(|s, _| s.source(&c.record))),
-    ("update: table", |s| s.sourced, |c| c.on(|s, _| s.start(0))),
+    ("update: table", |s| s.sourced, |c| c.on(|s, _| s.table(0))),
     ("update: bytes, 16", |s| s.open, |c| c.on(|s, _| s.append(&c.bytes[..16]))),
     ("update: bytes, 256", |s| s.open, |c| c.on(|s, _| s.append(&c.bytes))),
     ("update: due, an erase", |s| s.first, |c| c.on(|s, r| s.due(r))),

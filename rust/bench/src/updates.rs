@@ -160,12 +160,12 @@ pub mod core {
         state
     }
     /// Appends everything by bytes, and closes.
-    pub fn fed(case: &Case, region: &mut [u8], comparing: bool) -> State {
+    pub fn appended(case: &Case, region: &mut [u8], comparing: bool) -> State {
         let mut state = begin(case, region, comparing);
         state.source(&case.record);
         DATES.iter().for_each(|d| offer(&mut state, region, &d.to_le_bytes()));
         for table in &case.tables {
-            state.start(table.number);
+            state.table(table.number);
             offer(&mut state, region, &table.names);
             table.text.chunks(case.piece).for_each(|p| offer(&mut state, region, p));
             state.end();
@@ -181,7 +181,7 @@ pub mod core {
     pub fn by_bytes(case: &Case) -> u32 {
         case.forget();
         let region = &mut case.region.borrow_mut()[..];
-        commit(&mut fed(case, region, false), region)
+        commit(&mut appended(case, region, false), region)
     }
     pub fn by_rows(case: &Case) -> u32 {
         case.forget();

@@ -77,14 +77,14 @@ fn turn(
     };
     match next {
         Next::Bytes(bytes) => {
-            let taken = writer.append(bytes)?;
-            bytes.drain(..taken);
+            let appended = writer.append(bytes)?;
+            bytes.drain(..appended);
             if !bytes.is_empty() {
                 return Ok(Some(0));
             }
         }
         Next::Source(source) => writer.source(source)?,
-        Next::Table(table) => writer.start(*table)?,
+        Next::Table(table) => writer.table(*table)?,
         Next::End => writer.end()?,
         Next::Close => writer.close()?,
         Next::Commit => writer.commit(region, None, true)?,
@@ -97,7 +97,7 @@ fn turn(
 /// An update that loses power once `power` operations are done: the writer is gone
 /// then. How many were done, and whether it was finished.
 fn update(region: &mut [u8], power: usize) -> Result<(usize, bool), Refusal> {
-    let mut writer = Writer::new(region, false, NOW)?;
+    let mut writer = Writer::begin(region, false, NOW)?;
     let mut rest = content()?;
     let mut done = 0;
     while done < power {
@@ -144,7 +144,7 @@ fn cut_inside(number: usize, next: Operation, before: &[u8], after: &[u8]) -> Re
 /// The update once more, each operation cut inside.
 fn cuts_inside(image: &[u8]) -> Result<(), Refusal> {
     let mut region = image.to_vec();
-    let mut writer = Writer::new(&region, false, NOW)?;
+    let mut writer = Writer::begin(&region, false, NOW)?;
     let mut rest = content()?;
     let mut number = 0;
     loop {

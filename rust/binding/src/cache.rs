@@ -314,7 +314,7 @@ pub struct Writer(State);
 /// The lower layer: a call does at most one flash operation.
 impl Writer {
     /// Begins an update; in comparing mode nothing is written.
-    pub fn new(region: &[u8], comparing: bool, now: i64) -> Result<Self, Refusal> {
+    pub fn begin(region: &[u8], comparing: bool, now: i64) -> Result<Self, Refusal> {
         let (state, answer) = State::new(region, comparing, now);
         answered(answer.refusal, Self(state))
     }
@@ -333,8 +333,8 @@ impl Writer {
     }
 
     /// Begins a table of the last source.
-    pub fn start(&mut self, table: u32) -> Result<(), Refusal> {
-        done(self.0.start(table))
+    pub fn table(&mut self, table: u32) -> Result<(), Refusal> {
+        done(self.0.table(table))
     }
 
     /// Appends bytes until the tail is full, and says how many; none while an
@@ -402,7 +402,7 @@ impl Writer {
 /// The upper layer: a call does all its flash operations, and leaves none due.
 impl Writer {
     /// Begins an update, and appends the key of an identity and picks.
-    pub fn with_key(
+    pub fn upper_begin(
         region: &mut [u8],
         comparing: bool,
         now: i64,
@@ -420,12 +420,12 @@ impl Writer {
     }
 
     /// Begins a table of the last source, and appends its names line.
-    pub fn upper_start(&mut self, region: &mut [u8], table: u32) -> Result<(), Refusal> {
+    pub fn upper_table(&mut self, region: &mut [u8], table: u32) -> Result<(), Refusal> {
         done(self.0.upper_table(region, table))
     }
 
     /// Appends a row of the open table.
-    pub fn row(&mut self, region: &mut [u8], values: Values) -> Result<(), Refusal> {
+    pub fn upper_row(&mut self, region: &mut [u8], values: Values) -> Result<(), Refusal> {
         done(self.0.upper_row(region, values))
     }
 

@@ -245,13 +245,13 @@ impl State {
         state.copy(&mut bytes, false);
         bytes
     }
-    fn take(&mut self, step: Step) -> Answer {
+    fn replace(&mut self, step: Step) -> Answer {
         *self = step.state;
         step.answer
     }
     /// Copies the other's numbers: all that `due` changes.
     #[doc(hidden)]
-    pub fn take_numbers(&mut self, other: &Self) {
+    pub fn copy_numbers(&mut self, other: &Self) {
         (self.stage, self.bank) = (other.stage, other.bank);
         (self.now, self.numbers) = (other.now, other.numbers);
     }
@@ -259,8 +259,8 @@ impl State {
     /// change. These calls and `due` leave the sources, three quarters of a state
     /// (crates/writer/specs/Parts.antt).
     #[doc(hidden)]
-    pub fn take_parts(&mut self, other: &Self) {
-        self.take_numbers(other);
+    pub fn copy_parts(&mut self, other: &Self) {
+        self.copy_numbers(other);
         self.tail = other.tail;
     }
     /// The operation that comes next: what `due` does; else, once an update that
@@ -282,7 +282,7 @@ impl State {
     fn operated(&self, region: &mut [u8]) -> Step {
         unsafe { tt_update_due(region.as_mut_ptr(), region.len() as u64, *self) }
     }
-    fn fed(&self, region: &mut [u8], values: Values) -> Step {
+    fn row_appended(&self, region: &mut [u8], values: Values) -> Step {
         unsafe {
             tt_upper_row(
                 region.as_mut_ptr(),
@@ -299,19 +299,19 @@ impl State {
     #[doc(hidden)]
     pub fn append_whole(&mut self, bytes: &[u8]) -> Answer {
         let step = self.appended(bytes);
-        self.take(step)
+        self.replace(step)
     }
     /// `due`, with all of the returned state.
     #[doc(hidden)]
     pub fn due_whole(&mut self, region: &mut [u8]) -> Answer {
         let step = self.operated(region);
-        self.take(step)
+        self.replace(step)
     }
     /// `upper_row`, with all of the returned state.
     #[doc(hidden)]
     pub fn upper_row_whole(&mut self, region: &mut [u8], values: Values) -> Answer {
-        let step = self.fed(region, values);
-        self.take(step)
+        let step = self.row_appended(region, values);
+        self.replace(step)
     }
 }
 
@@ -328,59 +328,59 @@ impl State {
     pub fn begin(&mut self, region: &[u8], comparing: bool, now: i64) -> Answer {
         let (at, n) = (region.as_ptr(), region.len() as u64);
         let step = unsafe { tt_update_begin(at, n, comparing, now, *self) };
-        self.take(step)
+        self.replace(step)
     }
     /// Begins a source; its record is version 3's, 384 bytes. Missing bytes
     /// are 0.
     pub fn source(&mut self, record: &[u8]) -> Answer {
         let step = unsafe { tt_update_source(*self, record.as_ptr(), record.len() as u64) };
-        self.take(step)
+        self.replace(step)
     }
     /// Begins a table of the last source.
-    pub fn start(&mut self, table: u32) -> Answer {
+    pub fn table(&mut self, table: u32) -> Answer {
         let step = tt_update_table(*self, table);
-        self.take(step)
+        self.replace(step)
     }
     /// Appends bytes until the tail is full, and says how many; none while an
     /// operation is due.
     pub fn append(&mut self, bytes: &[u8]) -> Answer {
         let step = self.appended(bytes);
-        self.take_parts(&step.state);
+        self.copy_parts(&step.state);
         step.answer
     }
     /// Ends the open table.
     pub fn end(&mut self) -> Answer {
         let step = tt_update_end(*self);
-        self.take(step)
+        self.replace(step)
     }
     /// No more bytes: what the tail holds is then due.
     pub fn close(&mut self) -> Answer {
         let step = tt_update_close(*self);
-        self.take(step)
+        self.replace(step)
     }
     /// Does the erase, write or comparison that is due, or says that none is.
     pub fn due(&mut self, region: &mut [u8]) -> Answer {
         let step = self.operated(region);
-        self.take_numbers(&step.state);
+        self.copy_numbers(&step.state);
         step.answer
     }
     /// Whether the active bank equals what was compared with it.
     pub fn unchanged(&mut self, region: &[u8]) -> Answer {
         let step = unsafe { tt_update_unchanged(region.as_ptr(), region.len() as u64, *self) };
-        self.take(step)
+        self.replace(step)
     }
     /// The first write of a commit: the header without its commit word.
     pub fn commit(&mut self, region: &mut [u8], stamp: Option<i64>, current: bool) -> Answer {
         let (at, n) = (region.as_mut_ptr(), region.len() as u64);
         let (stamped, stamp) = (stamp.is_some(), stamp.unwrap_or_default());
         let step = unsafe { tt_update_commit(at, n, *self, stamped, stamp, current) };
-        self.take(step)
+        self.replace(step)
     }
     /// The second write of a commit: the commit word.
     pub fn commit_word(&mut self, region: &mut [u8]) -> Answer {
         let step =
             unsafe { tt_update_commit_word(region.as_mut_ptr(), region.len() as u64, *self) };
-        self.take(step)
+        self.replace(step)
     }
 }
 
@@ -411,35 +411,35 @@ impl State {
                 *self,
             )
         };
-        self.take(step)
+        self.replace(step)
     }
     /// Begins a source, and appends its dates; its record is version 3's, 384
     /// bytes. Missing bytes are 0.
     pub fn upper_source(&mut self, region: &mut [u8], record: &[u8]) -> Answer {
         let (at, n) = (region.as_mut_ptr(), region.len() as u64);
         let step = unsafe { tt_upper_source(at, n, *self, record.as_ptr(), record.len() as u64) };
-        self.take(step)
+        self.replace(step)
     }
     /// Begins a table of the last source, and appends its names line.
     pub fn upper_table(&mut self, region: &mut [u8], table: u32) -> Answer {
         let step =
             unsafe { tt_upper_table(region.as_mut_ptr(), region.len() as u64, *self, table) };
-        self.take(step)
+        self.replace(step)
     }
     /// Appends a row of the open table.
     pub fn upper_row(&mut self, region: &mut [u8], values: Values) -> Answer {
-        let step = self.fed(region, values);
-        self.take_parts(&step.state);
+        let step = self.row_appended(region, values);
+        self.copy_parts(&step.state);
         step.answer
     }
     /// Ends the open table.
     pub fn upper_end(&mut self, region: &mut [u8]) -> Answer {
         let step = unsafe { tt_upper_end(region.as_mut_ptr(), region.len() as u64, *self) };
-        self.take(step)
+        self.replace(step)
     }
     /// Closes the update: what the tail holds is written.
     pub fn upper_close(&mut self, region: &mut [u8]) -> Answer {
         let step = unsafe { tt_upper_close(region.as_mut_ptr(), region.len() as u64, *self) };
-        self.take(step)
+        self.replace(step)
     }
 }

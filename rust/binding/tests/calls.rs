@@ -134,7 +134,7 @@ fn a_writer_may_be_any_bytes() {
     let bytes = [255; update::SIZE];
     let mut forged = Writer::from_bytes(bytes);
     assert_eq!(forged.source(&source), Err(Refusal::Turn));
-    assert_eq!(forged.start(0), Err(Refusal::Turn));
+    assert_eq!(forged.table(0), Err(Refusal::Turn));
     assert_eq!(forged.append(b"a"), Err(Refusal::Turn));
     assert_eq!(forged.end(), Err(Refusal::Turn));
     assert_eq!(forged.close(), Err(Refusal::Turn));
@@ -143,19 +143,19 @@ fn a_writer_may_be_any_bytes() {
     assert_eq!(forged.commit(&mut image, None, true), Err(Refusal::Turn));
     assert_eq!(forged.commit_word(&mut image), Err(Refusal::Turn));
     assert!(image == before && forged.bytes() == bytes);
-    assert_eq!(Writer::new(&image[1..], false, 0), Err(Refusal::Region));
-    let kept = Writer::new(&image, false, 0).unwrap().bytes();
+    assert_eq!(Writer::begin(&image[1..], false, 0), Err(Refusal::Region));
+    let kept = Writer::begin(&image, false, 0).unwrap().bytes();
     assert_eq!(Writer::from_bytes(kept).append(&[7; 300]), Ok(256));
 }
 
 #[test]
 fn a_refused_call_leaves_the_writer() {
     let mut image = sample("two-good");
-    let mut writer = Writer::new(&image, false, 0).unwrap();
+    let mut writer = Writer::begin(&image, false, 0).unwrap();
     writer.append(b"key").unwrap();
     let before = (image.clone(), writer);
-    assert_eq!(writer.start(table::ROUTES), Err(Refusal::Turn));
-    assert_eq!(writer.start(8), Err(Refusal::Argument));
+    assert_eq!(writer.table(table::ROUTES), Err(Refusal::Turn));
+    assert_eq!(writer.table(8), Err(Refusal::Argument));
     assert_eq!(writer.append(&vec![0; CAPACITY - 2]), Err(Refusal::Full));
     assert_eq!(writer.commit(&mut image, None, true), Err(Refusal::Turn));
     assert_eq!(writer.due(&mut image[1..]), Err(Refusal::Region));
@@ -166,7 +166,7 @@ fn a_refused_call_leaves_the_writer() {
 /// States of an update and forged ones: the calls that leave the sources copy back
 /// all that can have changed.
 #[test]
-fn what_a_call_leaves_is_not_taken_back() {
+fn what_a_call_leaves_is_not_copied_back() {
     let mut region = sample("two-good");
     let mut state = update::State::new(&region, false, 7).0;
     let values = Values { texts: b"a,b\"", lengths: &[1, 2, 1] };
@@ -191,7 +191,7 @@ fn what_a_call_leaves_is_not_taken_back() {
         }
         if i % 50 == 9 {
             state.source(&[i as u8; 384]);
-            state.start(i % 8);
+            state.table(i % 8);
         }
     }
 }
@@ -231,12 +231,12 @@ fn a_driver_is_told_each_operation_before_it_is_done() {
         let written = u32::from(cache::load(&region).unwrap().is_some_and(|b| b.number == 0));
         for comparing in [true, false] {
             let mut chip = region.clone();
-            let mut writer = Writer::new(&region, comparing, source.updated.unwrap()).unwrap();
+            let mut writer = Writer::begin(&region, comparing, source.updated.unwrap()).unwrap();
             let mut done = vec![];
             let key = [9; 256];
             assert_eq!(writer.append(&key), Ok(256));
             writer.source(&source).unwrap();
-            writer.start(table::ROUTES).unwrap();
+            writer.table(table::ROUTES).unwrap();
             let mut bytes = &vec![9; length - 256][..];
             while !bytes.is_empty() {
                 done.extend(operated(&mut writer, &mut region, &mut chip));
@@ -268,13 +268,13 @@ fn an_update_by_upper_calls_reads_back() {
     let loaded = cache::load(&image).unwrap().unwrap();
     let source = loaded.source(&image, 0).unwrap();
     let picks = Picks { texts: b"7rsn", lengths: &[1, 1, 0, 1, 1] };
-    let mut writer = Writer::with_key(&mut image, false, 9, b"A", picks).unwrap();
+    let mut writer = Writer::upper_begin(&mut image, false, 9, b"A", picks).unwrap();
     writer.upper_source(&mut image, &source).unwrap();
     let stops = Values { texts: b"a,b\"", lengths: &[1, 2, 1] };
-    assert_eq!(writer.row(&mut image, stops), Err(Refusal::Turn));
-    writer.upper_start(&mut image, table::ROUTES).unwrap();
-    assert_eq!(writer.row(&mut image, Values { lengths: &[1], ..stops }), Err(Refusal::Row));
-    writer.row(&mut image, stops).unwrap();
+    assert_eq!(writer.upper_row(&mut image, stops), Err(Refusal::Turn));
+    writer.upper_table(&mut image, table::ROUTES).unwrap();
+    assert_eq!(writer.upper_row(&mut image, Values { lengths: &[1], ..stops }), Err(Refusal::Row));
+    writer.upper_row(&mut image, stops).unwrap();
     writer.upper_end(&mut image).unwrap();
     writer.upper_close(&mut image).unwrap();
     assert_eq!(writer.due(&mut image), Ok(false));

@@ -37,13 +37,13 @@ struct Turn {
     /// Whether upper calls are made if they can be.
     rows: bool,
     /// How many bytes were appended, and how many more are wanted.
-    taken: usize,
+    appended: usize,
     left: usize,
     sources: usize,
     open: Option<u32>,
     begun: Vec<u32>,
     closed: bool,
-    settled: bool,
+    flushed: bool,
     headed: bool,
     /// Committed, refused or compared.
     over: bool,
@@ -63,7 +63,7 @@ impl Turn {
     /// A call that is in order.
     fn next(&self, random: &mut Random) -> Call {
         if self.closed {
-            return match (self.settled, self.headed, self.comparing) {
+            return match (self.flushed, self.headed, self.comparing) {
                 (_, true, _) => Call::Word,
                 (false, ..) => Call::Due,
                 (true, _, true) => Call::Unchanged,
@@ -80,7 +80,7 @@ impl Turn {
                 Call::Bytes(random.bytes(size))
             }
             // a key, and a source's dates
-            _ if self.begun.is_empty() && self.taken < 9 && !random.once_in(20) => {
+            _ if self.begun.is_empty() && self.appended < 9 && !random.once_in(20) => {
                 let size = random.pick(&[9, 20, 100]);
                 Call::Bytes(random.bytes(size))
             }
@@ -116,8 +116,8 @@ impl Turn {
             (other, _) => other,
         }
     }
-    fn take(&mut self, count: usize) {
-        self.taken += count;
+    fn append(&mut self, count: usize) {
+        self.appended += count;
         self.left = self.left.saturating_sub(count);
     }
     fn after(&mut self, call: &Call, answer: Answer) {
@@ -125,9 +125,9 @@ impl Turn {
             self.over |= answer.refusal >= 12;
             return;
         }
-        self.settled = answer.answer == NONE_DUE || call.is_upper();
+        self.flushed = answer.answer == NONE_DUE || call.is_upper();
         if call.is_upper() {
-            self.take(call.taken().len());
+            self.append(call.appended().len());
         }
         match call {
             Call::Source(_) | Call::SourceWithDates(_) => {
@@ -138,7 +138,7 @@ impl Turn {
                 self.open = Some(*table);
                 self.begun.push(*table);
             }
-            Call::Bytes(_) => self.take(answer.count as usize),
+            Call::Bytes(_) => self.append(answer.count as usize),
             Call::End | Call::TableEnd => self.open = None,
             Call::Close | Call::Closing => self.closed = true,
             Call::Commit(..) => self.headed = true,
@@ -471,8 +471,8 @@ impl Input for Events {
         for _ in 0..CALLS {
             let event = draw(&mut random, &board, &turn);
             match (&event, board.event(tally, &event)) {
-                (Event::Begin(begin), After::Begun(Some(taken))) => {
-                    turn = Turn { taken, ..Turn::new(&mut random, begin.comparing) };
+                (Event::Begin(begin), After::Begun(Some(appended))) => {
+                    turn = Turn { appended, ..Turn::new(&mut random, begin.comparing) };
                 }
                 (Event::Call(call), After::Answered(Some(answer))) => turn.after(call, answer),
                 _ => {}

@@ -48,20 +48,20 @@ impl Call {
     /// The call, with the whole state as the C interface returns it. What the
     /// binding copies of it must be all that has changed.
     fn ask(&self, state: &mut State, region: &mut [u8]) -> Answer {
-        let mut taken = *state;
+        let mut copied = *state;
         let answer = self.ask_whole(state, region);
         match self {
-            Self::Bytes(_) | Self::Row(..) => taken.take_parts(state),
-            Self::Due => taken.take_numbers(state),
+            Self::Bytes(_) | Self::Row(..) => copied.copy_parts(state),
+            Self::Due => copied.copy_numbers(state),
             _ => return answer,
         }
-        assert!(taken == *state, "the binding leaves a part of the state that {self:?} changed");
+        assert!(copied == *state, "the binding leaves a part of the state that {self:?} changed");
         answer
     }
     fn ask_whole(&self, state: &mut State, region: &mut [u8]) -> Answer {
         match self {
             Self::Source(record) => state.source(record),
-            Self::Table(table) => state.start(*table),
+            Self::Table(table) => state.table(*table),
             Self::Bytes(bytes) => state.append_whole(bytes),
             Self::End => state.end(),
             Self::Close => state.close(),
@@ -116,7 +116,7 @@ impl Call {
         matches!(self, SourceWithDates(_) | TableWithNames(_) | Row(..) | TableEnd | Closing)
     }
     /// The bytes that an upper call appends.
-    pub fn taken(&self) -> Vec<u8> {
+    pub fn appended(&self) -> Vec<u8> {
         match self {
             Self::SourceWithDates(record) => (0..8).map(|i| byte(record, i)).collect(),
             Self::TableWithNames(table) => names_line(*table as usize),
@@ -136,7 +136,7 @@ impl Call {
             _ => None,
         });
         run.extend(vec![Self::Due; 3]);
-        run.extend(feed(&self.taken()));
+        run.extend(feed(&self.appended()));
         run
     }
 }

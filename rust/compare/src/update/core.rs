@@ -81,7 +81,7 @@ impl Core {
         }
     }
     /// Does all that is due.
-    pub fn settle(&mut self) {
+    pub fn flush(&mut self) {
         while self.call(&Call::Due) == (Answer { answer: DONE, ..Answer::default() }) {}
     }
     /// Offers bytes in pieces until all are appended.
@@ -91,7 +91,7 @@ impl Core {
             let answer = self.call(&Call::Bytes(bytes[..some].to_vec()));
             bytes = &bytes[answer.count as usize..];
             if answer.count == 0 || random.once_in(2) || bytes.is_empty() {
-                self.settle();
+                self.flush();
             }
         }
     }
@@ -116,7 +116,7 @@ impl Core {
     }
     pub fn close(&mut self) {
         self.call(&Call::Close);
-        self.settle();
+        self.flush();
     }
     pub fn commit(&mut self, stamp: Option<i64>, current: bool) {
         if self.call(&Call::Commit(stamp, current)).refusal == 0 {

@@ -97,7 +97,7 @@ impl Open {
             _ => {}
         }
         if call.is_upper() && answer.answer == DONE {
-            self.data.extend(call.taken());
+            self.data.extend(call.appended());
         }
     }
 }

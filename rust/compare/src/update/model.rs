@@ -28,7 +28,7 @@ impl Fields {
     }
     /// As it is after an answered call: numbers without a meaning are 0, flags 0 or
     /// 1.
-    pub fn settled(&self) -> Self {
+    pub fn normalized(&self) -> Self {
         let mut fields = self.clone();
         let used = match self.numbers[STAGE] {
             ERASE => 2,
@@ -71,7 +71,7 @@ impl Fields {
         let tables = self.n(SOURCES) <= 3 && (!self.open() || (self.n(TABLE) <= 7 && source));
         active && taken && tables && self.stage_ok()
     }
-    pub fn may_take(&self) -> bool {
+    pub fn may_append(&self) -> bool {
         self.in_range() && !self.is(CLOSED)
     }
     pub fn idle_after_closing(&self) -> bool {

@@ -39,7 +39,7 @@ fn crc32(start: u32, bytes: &[u8]) -> u32 {
 /// The calls that do no flash operation.
 impl Fields {
     fn source(&mut self, record: &[u8]) -> Outcome {
-        unless(self.may_take() && !self.open(), 11)?;
+        unless(self.may_append() && !self.open(), 11)?;
         unless(self.n(SOURCES) < 3, 10)?;
         let kept = |i| if (84..180).contains(&i) || i >= 339 { 0 } else { byte(record, i) };
         self.sources[self.n(SOURCES)] = std::array::from_fn(kept);
@@ -50,7 +50,7 @@ impl Fields {
     }
     fn table(&mut self, table: u32) -> Outcome {
         unless(table <= 7, 2)?;
-        unless(self.may_take() && self.may_begin(table), 11)?;
+        unless(self.may_append() && self.may_begin(table), 11)?;
         self.numbers[TABLE] = table;
         self.numbers[START] = self.position() as u32;
         self.numbers[TABLE_CRC] = 0;
@@ -58,19 +58,19 @@ impl Fields {
         said(DONE)
     }
     fn bytes(&mut self, bytes: &[u8]) -> Outcome {
-        unless(self.may_take(), 11)?;
+        unless(self.may_append(), 11)?;
         unless(self.position() + bytes.len() <= CAPACITY, 10)?;
         if self.is_due() {
             return said(APPENDED);
         }
         let fill = self.n(FILL);
-        let taken = &bytes[..bytes.len().min(256 - fill)];
-        self.tail[fill..fill + taken.len()].copy_from_slice(taken);
-        self.numbers[FILL] += taken.len() as u32;
-        self.numbers[TAKEN_CRC] = crc32(self.numbers[TAKEN_CRC], taken);
-        self.numbers[TABLE_CRC] = crc32(self.numbers[TABLE_CRC], taken);
+        let appended = &bytes[..bytes.len().min(256 - fill)];
+        self.tail[fill..fill + appended.len()].copy_from_slice(appended);
+        self.numbers[FILL] += appended.len() as u32;
+        self.numbers[TAKEN_CRC] = crc32(self.numbers[TAKEN_CRC], appended);
+        self.numbers[TABLE_CRC] = crc32(self.numbers[TABLE_CRC], appended);
         self.begin_due();
-        Ok(Answer { answer: APPENDED, count: taken.len() as u32, ..Answer::default() })
+        Ok(Answer { answer: APPENDED, count: appended.len() as u32, ..Answer::default() })
     }
     fn end(&mut self) -> Outcome {
         unless(self.in_range() && self.open(), 11)?;
@@ -85,7 +85,7 @@ impl Fields {
         said(DONE)
     }
     fn close(&mut self) -> Outcome {
-        unless(self.may_take() && !self.open(), 11)?;
+        unless(self.may_append() && !self.open(), 11)?;
         let due = self.is_due();
         self.numbers[CLOSED] = 1;
         if !due {
@@ -99,7 +99,7 @@ impl Model {
     /// The call's answer. What it leaves is in the fields and the region, which a
     /// refused call doesn't change.
     pub fn call(&mut self, call: &Call) -> Answer {
-        let mut next = self.fields.settled();
+        let mut next = self.fields.normalized();
         let outcome = match call {
             Call::Source(record) => next.source(record),
             Call::Table(table) => next.table(*table),
@@ -218,19 +218,19 @@ impl Model {
         // A table's end after closing isn't among what document 01 has out of order.
         let open = !f.is(CLOSED) || matches!(call, Call::TableEnd);
         unless(f.in_range() && open && order, 11)?;
-        let taken = call.taken();
+        let appended = call.appended();
         if let Call::Row(_, lengths) = call {
             let columns = crate::rows::columns(f.n(TABLE));
-            unless(lengths.len() == columns && taken.len() <= crate::rows::LONGEST, 14)?;
+            unless(lengths.len() == columns && appended.len() <= crate::rows::LONGEST, 14)?;
         }
         let source = !matches!(call, Call::SourceWithDates(_)) || f.n(SOURCES) < 3;
-        unless(source && f.position() + taken.len() <= CAPACITY, 10)
+        unless(source && f.position() + appended.len() <= CAPACITY, 10)
     }
     fn upper(&mut self, call: &Call) -> Answer {
         if let Err(refusal) = self.upper_refusal(call) {
             return Answer { refusal, ..Answer::default() };
         }
-        self.fields = self.fields.settled();
+        self.fields = self.fields.normalized();
         for lower in call.run() {
             self.call(&lower);
         }
