@@ -3,7 +3,7 @@
 use bankcore::{
     Refusal,
     cache::{self, Bank},
-    constants::{MAX_COLUMNS, MAX_ROW, REGION_SIZE, TABLE_NAMES, TABLES},
+    constants::{REGION_SIZE, TABLE_NAMES, TABLES},
 };
 
 fn show_bank(image: &[u8], number: u32) {
@@ -13,17 +13,19 @@ fn show_bank(image: &[u8], number: u32) {
     }
 }
 
-/// How many rows a table has after its names line, and whether one is malformed.
+/// How many rows a table has after its names line, and whether one is malformed;
+/// nothing if the table is absent.
 fn show_table(image: &[u8], bank: &Bank, source: u32, table: usize) {
-    let (mut values, mut ends) = ([0; MAX_ROW], [0; MAX_COLUMNS]);
-    let (mut place, mut rows) = (0, 0);
-    loop {
-        match bank.row(image, source, table as u32, place, &mut values, &mut ends) {
-            Ok(Some(row)) => (place, rows) = (row.next, rows + 1),
-            Ok(None) if rows == 0 => return,
-            Ok(None) => return println!("  {}: rows {}", TABLE_NAMES[table], rows - 1),
-            Err(refusal) => return println!("  {}: {refusal} at {place}", TABLE_NAMES[table]),
+    let mut rows = bank.rows(image, source, table as u32);
+    let mut count = 0;
+    while let Some(row) = rows.next() {
+        if let Err(refusal) = row {
+            return println!("  {}: {refusal} at {}", TABLE_NAMES[table], rows.offset());
         }
+        count += 1;
+    }
+    if rows.offset() > 0 {
+        println!("  {}: rows {count}", TABLE_NAMES[table]);
     }
 }
 

@@ -3,11 +3,9 @@
 use bankcore::{
     Refusal,
     cache::{self, Bank},
-    constants::{BANK_SIZE, MAX_COLUMNS, MAX_ROW, column, table},
+    constants::{BANK_SIZE, column, table},
     get, newer,
 };
-
-const HEADSIGN: usize = column::trips::TRIP_HEADSIGN;
 
 /// The bank that passes by its header, the newer one tried first; its data are
 /// not looked at.
@@ -26,28 +24,25 @@ fn show_run(trips: usize, headsign: &str) {
 
 /// The trips in stored order; consecutive trips to one destination are counted.
 fn show_trips(image: &[u8], bank: &Bank) {
-    let (mut values, mut ends) = ([0; MAX_ROW], [0; MAX_COLUMNS]);
-    let (mut place, mut trips) = (0, 0);
-    let mut headsign = String::new();
-    loop {
-        match bank.row(image, 0, table::TRIPS, place, &mut values, &mut ends) {
-            Ok(Some(row)) if place > 0 => {
-                let text = String::from_utf8_lossy(&values[ends[HEADSIGN - 1]..ends[HEADSIGN]])
-                    .into_owned();
-                if text != headsign {
-                    show_run(trips, &headsign);
-                    (trips, headsign) = (0, text);
-                }
-                (place, trips) = (row.next, trips + 1);
-            }
-            Ok(Some(row)) => place = row.next,
-            Ok(None) => return show_run(trips, &headsign),
+    let (mut trips, mut headsign) = (0, String::new());
+    let mut rows = bank.rows(image, 0, table::TRIPS);
+    while let Some(row) = rows.next() {
+        let row = match row {
+            Ok(row) => row,
             Err(refusal) => {
                 show_run(trips, &headsign);
-                return println!("  then {refusal}, at byte {place} of the table");
+                return println!("  then {refusal}, at byte {} of the table", rows.offset());
             }
+        };
+        let text = row.value(column::trips::TRIP_HEADSIGN).unwrap_or_default();
+        let text = String::from_utf8_lossy(text).into_owned();
+        if text != headsign {
+            show_run(trips, &headsign);
+            (trips, headsign) = (0, text);
         }
+        trips += 1;
     }
+    show_run(trips, &headsign);
 }
 
 fn show(image: &[u8], what: &str, bank: Option<Bank>) {

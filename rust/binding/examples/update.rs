@@ -2,11 +2,9 @@
 //! each number of operations, then whole, then cut inside each operation. update IMAGE
 use bankcore::{
     Refusal,
-    banks::Picks,
-    cache::{self, Bank, Block, Kind, Operation, Source, Writer},
+    cache::{self, Bank, JoinedValues, Kind, Operation, Picks, Source, Writer},
     constants::{DATES_SIZE, MAX_ROW, table::ROUTES},
     put,
-    rows::{self, Values},
 };
 
 const NOW: i64 = 1_790_000_000;
@@ -25,28 +23,23 @@ enum Next {
 /// An update of one source with one table, in the order of its calls.
 fn content() -> Result<Vec<Next>, Refusal> {
     let mut out = [0; MAX_ROW];
-    let n = cache::key(b"shelter 12", Picks { texts: &[], lengths: &[] }, &mut out)?;
+    let n = cache::key(b"shelter 12", Picks::default(), &mut out)?;
     let key = out[..n].to_vec();
     let source = Source {
         start: 20260101,
         end: 20261231,
         present: 1 << ROUTES,
         updated: Some(NOW - 600),
-        original: [[0; 2]; 8],
-        tables: [Block::default(); 8],
-        stamp: [0; 12],
-        id_length: 0,
-        id: [0; 80],
-        validator: [0; 66],
+        ..Source::default()
     };
     let mut dates = vec![0; DATES_SIZE];
     put(&mut dates, 0, source.start);
     put(&mut dates, 4, source.end);
-    let n = rows::names_line(ROUTES, &mut out).length;
+    let n = cache::names_line(ROUTES, &mut out)?;
     let mut table = out[..n].to_vec();
+    let values = JoinedValues::new(&["r7", "Harbour", "3"]);
     for _ in 0..40 {
-        let values = Values { texts: b"r7Harbour3", lengths: &[2, 7, 1] };
-        let n = cache::row(ROUTES, values, &mut out)?;
+        let n = cache::row(ROUTES, &values, &mut out)?;
         table.extend_from_slice(&out[..n]);
     }
     Ok(vec![

@@ -1,14 +1,81 @@
 //! Keys and banks. A region of any length has an answer, and so has every bank
 //! number, pick and state; nothing needs a check beforehand.
-use crate::{answers::*, core_interface::*};
+use crate::{answers::*, constants::*, core_interface::*};
 
 /// Picks as they are passed: all texts one after the other, and five lengths to a
 /// pick (line, route, stop code, stop, stop name). A length past the texts' end
-/// means what is left, a missing one 0.
-#[derive(Clone, Copy, Debug)]
+/// means what is left, a missing one 0; bytes after the last text are ignored.
+/// [`JoinedPicks`] joins them.
+///
+/// ```
+/// use bankcore::{banks::Picks, cache};
+/// let picks = Picks { texts: b"7rsn", lengths: &[1, 1, 0, 1, 1] };
+/// let mut out = [0; 16];
+/// assert_eq!(cache::key(&[], picks, &mut out), Ok(10));
+/// assert_eq!(out[..10], [1, 1, b'7', 1, b'r', 0, 1, b's', 1, b'n']);
+/// ```
+#[derive(Clone, Copy, Debug, Default)]
 pub struct Picks<'a> {
+    /// All texts, joined.
     pub texts: &'a [u8],
+    /// The length of each, five to a pick.
     pub lengths: &'a [u32],
+}
+
+/// The longest text of each field.
+const LONGEST: [usize; PICK_FIELDS] = [MAX_LINE, MAX_ROUTE, MAX_STOP_CODE, MAX_STOP, MAX_STOP_NAME];
+
+/// A pick too many, and a byte too many of each text, are kept: they are refused.
+const PICKS: usize = MAX_PICKS + 1;
+const TEXTS: usize =
+    PICKS * (MAX_LINE + MAX_ROUTE + MAX_STOP_CODE + MAX_STOP + MAX_STOP_NAME + PICK_FIELDS);
+
+/// Picks joined from their texts, line, route, stop code, stop and stop name of
+/// each. What a key can't hold, a pick too many or a text that is too long, is cut
+/// so that a call with it is refused (2) all the same.
+///
+/// ```
+/// use bankcore::{Refusal, banks::JoinedPicks, cache};
+/// let picks = JoinedPicks::new(&[["7", "r", "", "s", "n"]]);
+/// let mut out = [0; 16];
+/// assert_eq!(cache::key(&[], &picks, &mut out), Ok(10));
+/// let line = [&b"a line of pick"[..], b"", b"", b"", b""];
+/// assert_eq!(cache::key(&[], &JoinedPicks::new(&[line]), &mut out), Err(Refusal::Argument));
+/// ```
+#[derive(Clone, Debug)]
+pub struct JoinedPicks {
+    texts: [u8; TEXTS],
+    size: usize,
+    lengths: [u32; PICKS * PICK_FIELDS],
+    count: usize,
+}
+
+impl JoinedPicks {
+    /// Joins the texts of some picks.
+    pub fn new<T: AsRef<[u8]>>(picks: &[[T; PICK_FIELDS]]) -> Self {
+        let mut joined =
+            Self { texts: [0; TEXTS], size: 0, lengths: [0; PICKS * PICK_FIELDS], count: 0 };
+        for pick in picks.iter().take(PICKS) {
+            for (text, longest) in pick.iter().zip(LONGEST) {
+                let text = text.as_ref();
+                joined.append(&text[..text.len().min(longest + 1)]);
+            }
+        }
+        joined
+    }
+
+    fn append(&mut self, text: &[u8]) {
+        self.texts[self.size..][..text.len()].copy_from_slice(text);
+        self.size += text.len();
+        self.lengths[self.count] = text.len() as u32;
+        self.count += 1;
+    }
+}
+
+impl<'a> From<&'a JoinedPicks> for Picks<'a> {
+    fn from(joined: &'a JoinedPicks) -> Self {
+        Self { texts: &joined.texts[..joined.size], lengths: &joined.lengths[..joined.count] }
+    }
 }
 
 /// All tests of a bank, its data's CRC too.

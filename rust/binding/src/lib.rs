@@ -1,8 +1,23 @@
 //! Safe functions over the proved core. No call needs a check beforehand: every
-//! index, number and length has an answer. `cache` has the calls under the names of
-//! the firmware's cache.rs, with results and refusals; the other modules have them
-//! with the numbers of the C interface.
+//! index, number and length has an answer.
+//!
+//! [`cache`] is what the firmware calls, with results and refusals; [`constants`] has
+//! sizes, record offsets, tables and columns by name. The other modules have the
+//! same calls with the numbers of the C interface.
+//!
+//! ```
+//! use bankcore::{cache, constants::{column, table}};
+//! let region = std::fs::read("../../samples/two-good.img")?;
+//! let bank = cache::load(&region)?.expect("a good bank");
+//! for row in bank.rows(&region, 0, table::STOPS) {
+//!     let row = row?;
+//!     let name = row.value(column::stops::STOP_NAME).unwrap();
+//!     assert!(!name.is_empty());
+//! }
+//! # Ok::<(), Box<dyn std::error::Error>>(())
+//! ```
 #![no_std]
+#![deny(missing_docs)]
 
 // A length has 64 bits in the core's proofs, and so in these declarations. There is
 // no core for a target whose pointers have another size, and `ends` are lent as they

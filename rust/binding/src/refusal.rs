@@ -2,34 +2,65 @@
 
 /// Why a call was refused. Numbers up to 14 are document 01's; those above are
 /// document 02's, which no call gives yet.
+///
+/// ```
+/// use bankcore::{Refusal, cache};
+/// assert_eq!(cache::load(&[]), Err(Refusal::Region));
+/// assert_eq!(Refusal::of(14), Some(Refusal::Row));
+/// assert_eq!(Refusal::Row.to_string(), "refusal 14 row");
+/// ```
 #[derive(Clone, Copy, Debug, PartialEq, Eq)]
 pub enum Refusal {
+    /// The region doesn't have `REGION_SIZE` bytes.
     Region = 1,
+    /// A bank, table, date, pick or filter that there is none of.
     Argument = 2,
+    /// The magic, the version or the commit word is wrong.
     Mark = 3,
+    /// The header's CRC differs.
     Seal = 4,
+    /// The data length, key length, source count or checked time is out of its range.
     Span = 5,
+    /// A record is out of its ranges, or there is no such source.
     Source = 6,
+    /// The data's CRC differs.
     Data = 7,
+    /// The identity is too long.
     Identity = 8,
+    /// An output is shorter than the result.
     Small = 9,
+    /// The bytes don't fit in a bank, or it is one source too many.
     Full = 10,
+    /// A call out of order, or a state out of its range.
     Turn = 11,
+    /// A commit in comparing mode, or of an update that isn't current.
     Obsolete = 12,
+    /// The bank to be committed wouldn't pass its tests.
     Unfit = 13,
+    /// A wrong number of values, a row that is too long, or a malformed one.
     Row = 14,
+    /// Document 02's; not given yet.
     Key = 15,
+    /// Document 02's; not given yet.
     Future = 16,
+    /// Document 02's; not given yet.
     Line = 17,
+    /// Document 02's; not given yet.
     Rights = 18,
+    /// Document 02's; not given yet.
     LastKeeper = 19,
+    /// Document 02's; not given yet.
     List = 20,
+    /// Document 02's; not given yet.
     Absent = 21,
+    /// Document 02's; not given yet.
     Layout = 22,
+    /// Document 02's; not given yet.
     Table = 23,
 }
 
 impl Refusal {
+    /// All of them, by number.
     pub const ALL: [Self; 23] = [
         Self::Region,
         Self::Argument,
@@ -61,10 +92,12 @@ impl Refusal {
         Self::ALL.into_iter().find(|r| r.number() == number)
     }
 
+    /// Its number.
     pub fn number(self) -> u32 {
         self as u32
     }
 
+    /// Its word.
     pub fn word(self) -> &'static str {
         match self {
             Self::Region => "region",

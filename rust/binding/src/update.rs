@@ -79,12 +79,25 @@ use core_interface::*;
 pub use crate::constants::answer::{APPENDED, DIFFERENT, DONE, NONE_DUE, SAME};
 
 /// What a call answers. A refusal is its number, 0 for none; beside one the other
-/// numbers are 0. The count is that of the bytes appended.
+/// numbers are 0.
+///
+/// ```
+/// use bankcore::update::{APPENDED, State};
+/// let region = std::fs::read("../../samples/two-good.img")?;
+/// let (mut state, begun) = State::new(&region, false, 0);
+/// assert_eq!(begun.refused(), None);
+/// let answer = state.append(&[7; 300]);
+/// assert_eq!((answer.answer, answer.count), (APPENDED, 256));
+/// # Ok::<(), std::io::Error>(())
+/// ```
 #[repr(C)]
 #[derive(Clone, Copy, Debug, Default, PartialEq, Eq)]
 pub struct Answer {
+    /// The refusal's number, 0 for none.
     pub refusal: u32,
+    /// One of `constants::answer`.
     pub answer: u32,
+    /// How many bytes were appended.
     pub count: u32,
 }
 
@@ -127,7 +140,16 @@ struct Source {
     validator: [u8; VALIDATOR_SIZE],
 }
 
-/// The state of an update. A refused call leaves it as it was.
+/// The state of an update. A refused call leaves it as it was. The default is a
+/// state on which every call but a beginning is refused.
+///
+/// ```
+/// use bankcore::{Refusal, update::State};
+/// let mut state = State::default();
+/// assert_eq!(state.begin(&[], false, 0).refused(), Some(Refusal::Region));
+/// assert_eq!(state, State::default());
+/// assert_eq!(state.close().refused(), Some(Refusal::Turn));
+/// ```
 #[repr(C)]
 #[derive(Clone, Copy, Debug, PartialEq, Eq)]
 pub struct State {
@@ -151,15 +173,30 @@ pub const STEP: usize = size_of::<Step>();
 
 const _: () = assert!(size_of::<State>() == 1400 && STEP == 1416);
 
-/// The operation that comes next: its kind (`constants::operation`), the number of its bank, the offset of
-/// its first byte in the bank, and how many bytes it has. All are 0 beside a
-/// refusal, and if there is none.
+/// The operation that comes next; all numbers are 0 beside a refusal, and if there
+/// is none.
+///
+/// ```
+/// use bankcore::{constants::{SECTOR_SIZE, operation}, update::State};
+/// let region = std::fs::read("../../samples/two-good.img")?;
+/// let mut state = State::new(&region, false, 0).0;
+/// assert_eq!(state.operation().kind, operation::NONE);
+/// state.append(&[7; 256]);
+/// let next = state.operation();
+/// assert_eq!((next.kind, next.bank, next.offset, next.length), (operation::ERASE, 0, 0, SECTOR_SIZE));
+/// # Ok::<(), std::io::Error>(())
+/// ```
 #[derive(Clone, Copy, Debug, Default, PartialEq, Eq)]
 pub struct OperationAnswer {
+    /// The refusal's number, 0 for none.
     pub refusal: u32,
+    /// One of `constants::operation`.
     pub kind: u32,
+    /// The number of its bank.
     pub bank: u32,
+    /// The offset of its first byte in the bank.
     pub offset: usize,
+    /// How many bytes it has.
     pub length: usize,
 }
 
@@ -213,7 +250,7 @@ impl State {
         }
         copier.raw(&mut self.tail);
     }
-    fn empty() -> Self {
+    const fn empty() -> Self {
         let source = Source {
             numbers: [0; 3],
             updated: 0,
@@ -273,6 +310,12 @@ impl State {
     }
 }
 
+impl Default for State {
+    fn default() -> Self {
+        Self::empty()
+    }
+}
+
 /// The calls that leave the sources, with the whole state as the C interface
 /// returns it.
 impl State {
@@ -317,7 +360,7 @@ impl State {
 
 /// The lower layer: a call does at most one flash operation.
 impl State {
-    /// Begins an update on a region; if it is refused, so is every call on the
+    /// Begins an update on a region; if it is refused, so is every other call on the
     /// state.
     pub fn new(region: &[u8], comparing: bool, now: i64) -> (Self, Answer) {
         let mut state = Self::empty();

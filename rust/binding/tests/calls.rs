@@ -1,12 +1,12 @@
 //! The calls of `cache` on the sample images, and with wrong arguments.
 use bankcore::{
     Refusal, banks,
-    banks::Picks,
-    cache::{self, Checking, Kind, Operation, Source, Turn, Writer},
-    constants::{CAPACITY, RECORD_SIZE, REGION_SIZE, table},
-    get,
-    rows::Values,
-    update,
+    cache::{
+        self, Checking, JoinedPicks, JoinedValues, Kind, Operation, Picks, Source, Turn, Values,
+        Writer,
+    },
+    constants::*,
+    get, update,
 };
 
 fn sample(name: &str) -> Vec<u8> {
@@ -292,4 +292,97 @@ fn an_update_by_upper_calls_reads_back() {
     let row = bank.row(&image, 0, 0, names.next, &mut out, &mut ends).unwrap().unwrap();
     assert_eq!((&out[..row.size], ends), (&b"a,b\""[..], [1, 3, 4]));
     assert_eq!(bank.row(&image, 0, 0, row.next, &mut out, &mut ends), Ok(None));
+}
+
+/// Every row, value by value, as the call with lent outputs reads it.
+#[test]
+fn rows_and_values_are_those_of_the_call() {
+    for name in ["two-good", "three-sources", "version-1", "ticket-41"] {
+        let image = sample(name);
+        let bank = cache::load(&image).unwrap().unwrap();
+        for (source, table) in (0..bank.count).flat_map(|s| (0..9).map(move |t| (s, t))) {
+            let mut rows = bank.rows(&image, source, table);
+            let (mut out, mut ends) = ([0; MAX_ROW], [0; MAX_COLUMNS]);
+            let mut place = 0;
+            loop {
+                let read = bank.row(&image, source, table, place, &mut out, &mut ends);
+                let names = place == 0;
+                match read {
+                    Ok(Some(row)) if names => place = row.next,
+                    Ok(Some(row)) => {
+                        let columns = &ends[..cache::column_count(table).unwrap()];
+                        let next = rows.next().unwrap().unwrap();
+                        assert!(next.values().eq(cache::values(&out, columns)));
+                        assert_eq!(next.values().map(<[u8]>::len).sum::<usize>(), row.size);
+                        place = row.next;
+                    }
+                    last => {
+                        assert_eq!(rows.next().map(|row| row.map(|_| ())), {
+                            last.map(|_| ()).err().map(Err)
+                        });
+                        assert_eq!(rows.offset(), place);
+                        break;
+                    }
+                }
+            }
+            assert!(rows.next().is_none());
+        }
+    }
+    let image = sample("two-good");
+    let bank = cache::load(&image).unwrap().unwrap();
+    assert_eq!(bank.rows(&image, 9, 0).next(), Some(Err(Refusal::Source)));
+    assert_eq!(bank.rows(&image[1..], 0, 0).next(), Some(Err(Refusal::Region)));
+    assert!(cache::values(b"abc", &[2, 9, 1]).eq([&b"ab"[..], b"", b""]));
+}
+
+/// Texts joined by the binding and those passed joined: the same answers, at the
+/// limits and past them.
+#[test]
+fn joined_texts_are_the_texts() {
+    fn same_key(picks: &[[&[u8]; PICK_FIELDS]]) -> Result<usize, Refusal> {
+        let texts: Vec<u8> = picks.iter().flatten().flat_map(|text| text.iter().copied()).collect();
+        let lengths: Vec<u32> = picks.iter().flatten().map(|text| text.len() as u32).collect();
+        let (mut one, mut other) = ([0; 4000], [0; 4000]);
+        let key = cache::key(b"A", Picks { texts: &texts, lengths: &lengths }, &mut one);
+        assert_eq!(cache::key(b"A", &JoinedPicks::new(picks), &mut other), key);
+        assert!(one == other);
+        key
+    }
+    let long = [b'x'; 300];
+    let limits = [MAX_LINE, MAX_ROUTE, MAX_STOP_CODE, MAX_STOP, MAX_STOP_NAME];
+    let longest = limits.map(|n| &long[..n]);
+    let numbers: Vec<String> = (0..20).map(|n| n.to_string()).collect();
+    let many: Vec<_> = numbers.iter().map(|n| [n.as_bytes(), b"", b"", b"stop", b"name"]).collect();
+    assert!(same_key(&[]).is_ok() && same_key(&[longest]).is_ok() && same_key(&many[..16]).is_ok());
+    assert_eq!(same_key(&many[..17]), Err(Refusal::Argument));
+    assert_eq!(same_key(&many), Err(Refusal::Argument));
+    for (field, limit) in limits.into_iter().enumerate() {
+        for n in [limit + 1, 300] {
+            let mut pick = longest;
+            pick[field] = &long[..n];
+            assert_eq!(same_key(&[pick]), Err(Refusal::Argument));
+        }
+    }
+
+    fn same_row(table: u32, values: &[&str]) -> Result<usize, Refusal> {
+        let texts = values.concat();
+        let lengths: Vec<u32> = values.iter().map(|value| value.len() as u32).collect();
+        let (mut one, mut other) = ([0; MAX_ROW], [0; MAX_ROW]);
+        let row = Values { texts: texts.as_bytes(), lengths: &lengths };
+        let row = cache::row(table, row, &mut one);
+        assert_eq!(cache::row(table, &JoinedValues::new(values), &mut other), row);
+        assert!(one == other);
+        row
+    }
+    let text = "y".repeat(20_000);
+    assert_eq!(same_row(table::ROUTES, &["a", "b,", "\""]), Ok(12));
+    assert_eq!(same_row(table::FEED_INFO, &[&text[..MAX_ROW - 2], ""]), Ok(MAX_ROW));
+    for n in [MAX_ROW - 1, MAX_ROW, MAX_ROW + 1, 20_000] {
+        assert_eq!(same_row(table::FEED_INFO, &[&text[..n], ""]), Err(Refusal::Row));
+        assert_eq!(same_row(table::FEED_INFO, &["", &text[..n]]), Err(Refusal::Row));
+    }
+    for n in (0..30).filter(|n| *n != 8) {
+        assert_eq!(same_row(table::TRANSFERS, &vec!["v"; n]), Err(Refusal::Row));
+    }
+    assert_eq!(same_row(8, &[]), Err(Refusal::Argument));
 }
