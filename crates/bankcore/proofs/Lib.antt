@@ -1,2 +1,3 @@
 pub mod Number
 pub mod Laws
+pub mod Told

@@ -3,3 +3,4 @@ pub mod BankAnswers
 pub mod RowAnswers
 pub mod Stamp
 pub mod Operation
+pub mod Claims

@@ -9,6 +9,7 @@ ghost use Rattle.cstate.specs.State.{writerOf};
 ghost use Rattle.cstate.specs.Answers as Answers;
 ghost use Rattle.bankcore.specs.Stamp.{stampOf};
 ghost use Rattle.bankcore.specs.Operation as Operations;
+ghost use Rattle.bankcore.specs.Claims.{Claims};
 use bank::Loaded;
 use commit::Stamp;
 use cstate::State;
@@ -364,3 +365,9 @@ pub extern "C" fn tt_update_commit_word(region: &mut [u8], state: State) -> Upda
     let s = commit::commit_word(writer_of(state), region);
     after(s, state)
 }
+
+// What holds of the next operation. The function does nothing: its contract is what is proved of the definitions
+// (specs/Claims.antt).
+pub fn operations_hold()
+    ensures { λ _. ⌜ Claims ⌝ }
+{}
