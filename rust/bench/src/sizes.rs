@@ -7,6 +7,7 @@ pub fn sizes() {
         ("an update's state", size_of::<update::State>()),
         ("an update's state and answer", update::STEP),
         ("an update's answer", size_of::<update::Answer>()),
+        ("an update's next operation", size_of::<update::OperationAnswer>()),
         ("a checking state", size_of::<Checking>()),
         ("load, validate, header", size_of::<BankAnswer>()),
         ("freshness", size_of::<FreshAnswer>()),
