@@ -127,6 +127,7 @@ pub struct TurnAnswer {
 /// assert_eq!((names.found, &out[..ends[0]]), (1, &b"stop_id"[..]));
 /// # Ok::<(), std::io::Error>(())
 /// ```
+#[repr(C)]
 #[derive(Clone, Copy, Debug, PartialEq, Eq)]
 pub struct BankRowAnswer {
     /// The refusal's number, 0 for none.

@@ -175,7 +175,7 @@ pub fn bank_row(
     out: &mut [u8],
     ends: &mut [usize],
 ) -> BankRowAnswer {
-    let row = unsafe {
+    unsafe {
         tt_bank_row(
             region.as_ptr(),
             region.len() as u64,
@@ -188,7 +188,5 @@ pub fn bank_row(
             ends.as_mut_ptr().cast(),
             ends.len() as u64,
         )
-    };
-    let (next, size) = (row.next as usize, row.size as usize);
-    BankRowAnswer { refusal: row.refusal, found: row.found, next, size }
+    }
 }

@@ -34,20 +34,12 @@ pub use refusal::Refusal;
 
 /// The core's C interface, all declarations. A slice is a pointer and a length.
 mod core_interface {
-    use crate::answers::{BankAnswer, FreshAnswer, SameKeyAnswer, TurnAnswer};
+    use crate::answers::{BankAnswer, BankRowAnswer, FreshAnswer, SameKeyAnswer, TurnAnswer};
 
     #[repr(C)]
     pub struct KeyNumbers {
         pub refusal: u32,
         pub length: u64,
-    }
-
-    #[repr(C)]
-    pub struct BankRowNumbers {
-        pub refusal: u32,
-        pub found: u32,
-        pub next: u64,
-        pub size: u64,
     }
 
     unsafe extern "C" {
@@ -125,7 +117,7 @@ mod core_interface {
             out_length: u64,
             ends: *mut u64,
             slots: u64,
-        ) -> BankRowNumbers;
+        ) -> BankRowAnswer;
     }
 }
 use core_interface::*;
