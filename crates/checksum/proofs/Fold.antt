@@ -64,7 +64,7 @@ steps-two k p q h =
     ∙ ap₂ (λ (a b : ℕ). bitXor (steps (64 + k) a) (steps k b)) (low q 64 h) (high q 64 h)
 
 -- a word added to the lowest one
-add-low : (p q w : ℕ) → p < 2 ^ 64 → w < 2 ^ 64 → bitXor (q * 2 ^ 64 + p) w ≡ q * 2 ^ 64 + bitXor p w
+pub add-low : (p q w : ℕ) → p < 2 ^ 64 → w < 2 ^ 64 → bitXor (q * 2 ^ 64 + p) w ≡ q * 2 ^ 64 + bitXor p w
 add-low p q w hp hw =
     ap (bitXor (q * 2 ^ 64 + p)) (sym (zero-add w)) ∙ xor-block 64 q 0 p w hp hw ∙ ap (λ (z : ℕ). z * 2 ^ 64 + bitXor p w) (xor-zero-r q)
 

@@ -3,6 +3,7 @@ pub mod Sum
 pub mod Steps
 pub mod Little
 pub mod Multiple
+pub mod First
 pub mod Fold
 pub mod Table
 pub mod PairTable

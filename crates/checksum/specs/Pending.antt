@@ -1,20 +1,37 @@
 -- Used by the private functions that `feed` calls; no public promise needs it.
-use mathlib.Core.List.{List}
-use Prim.Native.Nat.{ℕ, _+_, _*_, _^_, _<_}
-use mathlib.Core.Path.{_≡_}
-use lib.ListN.{getD}
-use Rattle.base.specs.Number.{longBits}
+use Prim.Native.Nat.{ℕ, _+_, _-_, _*_, _/_, _%_, _^_}
+use lib.Bits.{bitXor}
+use Rattle.base.specs.Number.{wordValues, longBits}
 use Rattle.checksum.specs.Register.{steps}
 
--- the table has a row of 16 nibbles for each of 8 numbers of steps
+-- the values and the bits of a nibble
 abbrev pub nibbles : ℕ
 nibbles = 16
 
-abbrev pub tableRows : ℕ
-tableRows = 8
-
 abbrev pub nibbleBits : ℕ
 nibbleBits = 4
+
+-- a 64-bit number has 11 digits of 6 bits, the lowest first
+abbrev pub digitBits : ℕ
+digitBits = 6
+
+abbrev pub digitValues : ℕ
+digitValues = 64
+
+abbrev pub digits : ℕ
+digits = 11
+
+-- how many rows the table has, each of them two in one
+abbrev pub rows : ℕ
+rows = 6
+
+-- the steps of a digit: those of 64 that are left once the digits before it are shifted out
+abbrev pub rowSteps : ℕ → ℕ
+rowSteps j = longBits - digitBits * j
+
+-- two entries of the table: of the digit k % 64 in row k / 64, and in the row 6 after it
+abbrev pub packed : ℕ → ℕ
+packed k = steps (rowSteps (k / digitValues)) (k % digitValues) * wordValues + steps (rowSteps (rows + k / digitValues)) (k % digitValues)
 
 -- the bytes of a 64-bit number, and of half of one
 abbrev pub longBytes : ℕ
@@ -22,10 +39,6 @@ longBytes = 8
 
 abbrev pub halfBytes : ℕ
 halfBytes = 4
-
--- the table: entry 16 j + n is the nibble n after 4 (j + 1) steps
-pub record Nibbles (t : List ℕ) : Type 0 where
-  pub entry : (j n : ℕ) → j < tableRows → n < nibbles → getD t (nibbles * j + n) 0 ≡ steps (nibbleBits + nibbleBits * j) n
 
 -- pending 64-bit words as one number, the first word lowest
 abbrev pub two : ℕ → ℕ → ℕ
@@ -36,3 +49,7 @@ three a b c = (c * 2 ^ longBits + b) * 2 ^ longBits + a
 
 abbrev pub five : ℕ → ℕ → ℕ → ℕ → ℕ → ℕ
 five a b c d e = (((e * 2 ^ longBits + d) * 2 ^ longBits + c) * 2 ^ longBits + b) * 2 ^ longBits + a
+
+-- the register after a word of 64 bits, with what is added to it
+abbrev pub after : ℕ → ℕ → ℕ
+after word added = bitXor (steps longBits word) added

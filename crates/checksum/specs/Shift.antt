@@ -4,7 +4,7 @@ use Prim.Native.Nat.{ℕ, _+_, _*_, _<_}
 use mathlib.Core.Path.{_≡_}
 use lib.ListN.{getD}
 use Rattle.checksum.specs.Register.{steps}
-use Rattle.checksum.specs.Pending.{nibbles, tableRows, nibbleBits}
+use Rattle.checksum.specs.Pending.{nibbles, nibbleBits}
 
 -- how many steps 256 bytes are, and the first row of the table makes
 abbrev pub shiftSteps : ℕ
@@ -12,6 +12,10 @@ shiftSteps = 2048
 
 abbrev pub firstSteps : ℕ
 firstSteps = 2020
+
+-- how many rows the table has
+abbrev pub tableRows : ℕ
+tableRows = 8
 
 -- the table: entry 16 j + n is the nibble n after 2020 + 4 j steps
 pub record Shifts (t : List ℕ) : Type 0 where

@@ -4,11 +4,12 @@
 ghost use mathlib.Core.Path.{_≡_};
 ghost use Prim.Native.Nat.{_+_, _*_, _%_, _<_};
 ghost use Rattle.checksum.specs.Register.{steps, run};
-ghost use Rattle.checksum.specs.Pending.{nibbles, tableRows, nibbleBits};
-ghost use Rattle.checksum.specs.Shift.{Shifts, shiftSteps, firstSteps};
-use crate::register::ENTRIES;
+ghost use Rattle.checksum.specs.Pending.{nibbles, nibbleBits};
+ghost use Rattle.checksum.specs.Shift.{Shifts, shiftSteps, firstSteps, tableRows};
 use crate::register::NIBBLES;
 use crate::register::feed;
+
+const ENTRIES: usize = 128;
 
 // How many bytes the table is for.
 const SHIFTED: usize = 256;

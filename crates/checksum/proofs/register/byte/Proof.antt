@@ -3,11 +3,11 @@ use borrow.Author.Needs.{needs}
 use Rattle.checksum.proofs.register.byte.Statement.{statement}
 use Rattle.checksum.proofs.register.byte.Tie as tie
 
-look-requires : tie.Need-look-requires
-look-requires c κs = search needs
+after8-requires : tie.Need-after8-requires
+after8-requires c κs = search needs
 
-look-requires-2 : tie.Need-look-requires-2
-look-requires-2 c κs = search needs
+after4-requires : tie.Need-after4-requires
+after4-requires c κs = search needs
 
 returns : tie.Need-returns
 returns c =
@@ -15,4 +15,4 @@ returns c =
     cc (byte-steps (a .args .crc) (a .args .b) (a .fits .b .fits))
 
 pub byte-spec : {M : Type 1} → statement M
-byte-spec = tie.close (tie.spec look-requires look-requires-2 returns)
+byte-spec = tie.close (tie.spec after8-requires after4-requires returns)

@@ -7,8 +7,8 @@ use lib.ListN.{length, drop}
 use Rattle.checksum.specs.Register.{run}
 use lib.ListN.{drop-of-length-le}
 use Rattle.checksum.proofs.Fold.{byte-at}
-use Rattle.checksum.proofs.register.feed_short.Statement.{statement}
-use Rattle.checksum.proofs.register.feed_short.Tie as tie
+use Rattle.checksum.proofs.register.feed_bytes.Statement.{statement}
+use Rattle.checksum.proofs.register.feed_bytes.Tie as tie
 
 abbrev Inv-loop : tie.InvT-loop
 Inv-loop crc s c₀ k₀ c k = (k ≤ length s) × (run c (drop k s) ≡ run crc s)
@@ -19,11 +19,11 @@ abbrev μ-loop : tie.MeasureT-loop
 loop-holds : tie.Need-loop-holds Inv-loop μ-loop
 loop-holds c = (omega arith, refl)
 
-shared-slice-read-short-byte : tie.Need-shared-slice-read-short-byte Inv-loop μ-loop
-shared-slice-read-short-byte c = search needs
+shared-slice-read-byte : tie.Need-shared-slice-read-byte Inv-loop μ-loop
+shared-slice-read-byte c = search needs
 
-short-byte-requires : tie.Need-short-byte-requires Inv-loop μ-loop
-short-byte-requires c κs = search needs
+byte-requires : tie.Need-byte-requires Inv-loop μ-loop
+byte-requires c κs = search needs
 
 add-k : tie.Need-add-k Inv-loop μ-loop
 add-k c = search needs
@@ -35,7 +35,7 @@ loop-again : tie.Need-loop-again Inv-loop μ-loop
 loop-again c =
     let l = c .before .before .before .loop in
     let s = c .before .before .before .before .before .args .s .now in
-    (omega arith, ap (λ (z : ℕ). run z (drop (l .k + 1) s)) (c .short-byte .ensures) ∙ byte-at (l .c) (l .k) s (omega arith) ∙ l .inv .1)
+    (omega arith, ap (λ (z : ℕ). run z (drop (l .k + 1) s)) (c .byte .ensures) ∙ byte-at (l .c) (l .k) s (omega arith) ∙ l .inv .1)
 
 returns : tie.Need-returns Inv-loop μ-loop
 unfolding run
@@ -43,15 +43,15 @@ returns c =
     let l = c .before .loop in
     rw (drop-of-length-le (c .before .before .before .args .s .now) {i = l .k} (omega arith)) at (l .inv .1)
 
-pub feed-short-spec : {M : Type 1} → statement M
-feed-short-spec =
+pub feed-bytes-spec : {M : Type 1} → statement M
+feed-bytes-spec =
     tie.close
     (tie.spec
     Inv-loop
     μ-loop
     loop-holds
-    shared-slice-read-short-byte
-    short-byte-requires
+    shared-slice-read-byte
+    byte-requires
     add-k
     loop-less
     loop-again
