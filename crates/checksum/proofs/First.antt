@@ -1,7 +1,7 @@
 -- The first word of an input may have fewer than 8 bytes: shifted up, as if zeros were before it, 64 steps do the same. A fold of such a
 -- word leaves five pending words that do the same on what follows.
-use mathlib.Core.Path.{_≡_, refl, sym, ap, ap₂, _∙_}
-use mathlib.Core.List.{List, _++_}
+use mathlib.Core.Path.{_≡_, sym, ap, ap₂, _∙_}
+use mathlib.Core.List.{List}
 use Prim.Native.Nat.{ℕ, _+_, _-_, _*_, _/_, _%_, _^_, _<_, _≤_}
 use native.Mathlib.Nat.{add-zero, add-comm, mod-eq-of-lt, div-eq-of-lt, mul-mod-left}
 use native.Mathlib.Omega.{arith}

@@ -6,7 +6,7 @@ ghost use mathlib.Core.Path.{_≡_};
 ghost use Prim.Native.Nat.{_+_, _-_, _*_, _%_, _^_, _≤_, _<_};
 ghost use lib.Bits.{bitXor};
 ghost use lib.ListN.{length, take, drop};
-ghost use Rattle.base.specs.Number.{byteValues, byteBits, wordValues, wordBits, longBits};
+ghost use Rattle.base.specs.Number.{byteValues, byteBits, wordValues, longBits};
 ghost use Rattle.checksum.specs.Register.{steps, run, little};
 ghost use Rattle.checksum.specs.Pending.{three, five, two, after};
 ghost use Rattle.checksum.specs.Pending.{nibbles, nibbleBits, longBytes, halfBytes};
