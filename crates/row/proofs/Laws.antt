@@ -1,23 +1,24 @@
--- What a turn of each loop does to what is left to write: the output with the rest stored after it stays the same list. This is the
--- invariant of every loop that writes; for those that count, the count so far and that of the rest add up.
-use Prim.Native.Nat.{ℕ, zero, suc, _+_, _-_, _≤_, _<_, min}
+-- The laws that the proofs of this crate cite, in the order of the modules: bytes copied, special bytes, quotes doubled, the row. A loop that
+-- copies has stored the first i bytes; one that doubles quotes has the rest left to store, and the output with it stays the same list.
+use Prim.Native.Nat.{ℕ, zero, suc, _+_, _-_, _*_, _/_, _≤_, _<_, min}
 use native.Mathlib.Omega.{arith}
 use native.Mathlib.Decide.{decLt}
 use native.Mathlib.Numerals.{add-one}
 use native.Mathlib.Nat.{add-zero, add-suc}
-use mathlib.Core.Bool.{Bool, true, false, _||_}
+use mathlib.Core.Bool.{Bool, true, false, _||_, true≢false, or-assoc, or-false, or-true}
 use mathlib.Core.Path.{_≡_, refl, sym, ap, _∙_}
-use mathlib.Core.List.{List, [], _∷_, _++_, append-nil}
-use lib.Dec.{eqb, leb}
-use lib.ListN.{length, take, drop, getD, set, drop-of-length-le, length-drop, length-append, length-set, length-take}
-use lib.Seq.{sets, sets-eq, length-sets, set-set, set-comm, drop-cons, drop-drop, take-all, take-add, getD-take, getD-drop, getD-set-same, getD-set-other}
-use borrow.Author.Tests.{eq-eqb, ne-eqb, eqb-true, le-leb, lt-leb}
+use mathlib.Core.List.{List, [], _∷_, _++_, append-assoc}
+use lib.Dec.{eqb}
+use lib.ListN.{length, take, drop, getD, set, drop-of-length-le, length-drop, length-append, length-take, take-append-drop}
+use lib.Seq.{sets, sets-eq, set-set, set-comm, drop-cons, drop-drop, take-all, take-add, take-append-seam, length-take-le}
+use borrow.Author.Tests.{eq-eqb, ne-eqb, eqb-true, eqb-false}
 use Rattle.base.specs.Number.{pick}
 use Rattle.csv.specs.Write.{special, anySpecial, doubled, fieldOf, delimiter, rowOf}
+use Rattle.base.proofs.Lists.{next}
 use Rattle.csv.proofs.Laws.{sets-append}
 use Rattle.row.specs.Write.{cutBy}
-use Rattle.row.specs.Steps.{Sizes, FirstQuote}
-use Rattle.csv.specs.Csv.{quote, comma, lineFeed}
+use Rattle.row.specs.Steps.{has, quotedOf}
+use Rattle.csv.specs.Csv.{quote, comma, carriageReturn, lineFeed}
 
 -- ---- bytes copied
 
@@ -30,57 +31,156 @@ copy-turn out to i v h = rw (add-one i, drop-cons v i 0 h, add-suc to i)
 pub copy-end : (out : List ℕ) (to i : ℕ) (v : List ℕ) → length v ≤ i → sets out to (drop i v) ≡ out
 copy-end out to i v h = rw (drop-of-length-le v h)
 
--- ---- a value
+set-early : (o : List ℕ) (k m c : ℕ) (b : List ℕ) → k < m → set (sets o m b) k c ≡ sets (set o k c) m b
+set-early o k m c [] h = refl
+set-early o k m c (x ∷ b) h = set-early (set o m x) k (suc m) c b (omega arith) ∙ ap (λ (l : List ℕ). sets l (suc m) b) (set-comm o m k x c (λ e. omega arith))
 
-pub any-yes : (v : List ℕ) (i : ℕ) → i < length v → special (getD v i 0) ≡ true → true ≡ anySpecial (drop i v)
+-- what is overwritten might as well not have been written
+sets-over : (o : List ℕ) (k : ℕ) (b c : List ℕ) → length b ≤ length c → sets (sets o k b) k c ≡ sets o k c
+sets-over o k [] c h = refl
+sets-over o k (x ∷ b) [] h = absurd (omega arith)
+sets-over o k (x ∷ b) (y ∷ c) h =
+    let e : set (sets (set o k x) (suc k) b) k y ≡ sets (set o k y) (suc k) b = set-early (set o k x) k (suc k) y b (omega arith) ∙ ap (λ (l : List ℕ). sets l (suc k) b) (set-set o k x y) in
+    ap (λ (l : List ℕ). sets l (suc k) c) e ∙ sets-over (set o k y) (suc k) b c (omega arith)
+
+-- the first bytes of an array into which v was stored are v
+pub sets-front : (b v : List ℕ) → length v ≤ length b → take (length v) (sets b 0 v) ≡ v
+sets-front b v h = ap (take (length v)) (sets-eq v b 0 (omega arith)) ∙ take-append-seam v (drop (0 + length v) b)
+
+-- k more bytes of v after the first i
+pub copy-more : (out v : List ℕ) (to i k : ℕ) → i ≤ length v → sets (sets out to (take i v)) (to + i) (take (i + k - i) (drop i v)) ≡ sets out to (take (i + k) v)
+copy-more out v to i k h =
+    let n : i + k - i ≡ k = omega arith in
+    rw n (next out (take i v) (take k (drop i v)) to i (length-take-le i v h) ∙ ap (sets out to) (sym (take-add i k v)))
+
+-- the first j bytes of v, and then those from i on: an overlap is stored twice
+pub copy-overlap : (out v : List ℕ) (to i j : ℕ) → i ≤ j → j ≤ length v → sets (sets out to (take j v)) (to + i) (drop i v) ≡ sets out to v
+copy-overlap out v to i j h g =
+    let a = take i v in
+    let b = take (j - i) (drop i v) in
+    let c = drop i v in
+    let m : j ≡ i + (j - i) = omega arith in
+    let n : length a ≡ i = length-take-le i v (omega arith) in
+    let t : take j v ≡ a ++ b = ap (λ (z : ℕ). take z v) m ∙ take-add i (j - i) v in
+    let s : sets out to (take j v) ≡ sets (sets out to a) (to + i) b = ap (sets out to) t ∙ sym (next out a b to i n) in
+    let w : sets out to v ≡ sets (sets out to a) (to + i) c = ap (sets out to) (sym (take-append-drop i v)) ∙ sym (next out a c to i n) in
+    let l : length b ≤ length c = omega (arith, length-take (j - i) c) in
+    ap (λ (o : List ℕ). sets o (to + i) c) s ∙ sets-over (sets out to a) (to + i) b c l ∙ sym w
+
+pub copy-none : (out : List ℕ) (to : ℕ) (v : List ℕ) → length v ≡ 0 → out ≡ sets out to v
+copy-none out to [] e = refl
+copy-none out to (b ∷ v) e = absurd (omega arith)
+
+-- the first, the middle and the last of 1, 2 or 3 bytes are all
+pub copy-three : (out v : List ℕ) (to : ℕ) → 0 < length v → length v < 4
+    → set (set (set out to (getD v 0 0)) (to + length v / 2) (getD v (length v / 2) 0)) (to + (length v - 1)) (getD v (length v - 1) 0) ≡ sets out to v
+copy-three out [] to h g = absurd (omega arith)
+copy-three out (a ∷ []) to h g = rw (add-zero to, set-set (set out to a) to a a, set-set out to a a)
+copy-three out (a ∷ b ∷ []) to h g = rw (add-one to, set-set)
+copy-three out (a ∷ b ∷ d ∷ []) to h g = let n : to + 2 ≡ suc (suc to) = omega arith in rw (n, add-one to)
+copy-three out (a ∷ b ∷ d ∷ e ∷ v) to h g = absurd (omega arith)
+
+-- ---- special bytes
+
+or-swap : (a b c d : Bool) → (a || b) || (c || d) ≡ (a || c) || (b || d)
+or-swap true b c d = refl
+or-swap false true true d = refl
+or-swap false true false d = refl
+or-swap false false c d = refl
+
+or-none : (a b : Bool) → a || b ≡ false → (a ≡ false) × (b ≡ false)
+or-none true b e = absurd (true≢false e)
+or-none false b e = (refl, e)
+
+or-twice : (a b c : Bool) → (a || b) || c ≡ (a || b) || (b || c)
+or-twice true b c = refl
+or-twice false true c = refl
+or-twice false false c = refl
+
+module _ (byte : ℕ) (v : List ℕ) (i : ℕ) (found : Bool) (e : has byte v ≡ found || has byte (drop i v)) where
+  pub has-turn : i < length v → has byte v ≡ (found || eqb (getD v i 0) byte) || has byte (drop (i + 1) v)
+  unfolding has
+  has-turn h = e ∙ rw (add-one i, drop-cons v i 0 h) (sym (or-assoc found (eqb (getD v i 0) byte) (has byte (drop (suc i) v))))
+
+  pub has-end : length v ≤ i → found ≡ has byte v
+  unfolding has
+  has-end h = sym (e ∙ rw (drop-of-length-le v h) (or-false found))
+
+or-four : (a A b B c C d D : Bool) → (a || A) || ((b || B) || ((c || C) || (d || D))) ≡ (a || (b || (c || d))) || (A || (B || (C || D)))
+or-four a A b B c C d D =
+    ap (λ (z : Bool). (a || A) || ((b || B) || z)) (or-swap c C d D) ∙ ap (λ (z : Bool). (a || A) || z) (or-swap b B (c || d) (C || D))
+    ∙ or-swap a A (b || (c || d)) (B || (C || D))
+
+-- a byte is special if it is one of four
+pub special-is : (v : List ℕ) → has quote v || (has comma v || (has carriageReturn v || has lineFeed v)) ≡ anySpecial v
+unfolding has anySpecial special
+special-is [] = refl
+special-is (b ∷ v) =
+    or-four (eqb b quote) (has quote v) (eqb b comma) (has comma v) (eqb b carriageReturn) (has carriageReturn v) (eqb b lineFeed) (has lineFeed v)
+    ∙ ap (λ (z : Bool). special b || z) (special-is v)
+
+special-append : (v w : List ℕ) → anySpecial (v ++ w) ≡ anySpecial v || anySpecial w
 unfolding anySpecial
-any-yes v i h e = rw (drop-cons v i 0 h) (simp e)
+special-append [] w = refl
+special-append (b ∷ v) w = ap (λ (z : Bool). special b || z) (special-append v w) ∙ sym (or-assoc (special b) (anySpecial v) (anySpecial w))
 
-pub any-turn : (v : List ℕ) (i : ℕ) → i < length v → special (getD v i 0) ≡ false → anySpecial (drop i v) ≡ anySpecial (drop (i + 1) v)
-unfolding anySpecial
-any-turn v i h e = rw (add-one i, drop-cons v i 0 h) (simp e)
-
-pub any-out : (v : List ℕ) (i : ℕ) → length v ≤ i → false ≡ anySpecial (drop i v)
-unfolding anySpecial
-any-out v i h = rw (drop-of-length-le v h)
-
-or-assoc : (a b c : Bool) → (a || b) || c ≡ a || (b || c)
-or-assoc true b c = refl
-or-assoc false b c = refl
-
--- n of the bytes before i are special
-abbrev pub Counted : List ℕ → ℕ → ℕ → Type 0
-Counted v i n = (n ≡ 0 → anySpecial (drop i v) ≡ anySpecial v) × ((n ≡ 0 → ⊥) → true ≡ anySpecial v)
-
-pub counted-start : (v : List ℕ) → Counted v 0 0
-counted-start v = (λ e. refl, λ h. absurd (h refl))
-
-pub counted-yes : (v : List ℕ) (i n : ℕ) → i < length v → special (getD v i 0) ≡ true → Counted v i n → Counted v (i + 1) (n + 1)
-counted-yes v i n h e k = (λ z. absurd (omega arith), λ z. go (decLt 0 n))
-  where
-    go : Dec (0 < n) → true ≡ anySpecial v
-    go (yes p) = k .1 (λ z. omega arith)
-    go (no p) = any-yes v i h e ∙ k .0 (omega arith)
-
-pub counted-no : (v : List ℕ) (i n : ℕ) → i < length v → special (getD v i 0) ≡ false → Counted v i n → Counted v (i + 1) n
-counted-no v i n h e k = (λ z. sym (any-turn v i h e) ∙ k .0 z, k .1)
-
--- the first n bytes, and those after them
 special-split : (n : ℕ) (v : List ℕ) → anySpecial v ≡ anySpecial (take n v) || anySpecial (drop n v)
+special-split n v = ap anySpecial (sym (take-append-drop n v)) ∙ special-append (take n v) (drop n v)
+
+-- the first n bytes of v, and those from m on: an overlap is tested twice
+pub special-overlap : (v : List ℕ) (m n : ℕ) → m ≤ n → anySpecial (take n v) || anySpecial (drop m v) ≡ anySpecial v
+special-overlap v m n h =
+    let k = n - m in
+    let e : m + k ≡ n = omega arith in
+    let a = anySpecial (take m v) in
+    let b = anySpecial (take k (drop m v)) in
+    let c = anySpecial (drop n v) in
+    let f : anySpecial (take n v) ≡ a || b = ap (λ (z : ℕ). anySpecial (take z v)) (sym e) ∙ ap anySpecial (take-add m k v) ∙ special-append (take m v) (take k (drop m v)) in
+    let g : anySpecial (drop m v) ≡ b || c = special-split k (drop m v) ∙ rw (drop-drop k m v, e) in
+    rw (f, g) (sym (special-split n v ∙ rw f (or-twice a b c)))
+
+-- k more bytes after the first i, none special
+pub special-more : (v : List ℕ) (i k : ℕ) → anySpecial (take i v) ≡ false → anySpecial (take (i + k - i) (drop i v)) ≡ false → anySpecial (take (i + k) v) ≡ false
+special-more v i k e f =
+    let n : i + k - i ≡ k = omega arith in
+    let g : anySpecial (take k (drop i v)) ≡ false = rw n at f in
+    ap anySpecial (take-add i k v) ∙ special-append (take i v) (take k (drop i v)) ∙ rw (e, g)
+
+pub special-inside : (v : List ℕ) (i k : ℕ) → anySpecial (take k (drop i v)) ≡ true → true ≡ anySpecial v
+special-inside v i k e = sym (special-split i v ∙ rw (special-split k (drop i v), e) (or-true (anySpecial (take i v))))
+
+-- a part of bytes that aren't special
+pub special-part : (v : List ℕ) (i k : ℕ) → anySpecial v ≡ false → anySpecial (take k (drop i v)) ≡ false
+special-part v i k e =
+    let r = or-none (anySpecial (take i v)) (anySpecial (drop i v)) (sym (special-split i v) ∙ e) in
+    or-none (anySpecial (take k (drop i v))) (anySpecial (drop k (drop i v))) (sym (special-split k (drop i v)) ∙ r .1) .0
+
+pub special-none : (v : List ℕ) → length v ≡ 0 → false ≡ anySpecial v
 unfolding anySpecial
-special-split zero v = refl
-special-split (suc n) [] = refl
-special-split (suc n) (b ∷ v) = ap (λ (q : Bool). special b || q) (special-split n v) ∙ sym (or-assoc (special b) (anySpecial (take n v)) (anySpecial (drop n v)))
+special-none [] e = refl
+special-none (b ∷ v) e = absurd (omega arith)
 
-pub chunk-yes : (v : List ℕ) (i n : ℕ) → anySpecial (take n (drop i v)) ≡ true → true ≡ anySpecial (drop i v)
-chunk-yes v i n e = sym (special-split n (drop i v) ∙ simp e)
+-- the first, the middle and the last of 1, 2 or 3 bytes are all
+pub special-three : (v : List ℕ) → 0 < length v → length v < 4 → anySpecial (getD v 0 0 ∷ getD v (length v / 2) 0 ∷ getD v (length v - 1) 0 ∷ []) ≡ anySpecial v
+unfolding anySpecial
+special-three [] h g = absurd (omega arith)
+special-three (a ∷ []) h g = same (special a)
+  where
+    same : (q : Bool) → q || (q || (q || false)) ≡ q || false
+    same true = refl
+    same false = refl
+special-three (a ∷ b ∷ []) h g = same (special a) (special b)
+  where
+    same : (q r : Bool) → q || (r || (r || false)) ≡ q || (r || false)
+    same true r = refl
+    same false true = refl
+    same false false = refl
+special-three (a ∷ b ∷ c ∷ []) h g = refl
+special-three (a ∷ b ∷ c ∷ d ∷ v) h g = absurd (omega arith)
 
-pub chunk-no : (v : List ℕ) (i end : ℕ) → i ≤ end → anySpecial (take (end - i) (drop i v)) ≡ false → anySpecial (drop i v) ≡ anySpecial (drop end v)
-chunk-no v i end h e =
-    let n : i + (end - i) ≡ end = omega arith in
-    special-split (end - i) (drop i v) ∙ simp e (rw (drop-drop (end - i) i v, n))
+-- ---- quotes doubled
 
-pub doubled-split : (n : ℕ) (v : List ℕ) → doubled v ≡ doubled (take n v) ++ doubled (drop n v)
+doubled-split : (n : ℕ) (v : List ℕ) → doubled v ≡ doubled (take n v) ++ doubled (drop n v)
 unfolding doubled
 doubled-split zero v = refl
 doubled-split (suc n) [] = refl
@@ -91,7 +191,7 @@ doubled-split (suc n) (b ∷ v) = go (eqb b quote) (doubled-split n v)
     go false e = ap (λ (l : List ℕ). b ∷ l) e
 
 -- k bytes from an offset on, and those after them
-pub doubled-part : (v : List ℕ) (i k : ℕ) → doubled (drop i v) ≡ doubled (take (i + k - i) (drop i v)) ++ doubled (drop (i + k) v)
+doubled-part : (v : List ℕ) (i k : ℕ) → doubled (drop i v) ≡ doubled (take (i + k - i) (drop i v)) ++ doubled (drop (i + k) v)
 doubled-part v i k =
     let n : i + k - i ≡ k = omega arith in
     rw n (doubled-split k (drop i v) ∙ rw (drop-drop k i v))
@@ -114,6 +214,73 @@ pub doubled-out : (v : List ℕ) (i : ℕ) → length v ≤ i → doubled (drop 
 unfolding doubled
 doubled-out v i h = rw (drop-of-length-le v h)
 
+pub doubled-less : (v : List ℕ) → length v ≤ length (doubled v)
+unfolding doubled
+doubled-less [] = omega arith
+doubled-less (b ∷ v) = go (eqb b quote) (doubled-less v)
+  where
+    go : (t : Bool) → length v ≤ length (doubled v) → suc (length v) ≤ length (pick t (quote ∷ quote ∷ doubled v) (b ∷ doubled v))
+    go true h = omega arith
+    go false h = omega arith
+
+-- bytes without a quote
+pub doubled-plain : (v : List ℕ) → has quote v ≡ false → doubled v ≡ v
+unfolding doubled has
+doubled-plain [] e = refl
+doubled-plain (b ∷ v) e = let q = or-none (eqb b quote) (has quote v) e in simp (q .0) (ap (λ (l : List ℕ). b ∷ l) (doubled-plain v (q .1)))
+
+sets-one : (out : List ℕ) (n b : ℕ) (v w : List ℕ) → v ≡ b ∷ w → sets out n v ≡ sets (set out n b) (n + 1) w
+sets-one out n b v w e = rw (e, add-one n)
+
+sets-two : (out : List ℕ) (n a b : ℕ) (v w : List ℕ) → v ≡ a ∷ b ∷ w → sets out n v ≡ sets (set (set out n a) (n + 1) b) (n + 1 + 1) w
+sets-two out n a b v w e = rw (e, add-one (n + 1), add-one n)
+
+-- how many bytes doubling adds to the byte at i, and what is stored for it: a quote, and the byte after that or over it
+module _ (v : List ℕ) (i q : ℕ) (h : i < length v) (z : q ≡ pick (eqb (getD v i 0) quote) 1 0) where
+  pub each-size : length (doubled (drop i v)) ≡ q + 1 + length (doubled (drop (i + 1) v))
+  each-size = go (eqb (getD v i 0) quote) refl z
+    where
+      go : (t : Bool) → eqb (getD v i 0) quote ≡ t → q ≡ pick t 1 0 → length (doubled (drop i v)) ≡ q + 1 + length (doubled (drop (i + 1) v))
+      go true e y = omega (arith, ap length (doubled-quote v i h (eqb-true (getD v i 0) quote e)))
+      go false e y = omega (arith, ap length (doubled-byte v i h (eqb-false (getD v i 0) quote e)))
+
+  pub each-turn : (out : List ℕ) (n : ℕ) → sets out (n + i) (doubled (drop i v)) ≡ sets (set (set out (n + i) quote) (n + q + i) (getD v i 0)) (n + q + (i + 1)) (doubled (drop (i + 1) v))
+  each-turn out n = go (eqb (getD v i 0) quote) refl z
+    where
+      go : (t : Bool) → eqb (getD v i 0) quote ≡ t → q ≡ pick t 1 0 → sets out (n + i) (doubled (drop i v)) ≡ sets (set (set out (n + i) quote) (n + q + i) (getD v i 0)) (n + q + (i + 1)) (doubled (drop (i + 1) v))
+      go true e y =
+          let a : n + q + i ≡ n + i + 1 = omega arith in
+          let b : n + q + (i + 1) ≡ n + i + 1 + 1 = omega arith in
+          rw (a, b) (sets-two out (n + i) quote (getD v i 0) _ _ (doubled-quote v i h (eqb-true (getD v i 0) quote e)))
+      go false e y =
+          let a : n + q + i ≡ n + i = omega arith in
+          let b : n + q + (i + 1) ≡ n + i + 1 = omega arith in
+          rw (a, b, set-set out (n + i) quote (getD v i 0)) (sets-one out (n + i) (getD v i 0) _ _ (doubled-byte v i h (eqb-false (getD v i 0) quote e)))
+
+-- k more bytes without a quote after the first i
+pub plain-more : (v : List ℕ) (i k : ℕ) → doubled v ≡ take i v ++ doubled (drop i v) → has quote (take (i + k - i) (drop i v)) ≡ false → doubled v ≡ take (i + k) v ++ doubled (drop (i + k) v)
+plain-more v i k e q =
+    let n : i + k - i ≡ k = omega arith in
+    let f : has quote (take k (drop i v)) ≡ false = rw n at q in
+    let d : doubled (drop i v) ≡ take k (drop i v) ++ doubled (drop (i + k) v) = (rw n at (doubled-part v i k)) ∙ ap (λ (l : List ℕ). l ++ doubled (drop (i + k) v)) (doubled-plain (take k (drop i v)) f) in
+    e ∙ ap (λ (l : List ℕ). take i v ++ l) d ∙ sym (append-assoc (take i v) (take k (drop i v)) (doubled (drop (i + k) v)))
+    ∙ ap (λ (l : List ℕ). l ++ doubled (drop (i + k) v)) (sym (take-add i k v))
+
+-- the first i bytes are copied and the rest is left
+pub plain-left : (v out o : List ℕ) (to i : ℕ) → i ≤ length v → doubled v ≡ take i v ++ doubled (drop i v) → o ≡ sets out to (take i v)
+    → (to + i + length (doubled (drop i v)) ≡ to + length (doubled v)) × (sets o (to + i) (doubled (drop i v)) ≡ sets out to (doubled v))
+plain-left v out o to i h e f =
+    let n : length (take i v) ≡ i = length-take-le i v h in
+    (omega (arith, ap length e, length-append (take i v) (doubled (drop i v)), n), rw (f, e) (next out (take i v) (doubled (drop i v)) to i n))
+
+-- k more bytes are stored, quotes doubled, of those left from i on
+module _ (v out o : List ℕ) (i k n r : ℕ) (e : r ≡ n + length (doubled (take (i + k - i) (drop i v)))) where
+  pub part-size : n + length (doubled (drop i v)) ≡ r + length (doubled (drop (i + k) v))
+  part-size = omega (arith, ap length (doubled-part v i k), length-append (doubled (take (i + k - i) (drop i v))) (doubled (drop (i + k) v)))
+
+  pub part-sets : o ≡ sets out n (doubled (take (i + k - i) (drop i v))) → sets out n (doubled (drop i v)) ≡ sets o r (doubled (drop (i + k) v))
+  part-sets f = ap (sets out n) (doubled-part v i k) ∙ sets-append out n (doubled (take (i + k - i) (drop i v))) (doubled (drop (i + k) v)) ∙ rw (f, e)
+
 -- quotes counted in 64 more bytes, and in the rest
 pub count-turn : (v : List ℕ) (i n q : ℕ) → 64 ≤ length v - i → q + length (take (i + 64 - i) (drop i v)) ≡ length (doubled (take (i + 64 - i) (drop i v)))
     → n + length (doubled (drop i v)) ≡ length (doubled v) + (length v - i) → n + q + length (doubled (drop (i + 64) v)) ≡ length (doubled v) + (length v - (i + 64))
@@ -128,26 +295,7 @@ count-end v i n q h e f =
     let g = ap (λ (l : List ℕ). length (doubled l)) (rest-is v i) in
     omega (arith, d, e, f, g, length-drop i v)
 
-pub doubled-less : (v : List ℕ) → length v ≤ length (doubled v)
-unfolding doubled
-doubled-less [] = omega arith
-doubled-less (b ∷ v) = go (eqb b quote) (doubled-less v)
-  where
-    go : (t : Bool) → length v ≤ length (doubled v) → suc (length v) ≤ length (pick t (quote ∷ quote ∷ doubled v) (b ∷ doubled v))
-    go true h = omega arith
-    go false h = omega arith
-
--- a value that isn't longer with its quotes doubled has none
-pub doubled-same : (v : List ℕ) → length (doubled v) ≡ length v → doubled v ≡ v
-unfolding doubled
-doubled-same [] e = refl
-doubled-same (b ∷ v) e = go (eqb b quote) (doubled-same v) e
-  where
-    go : (t : Bool) → (length (doubled v) ≡ length v → doubled v ≡ v) → length (pick t (quote ∷ quote ∷ doubled v) (b ∷ doubled v)) ≡ suc (length v) → pick t (quote ∷ quote ∷ doubled v) (b ∷ doubled v) ≡ b ∷ v
-    go true f h = absurd (omega (arith, doubled-less v))
-    go false f h = ap (λ (l : List ℕ). b ∷ l) (f (omega arith))
-
-pub field-quoted : (v : List ℕ) → anySpecial v ≡ true → fieldOf v ≡ quote ∷ doubled v ++ (quote ∷ [])
+pub field-quoted : (v : List ℕ) → anySpecial v ≡ true → fieldOf v ≡ quotedOf v
 unfolding fieldOf
 field-quoted v e = simp e
 
@@ -155,189 +303,27 @@ pub field-same : (v : List ℕ) → anySpecial v ≡ false → fieldOf v ≡ v
 unfolding fieldOf
 field-same v e = simp e
 
-pub quoted-length : (v : List ℕ) → length (quote ∷ doubled v ++ (quote ∷ [])) ≡ length (doubled v) + 2
+pub quoted-length : (v : List ℕ) → length (quotedOf v) ≡ length (doubled v) + 2
 quoted-length v = simp length-append (omega arith)
 
-pub sets-one : (out : List ℕ) (n b : ℕ) (v w : List ℕ) → v ≡ b ∷ w → sets out n v ≡ sets (set out n b) (n + 1) w
-sets-one out n b v w e = rw (e, add-one n)
-
-pub sets-two : (out : List ℕ) (n a b : ℕ) (v w : List ℕ) → v ≡ a ∷ b ∷ w → sets out n v ≡ sets (set (set out n a) (n + 1) b) (n + 1 + 1) w
-sets-two out n a b v w e = rw (e, add-one (n + 1), add-one n)
-
-pub twice-set : (out : List ℕ) (n a m b k : ℕ) → length out ≡ k → length (set (set out n a) m b) ≡ k
-twice-set out n a m b k e = length-set (set out n a) m b ∙ length-set out n a ∙ e
-
--- ---- from quote to quote
-
-pub sets-pair : (out : List ℕ) (n a b : ℕ) (v w : List ℕ) → v ≡ a ∷ b ∷ w → sets out n v ≡ sets (set (set out n a) (n + 1) b) (n + 2) w
-sets-pair out n a b v w e = let m : n + 2 ≡ n + 1 + 1 = omega arith in rw m (sets-two out n a b v w e)
-
-set-early : (o : List ℕ) (k m c : ℕ) (b : List ℕ) → k < m → set (sets o m b) k c ≡ sets (set o k c) m b
-set-early o k m c [] h = refl
-set-early o k m c (x ∷ b) h = set-early (set o m x) k (suc m) c b (omega arith) ∙ ap (λ (l : List ℕ). sets l (suc m) b) (set-comm o m k x c (λ e. omega arith))
-
--- what is overwritten might as well not have been written
-pub sets-over : (o : List ℕ) (k : ℕ) (b c : List ℕ) → length b ≤ length c → sets (sets o k b) k c ≡ sets o k c
-sets-over o k [] c h = refl
-sets-over o k (x ∷ b) [] h = absurd (omega arith)
-sets-over o k (x ∷ b) (y ∷ c) h =
-    let e : set (sets (set o k x) (suc k) b) k y ≡ sets (set o k y) (suc k) b = set-early (set o k x) k (suc k) y b (omega arith) ∙ ap (λ (l : List ℕ). sets l (suc k) b) (set-set o k x y) in
-    ap (λ (l : List ℕ). sets l (suc k) c) e ∙ sets-over (set o k y) (suc k) b c (omega arith)
-
-pub sets-all : (o v : List ℕ) → length o ≡ length v → sets o 0 v ≡ v
-sets-all o v h =
-    let m : length o ≤ 0 + length v = omega arith in
-    sets-eq v o 0 (omega arith) ∙ ap (λ (l : List ℕ). v ++ l) (drop-of-length-le o m) ∙ append-nil v
-
-pub plain-doubled : (n : ℕ) (x : List ℕ) → n ≤ length x → ((j : ℕ) → j < n → getD x j 0 ≡ quote → ⊥) → doubled x ≡ take n x ++ doubled (drop n x)
-unfolding doubled
-plain-doubled zero x h q = refl
-plain-doubled (suc n) [] h q = absurd (omega arith)
-plain-doubled (suc n) (b ∷ x) h q = simp (ne-eqb b quote (q 0 (omega arith))) (ap (λ (l : List ℕ). b ∷ l) (plain-doubled n x (omega arith) (λ j k. q (suc j) (omega arith))))
-
--- r bytes without a quote, of k that are written
-module _ (v : List ℕ) (i r k : ℕ) (h : r ≤ k) (g : k ≤ length v - i) (q : (j : ℕ) → j < r → getD (drop i v) j 0 ≡ quote → ⊥) where
-  run-doubled : doubled (drop i v) ≡ take r (drop i v) ++ doubled (drop (i + r) v)
-  run-doubled = plain-doubled r (drop i v) (omega (arith, length-drop i v)) q ∙ rw (drop-drop r i v)
-
-  run-length : length (take r (drop i v)) ≡ r
-  run-length = omega (arith, length-take r (drop i v), length-drop i v)
-
-  run-size : length (doubled (drop i v)) ≡ r + length (doubled (drop (i + r) v))
-  run-size = ap length run-doubled ∙ length-append (take r (drop i v)) (doubled (drop (i + r) v)) ∙ rw run-length
-
-  run-sets : (out : List ℕ) (n : ℕ) → sets out n (doubled (drop i v)) ≡ sets (sets out n (take k (drop i v))) (n + r) (doubled (drop (i + r) v))
-  run-sets out n =
-      let a = take r (drop i v) in
-      let b = take (k - r) (drop r (drop i v)) in
-      let c = doubled (drop (i + r) v) in
-      let m : r + (k - r) ≡ k = omega arith in
-      let w : take k (drop i v) ≡ a ++ b = ap (λ (z : ℕ). take z (drop i v)) (sym m) ∙ take-add r (k - r) (drop i v) in
-      let s : length b ≤ length c = omega (arith, length-take (k - r) (drop r (drop i v)), ap length (drop-drop r i v), length-drop (i + r) v, doubled-less (drop (i + r) v)) in
-      let p : n + length a ≡ n + r = ap (λ (z : ℕ). n + z) run-length in
-      let t : sets out n (take k (drop i v)) ≡ sets (sets out n a) (n + r) b = ap (sets out n) w ∙ sets-append out n a b ∙ ap (λ (z : ℕ). sets (sets out n a) z b) p in
-      ap (sets out n) run-doubled ∙ sets-append out n a c ∙ ap (λ (z : ℕ). sets (sets out n a) z c) p ∙ sym (sets-over (sets out n a) (n + r) b c s) ∙ ap (λ (l : List ℕ). sets l (n + r) c) (sym t)
-
--- what a run does: o is what out becomes, r how many bytes it goes on by
-pub record Ran (v out o : List ℕ) (i n r : ℕ) : Type 0 where
-  pub inside : i + r ≤ length v
-  pub size : length (doubled (drop i v)) ≡ r + length (doubled (drop (i + r) v))
-  pub lengthKept : length o ≡ length out
-  pub is : sets out n (doubled (drop i v)) ≡ sets o (n + r) (doubled (drop (i + r) v))
-  pub atQuote : r < 64 → (length (doubled (drop i v)) ≡ length v - i → ⊥) → (i + r < length v) × (getD v (i + r) 0 ≡ quote)
-
-module _ (v out o : List ℕ) (i n r : ℕ) (h : i ≤ length v) where
-  far : 64 ≤ length v - i → FirstQuote (take 64 (drop i v)) r → o ≡ sets out n (take 64 (drop i v)) → Ran v out o i n r
-  far g f e =
-      let l : length (take 64 (drop i v)) ≡ 64 = omega (arith, length-take 64 (drop i v), length-drop i v) in
-      let m : r ≤ 64 = omega (arith, l, f .0) in
-      let q : (j : ℕ) → j < r → getD (drop i v) j 0 ≡ quote → ⊥ = λ j k z. f .1 j k (getD-take 64 (drop i v) j 0 (omega arith) ∙ z) in
-      record {
-        inside = omega arith;
-        size = run-size v i r 64 m g q;
-        lengthKept = ap length e ∙ length-sets out n (take 64 (drop i v));
-        is = run-sets v i r 64 m g q out n ∙ rw e;
-        atQuote = λ s d. (omega arith, sym (getD-drop i v r 0) ∙ sym (getD-take 64 (drop i v) r 0 s) ∙ f .2 (omega (arith, l)));
-      }
-
-  close : length v - i < 64 → FirstQuote (drop i v) r → o ≡ sets out n (take r (drop i v)) → Ran v out o i n r
-  close g f e =
-      let l = length-drop i v in
-      let m : r ≤ length v - i = omega (arith, l, f .0) in
-      let z = run-size v i r r (omega arith) m (f .1) in
-      let less : (length (doubled (drop i v)) ≡ length v - i → ⊥) → r < length (drop i v) = λ d. go (decLt r (length (drop i v))) d in
-      record {
-        inside = omega arith;
-        size = z;
-        lengthKept = ap length e ∙ length-sets out n (take r (drop i v));
-        is = run-sets v i r r (omega arith) m (f .1) out n ∙ rw e;
-        atQuote = λ s d. (omega (arith, l, less d), sym (getD-drop i v r 0) ∙ f .2 (less d));
-      }
-    where
-      out-of : length v ≤ i + r → length (doubled (drop (i + r) v)) ≡ 0
-      out-of k = ap length (doubled-out v (i + r) k)
-
-      go : Dec (r < length (drop i v)) → (length (doubled (drop i v)) ≡ length v - i → ⊥) → r < length (drop i v)
-      go (yes p) d = p
-      go (no p) d = absurd (d (omega (arith, f .0, length-drop i v, run-size v i r r (omega arith) (omega (arith, length-drop i v, f .0)) (f .1), out-of (omega (arith, length-drop i v)))))
-
-  pub ran : FirstQuote (take 64 (take (length v - i) (drop i v))) r → o ≡ sets out n (take (pick (leb 64 (length (take (length v - i) (drop i v)))) 64 r) (take (length v - i) (drop i v))) → Ran v out o i n r
-  ran f e =
-      let f' : FirstQuote (take 64 (drop i v)) r = rw (rest-is v i) at f in
-      let e' : o ≡ sets out n (take (pick (leb 64 (length (drop i v))) 64 r) (drop i v)) = rw (rest-is v i) at e in
-      go (decLt (length v - i) 64) f' e'
-    where
-      go : Dec (length v - i < 64) → FirstQuote (take 64 (drop i v)) r → o ≡ sets out n (take (pick (leb 64 (length (drop i v))) 64 r) (drop i v)) → Ran v out o i n r
-      go (yes p) f e =
-          let s : length (drop i v) < 64 = omega (arith, length-drop i v) in
-          let f' : FirstQuote (drop i v) r = rw (take-all 64 (drop i v) (omega arith)) at f in
-          let e' : o ≡ sets out n (take r (drop i v)) = rw (lt-leb 64 (length (drop i v)) s) at e in
-          close p f' e'
-      go (no p) f e =
-          let s : 64 ≤ length (drop i v) = omega (arith, length-drop i v) in
-          let e' : o ≡ sets out n (take 64 (drop i v)) = rw (le-leb 64 (length (drop i v)) s) at e in
-          far (omega arith) f e'
-
-pub run-quote : (v out o : List ℕ) (i n r : ℕ) → Ran v out o i n r → r < 64 → (length (doubled (drop i v)) ≡ length v - i → ⊥) → (i + r < length v) × (doubled (drop (i + r) v) ≡ quote ∷ quote ∷ doubled (drop (i + r + 1) v))
-run-quote v out o i n r x h d =
-    let q = x .atQuote h d in
-    (q .0, doubled-quote v (i + r) (q .0) (q .1) ∙ ap (λ (b : ℕ). quote ∷ b ∷ doubled (drop (i + r + 1) v)) (q .1))
-
-pub run-close : (v out o : List ℕ) (to r : ℕ) → length v < 64 → FirstQuote v r → o ≡ sets out to (take (r - 0) v) → FirstQuote (take 64 v) r × (o ≡ sets out to (take (pick (leb 64 (length v)) 64 r) v))
-run-close v out o to r h f e =
-    let z : r - 0 ≡ r = omega arith in
-    (rw (take-all 64 v (omega arith)) f, rw (lt-leb 64 (length v) h) (e ∙ ap (λ (m : ℕ). sets out to (take m v)) z))
-
-pub run-far : (v out o : List ℕ) (to r : ℕ) → 64 ≤ length v → FirstQuote (take 64 v) r → o ≡ sets out to (take 64 v) → FirstQuote (take 64 v) r × (o ≡ sets out to (take (pick (leb 64 (length v)) 64 r) v))
-run-far v out o to r h f e = (f, rw (le-leb 64 (length v) h) e)
-
--- n is the least index of a quote before i, the length if there is none
-abbrev pub Least : List ℕ → ℕ → ℕ → Type 0
-Least v i n = (n ≤ length v) × ((j : ℕ) → j < n → j < i → getD v j 0 ≡ quote → ⊥) × (n < length v → (n < i) × (getD v n 0 ≡ quote))
-
-pub least-start : (v : List ℕ) → Least v 0 (length v)
-least-start v = (omega arith, λ j a b e. omega arith, λ h. absurd (omega arith))
-
-pub least-turn : (v : List ℕ) (i n m : ℕ) → i < length v → m ≡ min (pick (eqb (getD v i 0) quote) i (length v)) n → Least v i n → Least v (i + 1) m
-least-turn v i n m h e l = go (eqb (getD v i 0) quote) refl (decLt n (length v)) e
-  where
-    go : (q : Bool) → eqb (getD v i 0) quote ≡ q → Dec (n < length v) → m ≡ min (pick q i (length v)) n → Least v (i + 1) m
-    go true s (yes d) e =
-        let p = l .2 d in
-        let z : m ≡ n = omega (arith, p .0) in
-        rw z (l .0, λ j a b. l .1 j a (omega (arith, p .0)), λ k. (omega (arith, p .0), p .1))
-    go true s (no d) e =
-        let z : m ≡ i = omega (arith, l .0) in
-        rw z (omega arith, λ j a b. l .1 j (omega (arith, l .0)) a, λ k. (omega arith, eqb-true (getD v i 0) quote s))
-    go false s d e =
-        let z : m ≡ n = omega (arith, l .0) in
-        rw z (l .0, λ j a b w. not-there j a b w (decLt j i), λ k. let p = l .2 k in (omega (arith, p .0), p .1))
-      where
-        not-there : (j : ℕ) → j < n → j < i + 1 → getD v j 0 ≡ quote → Dec (j < i) → ⊥
-        not-there j a b w (yes y) = l .1 j a y w
-        not-there j a b w (no y) =
-            let x : j ≡ i = omega arith in
-            let u : getD v i 0 ≡ quote = rw x at w in
-            let t : _≡_ {A = Bool} true false = sym (eq-eqb (getD v i 0) quote u) ∙ s in
-            absurd (let z : _≡_ {A = ℕ} 0 1 = cc in omega arith)
-
-pub least-end : (v : List ℕ) (i n : ℕ) → length v ≤ i → Least v i n → FirstQuote v n
-least-end v i n h l = (l .0, λ j a. l .1 j a (omega (arith, l .0)), λ k. l .2 k .1)
+pub quoted-sets : (out : List ℕ) (to : ℕ) (v : List ℕ) → sets out to (quotedOf v) ≡ set (sets (set out to quote) (to + 1) (doubled v)) (to + 1 + length (doubled v)) quote
+quoted-sets out to v = rw (add-one to) (sets-append (set out to quote) (suc to) (doubled v) (quote ∷ []))
 
 -- ---- the row
+
 pub field-less : (v : List ℕ) → length v ≤ length (fieldOf v)
 unfolding fieldOf
 field-less v = go (anySpecial v)
   where
-    go : (t : Bool) → length v ≤ length (pick t (quote ∷ doubled v ++ (quote ∷ [])) v)
+    go : (t : Bool) → length v ≤ length (pick t (quotedOf v) v)
     go true = omega (arith, quoted-length v, doubled-less v)
     go false = omega arith
 
-pub row-length : (v : List ℕ) (vs : List (List ℕ)) → length (rowOf (v ∷ vs)) ≡ length (fieldOf v) + 1 + length (rowOf vs)
+row-length : (v : List ℕ) (vs : List (List ℕ)) → length (rowOf (v ∷ vs)) ≡ length (fieldOf v) + 1 + length (rowOf vs)
 unfolding rowOf
 row-length v vs = simp length-append (omega arith)
 
-pub row-sets : (out : List ℕ) (to : ℕ) (v : List ℕ) (vs : List (List ℕ)) → sets out to (rowOf (v ∷ vs)) ≡ sets (set (sets out to (fieldOf v)) (to + length (fieldOf v)) (delimiter vs)) (to + length (fieldOf v) + 1) (rowOf vs)
+row-sets : (out : List ℕ) (to : ℕ) (v : List ℕ) (vs : List (List ℕ)) → sets out to (rowOf (v ∷ vs)) ≡ sets (set (sets out to (fieldOf v)) (to + length (fieldOf v)) (delimiter vs)) (to + length (fieldOf v) + 1) (rowOf vs)
 unfolding rowOf
 row-sets out to v vs = rw (add-one (to + length (fieldOf v))) (sets-append out to (fieldOf v) (delimiter vs ∷ rowOf vs))
 
@@ -359,7 +345,7 @@ drop-min n l = go (decLt n (length l))
 abbrev pub left : List ℕ → List ℕ → ℕ → ℕ → List (List ℕ)
 left texts lengths k from = cutBy (drop k lengths) (drop from texts)
 
-pub left-turn : (texts lengths : List ℕ) (k from n : ℕ) → k < length lengths → from ≤ length texts → n ≡ min (getD lengths k 0) (length texts - from)
+left-turn : (texts lengths : List ℕ) (k from n : ℕ) → k < length lengths → from ≤ length texts → n ≡ min (getD lengths k 0) (length texts - from)
     → left texts lengths k from ≡ take (from + n - from) (drop from texts) ∷ left texts lengths (k + 1) (from + n)
 unfolding cutBy
 left-turn texts lengths k from n h i e =
@@ -369,7 +355,7 @@ left-turn texts lengths k from n h i e =
     let d : drop (from + n) texts ≡ drop (getD lengths k 0) (drop from texts) = sym (drop-drop n from texts) ∙ rw m (drop-min (getD lengths k 0) (drop from texts)) in
     rw (add-one k, drop-cons lengths k 0 h, a, t, d)
 
-pub left-none : (texts lengths : List ℕ) (k from : ℕ) → length lengths ≤ k → left texts lengths k from ≡ []
+left-none : (texts lengths : List ℕ) (k from : ℕ) → length lengths ≤ k → left texts lengths k from ≡ []
 unfolding cutBy
 left-none texts lengths k from h = rw (drop-of-length-le lengths h)
 
@@ -393,9 +379,6 @@ doubled-most (b ∷ v) = go (eqb b quote) (doubled-most v)
 pub quoted-size : (v : List ℕ) → anySpecial v ≡ true → length (fieldOf v) ≡ length (doubled v) + 2
 quoted-size v e = ap length (field-quoted v e) ∙ quoted-length v
 
-pub quoted-sets : (out : List ℕ) (to : ℕ) (v : List ℕ) → anySpecial v ≡ true → sets out to (fieldOf v) ≡ set (sets (set out to quote) (to + 1) (doubled v)) (to + 1 + length (doubled v)) quote
-quoted-sets out to v e = rw (field-quoted v e, add-one to) (sets-append (set out to quote) (suc to) (doubled v) (quote ∷ []))
-
 module _ (texts lengths : List ℕ) (k from n : ℕ) (h : k < length lengths) (i : from ≤ length texts) (e : n ≡ min (getD lengths k 0) (length texts - from)) where
   pub size-turn : length (rowOf (left texts lengths k from)) ≡ length (fieldOf (take (from + n - from) (drop from texts))) + 1 + length (rowOf (left texts lengths (k + 1) (from + n)))
   size-turn = rw (left-turn texts lengths k from n h i e) (row-length (take (from + n - from) (drop from texts)) (left texts lengths (k + 1) (from + n)))
@@ -418,44 +401,13 @@ pub field-bound : (v : List ℕ) → length (fieldOf v) ≤ length v + length v 
 unfolding fieldOf
 field-bound v = go (anySpecial v)
   where
-    go : (t : Bool) → length (pick t (quote ∷ doubled v ++ (quote ∷ [])) v) ≤ length v + length v + 2
+    go : (t : Bool) → length (pick t (quotedOf v) v) ≤ length v + length v + 2
     go true = omega (arith, quoted-length v, doubled-most v)
     go false = omega arith
 
--- a field as long as its value is its value; one of another size is quoted
-pub field-plain : (v : List ℕ) → length (fieldOf v) ≡ length v → fieldOf v ≡ v
-unfolding fieldOf
-field-plain v e = go (anySpecial v) e
-  where
-    go : (t : Bool) → length (pick t (quote ∷ doubled v ++ (quote ∷ [])) v) ≡ length v → pick t (quote ∷ doubled v ++ (quote ∷ [])) v ≡ v
-    go true h = absurd (omega (arith, quoted-length v, doubled-less v))
-    go false h = refl
-
-pub field-special : (v : List ℕ) → (length (fieldOf v) ≡ length v → ⊥) → anySpecial v ≡ true
-field-special v h = go (anySpecial v) refl
-  where
-    go : (t : Bool) → anySpecial v ≡ t → t ≡ true
-    go true e = refl
-    go false e = absurd (h (ap length (field-same v e)))
-
--- ---- the sizes of the fields
-
--- what is to be shown of the sizes of all values, if those before k are known
-abbrev pub Known : List ℕ → ℕ → List (List ℕ) → List (List ℕ) → Type 0
-Known sizes k all vs = (s : List ℕ) → ((j : ℕ) → j < k → getD s j 0 ≡ getD sizes j 0) → Sizes s k vs → Sizes s 0 all
-
-pub known-start : (sizes : List ℕ) (all : List (List ℕ)) → Known sizes 0 all all
-known-start sizes all s e z = z
-
-pub known-turn : (sizes : List ℕ) (k : ℕ) (all vs ws : List (List ℕ)) (v : List ℕ) (size : ℕ) → k < length sizes → vs ≡ v ∷ ws → size ≡ length (fieldOf v) → Known sizes k all vs
-    → Known (set sizes k size) (k + 1) all ws
-known-turn sizes k all vs ws v size h e q known s same z =
-    let a : getD s k 0 ≡ length (fieldOf v) = same k (omega arith) ∙ getD-set-same sizes k size 0 h ∙ q in
-    let b : Sizes s k (v ∷ ws) = (a, z) in
-    known s (λ j l. same j (omega arith) ∙ getD-set-other sizes k j size 0 (λ d. omega arith)) (rw e b)
-
-pub known-end : (sizes : List ℕ) (k : ℕ) (all vs : List (List ℕ)) → vs ≡ [] → Known sizes k all vs → Sizes sizes 0 all
-known-end sizes k all vs e known = known sizes (λ j l. refl) (rw e tt)
-
-pub sizes-turn : (sizes : List ℕ) (k : ℕ) (vs ws : List (List ℕ)) (v : List ℕ) → vs ≡ v ∷ ws → Sizes sizes k vs → (getD sizes k 0 ≡ length (fieldOf v)) × Sizes sizes (k + 1) ws
-sizes-turn sizes k vs ws v e z = rw e at z
+-- the most that a row can have
+pub row-bound : (lengths texts : List ℕ) → length (rowOf (cutBy lengths texts)) ≤ length texts + length texts + length lengths * 3
+unfolding rowOf cutBy
+row-bound [] texts = omega arith
+row-bound (n ∷ ns) texts =
+    omega (arith, row-length (take n texts) (cutBy ns (drop n texts)), field-bound (take n texts), row-bound ns (drop n texts), length-take n texts, length-drop n texts)

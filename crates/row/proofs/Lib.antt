@@ -1,4 +1,3 @@
 pub mod Laws
-pub mod Blocks
 pub mod Calls
 pub mod Names

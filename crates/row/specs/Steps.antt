@@ -1,18 +1,23 @@
 -- What the private functions promise each other. Nothing here says what a row is.
-use Prim.Native.Nat.{ℕ, _+_, _≤_, _<_}
-use mathlib.Core.Path.{_≡_}
+use Prim.Native.Nat.{ℕ}
+use mathlib.Core.Bool.{Bool, false, _||_}
 use mathlib.Core.List.{List, [], _∷_, _++_}
-use lib.ListN.{length, getD}
-use Rattle.csv.specs.Write.{fieldOf}
+use lib.Dec.{eqb}
+use Rattle.csv.specs.Write.{doubled}
 use Rattle.row.specs.Columns.{columns, line}
 use Rattle.csv.specs.Csv.{quote}
 
--- how many bytes are copied or counted at once, and how many are tested for special bytes
-abbrev pub atOnce : ℕ
-atOnce = 64
+-- how many bytes are copied or tested at once
+abbrev pub blockSize : ℕ
+blockSize = 16
 
-abbrev pub searched : ℕ
-searched = 32
+-- how many are counted at once
+abbrev pub countedSize : ℕ
+countedSize = 64
+
+-- the most that a row has for each value beside its bytes: two quotes and a delimiter
+abbrev pub valueEnds : ℕ
+valueEnds = 3
 
 -- the names lines of tables, joined
 unfoldable pub lines : List (List (List ℕ)) → List ℕ
@@ -22,11 +27,11 @@ lines (c ∷ cs) = line c ++ lines cs
 unfoldable pub allLines : List ℕ
 allLines = lines columns
 
--- `sizes` has, from index k on, the sizes of the fields of some values
-abbrev pub Sizes : List ℕ → ℕ → List (List ℕ) → Type 0
-Sizes sizes k [] = Unit {0}
-Sizes sizes k (v ∷ vs) = (getD sizes k 0 ≡ length (fieldOf v)) × Sizes sizes (k + 1) vs
+-- a byte is among others
+unfoldable pub has : ℕ → List ℕ → Bool
+has b [] = false
+has b (x ∷ v) = eqb x b || has b v
 
--- n is the index of the first quote, or the length if there is none
-abbrev pub FirstQuote : List ℕ → ℕ → Type 0
-FirstQuote v n = (n ≤ length v) × ((j : ℕ) → j < n → getD v j 0 ≡ quote → ⊥) × (n < length v → getD v n 0 ≡ quote)
+-- a value with a special byte as it is written
+abbrev pub quotedOf : List ℕ → List ℕ
+quotedOf v = quote ∷ doubled v ++ (quote ∷ [])

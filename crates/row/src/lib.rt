@@ -1,5 +1,8 @@
 // The lines of a table as they are written: its column names, and a row. Every public function accepts any input.
+mod copy;
+mod quoted;
 mod size;
+mod special;
 mod write;
 
 ghost use Rattle.row.specs.Claims.{Claims};
@@ -11,12 +14,13 @@ ghost use Rattle.row.specs.Columns.{columnCount, namesLine};
 ghost use Rattle.row.specs.Write.{passedValues, within, after, namesAnswer, rowAnswer};
 ghost use Rattle.row.specs.Steps.{allLines};
 ghost use Rattle.base.specs.Table.{maxTables};
+use crate::copy::copy;
+use crate::size::longest_fits;
 use crate::size::row_size;
-use crate::write::copy;
+use crate::special::any_special;
 use crate::write::put_row;
 use base::table::LAST_TABLE;
 use base::table::TABLES;
-use csv::MAX_COLUMNS;
 use csv::MAX_ROW;
 use refusal::Refusal;
 
@@ -26,23 +30,15 @@ pub enum RowAnswer {
     Refused(Refusal),
 }
 
-// How many bytes are copied or counted at once, and with one quote doubled.
-const AT_ONCE: usize = 64;
+// How many bytes are copied or tested at once: a block, a word, half a word.
+const BLOCK: usize = 16;
 
-const TWICE_AT_ONCE: usize = AT_ONCE + AT_ONCE;
+const WORD: usize = 8;
 
-const QUOTED_BLOCK: usize = AT_ONCE + 1;
+const HALF_WORD: usize = 4;
 
-// How many bytes are tested for special ones at once, and from how many on this is done.
-const SEARCHED: usize = 32;
-
-const SEARCH_FROM: usize = 16;
-
-// A value has few quotes if fewer than one in this many bytes is one.
-const FEW_QUOTES: usize = 16;
-
-// The two quotes around a value, or two quotes for one.
-const TWO_QUOTES: usize = 2;
+// The middle of 1, 2 or 3 bytes is at half their number.
+const HALVES: usize = 2;
 
 // The offset of each table's names line among all of them, and their end.
 const LINE_OFFSETS: usize = TABLES + 1;
@@ -105,16 +101,17 @@ pub fn row(table: u32, texts: &[u8], lengths: &[u32], out: &mut [u8]) -> RowAnsw
     if lengths.len() != column_count(table) {
         return RowAnswer::Refused(Refusal::Row);
     }
-    let mut sizes: [usize; MAX_COLUMNS] = [0; MAX_COLUMNS];
-    let size = row_size(texts, lengths, &mut sizes);
+    if longest_fits(texts.len(), lengths.len(), out.len()) {
+        return RowAnswer::Written(put_row(texts, lengths, any_special(texts), out));
+    }
+    let size = row_size(texts, lengths);
     if MAX_ROW < size {
         return RowAnswer::Refused(Refusal::Row);
     }
     if out.len() < size {
         return RowAnswer::Refused(Refusal::Small);
     }
-    put_row(texts, lengths, &sizes, out);
-    RowAnswer::Written(size)
+    RowAnswer::Written(put_row(texts, lengths, true, out))
 }
 
 // What holds of the column names. The function does nothing: its contract is what is proved of the definitions

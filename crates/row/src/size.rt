@@ -1,98 +1,54 @@
-// How many bytes a value's field and a row have.
+// How many bytes a row has, and the most that it can have.
 ghost use mathlib.Core.Path.{_≡_};
-ghost use Prim.Native.Nat.{_+_, _-_, _≤_, _<_, min};
-ghost use lib.ListN.{length, drop};
-ghost use Rattle.csv.specs.Write.{special, anySpecial, doubled, fieldOf, rowOf};
+ghost use mathlib.Core.Bool.{true};
+ghost use Prim.Native.Nat.{_+_, _*_, _≤_, min};
+ghost use lib.ListN.{length};
+ghost use Rattle.csv.specs.Csv.{maxColumns, maxRow};
+ghost use Rattle.csv.specs.Write.{doubled, fieldOf, rowOf};
+ghost use Rattle.row.specs.Steps.{countedSize, valueEnds};
 ghost use Rattle.row.specs.Write.{passedValues};
-ghost use Rattle.row.specs.Steps.{Sizes, atOnce, searched};
-ghost use Rattle.csv.specs.Csv.{maxRow};
-use crate::AT_ONCE;
-use crate::SEARCH_FROM;
-use crate::SEARCHED;
-use crate::TWO_QUOTES;
-use csv::COMMA;
-use csv::CR;
-use csv::LF;
+use crate::special::any_special;
 use csv::MAX_ROW;
 use csv::QUOTE;
+
+// How many bytes are counted at once: few enough for a count in a u8, and enough for LLVM to keep the loop and count by blocks.
+const COUNTED: usize = 64;
+
+// The two quotes around a value.
+const TWO_QUOTES: usize = 2;
+
+// What a row has beside its values' bytes, for each at most: two quotes and a delimiter.
+const VALUE_ENDS: usize = TWO_QUOTES + 1;
 
 // The size that is given for a row over its limit.
 const TOO_LONG: usize = MAX_ROW + 1;
 
-// Whether a byte makes its value quoted: quote, comma, CR, LF.
-fn is_special(b: u8) -> bool
-    ensures { λ r. ⌜ r ≡ special b ⌝ }
+// Whether the row of values with `bytes` bytes in all fits the output and the limit even if every byte is doubled and every value quoted.
+pub(crate) fn longest_fits(bytes: usize, values: usize, capacity: usize) -> bool
+    requires { ⌜ values ≤ maxColumns ⌝ }
+    ensures { λ r. ⌜ ((r ≡ true) → (bytes + bytes + values * valueEnds ≤ maxRow) × (bytes + bytes + values * valueEnds ≤ capacity)) ⌝ }
 {
-    (b == QUOTE) | ((b == COMMA) | ((b == CR) | (b == LF)))
-}
-
-// Whether one of at most 64 bytes is special. They are counted, so that many are tested at once.
-fn some_special(v: &[u8]) -> bool
-    requires { ⌜ length (now v) ≤ atOnce ⌝ }
-    ensures { λ r. ⌜ r ≡ anySpecial (now (v .entry)) ⌝ }
-{
-    let mut n: u8 = 0;
-    let mut i: usize = 0;
-    while i < v.len() {
-        if is_special(v[i]) {
-            n += 1;
-        }
-        i += 1;
-    }
-    if n == 0 {
+    if MAX_ROW < bytes {
         return false;
     }
-    true
+    let longest = bytes + bytes + values * VALUE_ENDS;
+    if MAX_ROW < longest {
+        return false;
+    }
+    longest <= capacity
 }
 
-// Whether there is a special byte from an offset on.
-fn special_from(v: &[u8], from: usize) -> bool
-    requires { ⌜ from ≤ length (now v) ⌝ }
-    ensures { λ r. ⌜ r ≡ anySpecial (drop from (now (v .entry))) ⌝ }
+// How many bytes a value of length n has: at most those that are left.
+pub(crate) fn cut(left: usize, n: u32) -> usize
+    ensures { λ r. ⌜ r ≡ min n left ⌝ }
 {
-    let mut i = from;
-    while i < v.len() {
-        if is_special(v[i]) {
-            return true;
-        }
-        i += 1;
-    }
-    false
-}
-
-// The end of the bytes from i on that are tested at once, at most 32.
-fn search_end(len: usize, i: usize) -> usize
-    requires { ⌜ i ≤ len ⌝ }
-    ensures { λ r. ⌜ r ≡ i + min searched (len - i) ⌝ }
-{
-    if len - i < SEARCHED {
-        len
-    } else {
-        i + SEARCHED
-    }
-}
-
-// Whether a value is quoted.
-fn any_special(v: &[u8]) -> bool
-    ensures { λ r. ⌜ r ≡ anySpecial (now (v .entry)) ⌝ }
-{
-    if v.len() < SEARCH_FROM {
-        return special_from(v, 0);
-    }
-    let mut i: usize = 0;
-    while i < v.len() {
-        let end = search_end(v.len(), i);
-        if some_special(&v[i..end]) {
-            return true;
-        }
-        i = end;
-    }
-    false
+    let m = n as usize;
+    if m < left { m } else { left }
 }
 
 // How many of at most 64 bytes are quotes, which is what doubling adds.
-pub(crate) fn quotes(v: &[u8]) -> u8
-    requires { ⌜ length (now v) ≤ atOnce ⌝ }
+fn quotes(v: &[u8]) -> u8
+    requires { ⌜ length (now v) ≤ countedSize ⌝ }
     ensures { λ r. ⌜ r + length (now (v .entry)) ≡ length (doubled (now (v .entry))) ⌝ }
 {
     let mut n: u8 = 0;
@@ -113,20 +69,12 @@ fn doubled_size(v: &[u8]) -> usize
 {
     let mut n = v.len();
     let mut i: usize = 0;
-    while AT_ONCE <= v.len() - i {
-        let end = i + AT_ONCE;
+    while COUNTED <= v.len() - i {
+        let end = i + COUNTED;
         n += quotes(&v[i..end]) as usize;
         i = end;
     }
     n + quotes(&v[i..v.len()]) as usize
-}
-
-// How many bytes a value of length n has: at most those that are left.
-pub(crate) fn cut(left: usize, n: u32) -> usize
-    ensures { λ r. ⌜ r ≡ min n left ⌝ }
-{
-    let m = n as usize;
-    if m < left { m } else { left }
 }
 
 // How many bytes a value's field has.
@@ -140,10 +88,9 @@ fn field_size(v: &[u8]) -> usize
     v.len()
 }
 
-// The row's size, or 8,193 for any above 8,192; and the sizes of its fields.
-pub(crate) fn row_size(texts: &[u8], lengths: &[u32], sizes: &mut [usize]) -> usize
-    requires { ⌜ length (now lengths) ≤ length (now sizes) ⌝ }
-    ensures { λ r. ⌜ (r ≡ min (maxRow + 1) (length (rowOf (passedValues (now (texts .entry)) (now (lengths .entry)))))) × (r ≤ maxRow → Sizes (now (sizes .exit)) 0 (passedValues (now (texts .entry)) (now (lengths .entry)))) ⌝ }
+// The row's size, or 8,193 for any above 8,192.
+pub(crate) fn row_size(texts: &[u8], lengths: &[u32]) -> usize
+    ensures { λ r. ⌜ r ≡ min (maxRow + 1) (length (rowOf (passedValues (now (texts .entry)) (now (lengths .entry))))) ⌝ }
 {
     let mut total: usize = 0;
     let mut from: usize = 0;
@@ -154,12 +101,10 @@ pub(crate) fn row_size(texts: &[u8], lengths: &[u32], sizes: &mut [usize]) -> us
             return TOO_LONG;
         }
         let end = from + n;
-        let size = field_size(&texts[from..end]);
-        total = total + size + 1;
+        total = total + field_size(&texts[from..end]) + 1;
         if MAX_ROW < total {
             return TOO_LONG;
         }
-        sizes[k] = size;
         from = end;
         k += 1;
     }

@@ -1,5 +1,5 @@
--- The invariant: storing the row of the values left from `to` on gives what storing the whole row at 0 gives, and it fits. A turn is a
--- field and the byte after it (`put-turn`).
+-- The invariant: storing the row of the values left from `to` on gives what storing the whole row at 0 gives. A turn is a field and the byte
+-- after it (`put-turn`). If the texts have no special byte, neither has a value (`special-part`).
 use mathlib.Core.Path.{_≡_, refl, sym, ap, _∙_}
 use mathlib.Core.List.{List}
 use Prim.Native.Nat.{ℕ, _≤_, _<_, _-_, _+_}
@@ -8,20 +8,19 @@ use lib.ListN.{length, take, drop, length-set}
 use lib.Seq.{sets, length-sets}
 use Rattle.csv.specs.Write.{fieldOf, rowOf, delimiter}
 use Rattle.row.specs.Write.{passedValues}
-use Rattle.row.specs.Steps.{Sizes}
+use Rattle.row.proofs.Laws.{special-part, left, left-delimiter, size-turn, put-turn, none-size, none-sets}
 use borrow.Author.Needs.{needs}
-use Rattle.row.proofs.Laws.{left, left-turn, left-delimiter, size-turn, value-size, put-turn, none-sets, sizes-turn}
 use Rattle.row.proofs.write.put_row.Statement.{statement}
 use Rattle.row.proofs.write.put_row.Tie as tie
 
 abbrev Inv-loop : tie.InvT-loop
-Inv-loop texts lengths sizes out₀ to₀ from₀ k₀ out to from k = (k ≤ length lengths) × (from ≤ length texts) × (length out ≡ length out₀) × (to + length (rowOf (left texts lengths k from)) ≤ length out) × (sets out₀ 0 (rowOf (passedValues texts lengths)) ≡ sets out to (rowOf (left texts lengths k from))) × Sizes sizes k (left texts lengths k from)
+Inv-loop texts lengths test out₀ to₀ from₀ k₀ out to from k = (k ≤ length lengths) × (from ≤ length texts) × (length out ≡ length out₀) × (to + length (rowOf (left texts lengths k from)) ≡ length (rowOf (passedValues texts lengths))) × (sets out₀ 0 (rowOf (passedValues texts lengths)) ≡ sets out to (rowOf (left texts lengths k from)))
 
 abbrev μ-loop : tie.MeasureT-loop
-μ-loop texts lengths sizes out₀ to₀ from₀ k₀ out to from k = length lengths - k
+μ-loop texts lengths test out₀ to₀ from₀ k₀ out to from k = length lengths - k
 
 loop-holds : tie.Need-loop-holds Inv-loop μ-loop
-loop-holds c = (omega arith, omega arith, refl, omega (arith, c .before .before .before .before .pre .0), refl, c .before .before .before .before .pre .2)
+loop-holds c = (omega arith, omega arith, refl, omega arith, refl)
 
 sub-cut : tie.Need-sub-cut Inv-loop μ-loop
 sub-cut c = search needs
@@ -38,12 +37,6 @@ cut-requires c κs = search needs
 add-end : tie.Need-add-end Inv-loop μ-loop
 add-end c = omega (arith, c .cut .ensures)
 
-mul-size : tie.Need-mul-size Inv-loop μ-loop
-mul-size c = search needs
-
-shared-slice-read-size : tie.Need-shared-slice-read-size Inv-loop μ-loop
-shared-slice-read-size c = omega (arith, c .before .before .before .before .before .before .before .before .before .pre .1, c .before .before .before .loop-test .taken)
-
 sub-put-field : tie.Need-sub-put-field Inv-loop μ-loop
 sub-put-field c = search needs
 
@@ -51,35 +44,18 @@ part-put-field-start : tie.Need-part-put-field-start Inv-loop μ-loop
 part-put-field-start c = search needs
 
 part-put-field-end : tie.Need-part-put-field-end Inv-loop μ-loop
-part-put-field-end c = omega (arith, c .before .cut .ensures)
+part-put-field-end c = omega (arith, c .cut .ensures)
 
 put-field-requires : tie.Need-put-field-requires Inv-loop μ-loop
 put-field-requires c κs =
-    let a = c .before .before .before .before .before .before .before .before .before .before .before .args in
-    let l = c .before .before .before .before .before .before .loop in
-    let n = c .before .before .before .cut .result in
-    let q = c .before .before .before .cut .ensures in
+    let a = c .before .before .before .before .before .before .before .before .before .args in
+    let l = c .before .before .before .before .before .loop in
+    let n = c .before .before .cut .result in
+    let q = c .before .before .cut .ensures in
     let v : List ℕ = take (l .from + n - l .from) (drop (l .from) (a .texts .now)) in
-    let h : l .k < length (a .lengths .now) = c .before .before .before .before .before .loop-test .taken in
-    let w : length v ≡ n = value-size (a .texts .now) (a .lengths .now) (l .k) (l .from) n h (l .inv .1) q in
+    let h : l .k < length (a .lengths .now) = c .before .before .before .before .loop-test .taken in
     let z = size-turn (a .texts .now) (a .lengths .now) (l .k) (l .from) n h (l .inv .1) q in
-    let t = left-turn (a .texts .now) (a .lengths .now) (l .k) (l .from) n h (l .inv .1) q in
-    let s = sizes-turn (a .sizes .now) (l .k) _ _ v t (l .inv .5) in
-    (s .0, omega (arith, l .inv .3, s .0))
-
-add-last : tie.Need-add-last Inv-loop μ-loop
-add-last c =
-    let a = c .before .before .before .before .before .before .before .before .before .before .before .before .before .before .args in
-    let l = c .before .before .before .before .before .before .before .before .before .loop in
-    let n = c .before .before .before .before .before .before .cut .result in
-    let q = c .before .before .before .before .before .before .cut .ensures in
-    let v : List ℕ = take (l .from + n - l .from) (drop (l .from) (a .texts .now)) in
-    let h : l .k < length (a .lengths .now) = c .before .before .before .before .before .before .before .before .loop-test .taken in
-    let w : length v ≡ n = value-size (a .texts .now) (a .lengths .now) (l .k) (l .from) n h (l .inv .1) q in
-    let z = size-turn (a .texts .now) (a .lengths .now) (l .k) (l .from) n h (l .inv .1) q in
-    let t = left-turn (a .texts .now) (a .lengths .now) (l .k) (l .from) n h (l .inv .1) q in
-    let s = sizes-turn (a .sizes .now) (l .k) _ _ v t (l .inv .5) in
-    omega (arith, l .inv .3, s .0)
+    (λ e. special-part (a .texts .now) (l .from) (l .from + n - l .from) (c .before .before .before .before .before .before .before .before .before .pre .0 e), omega (arith, c .before .before .before .before .before .before .before .before .before .pre .1, l .inv .2, l .inv .3, z))
 
 add-k : tie.Need-add-k Inv-loop μ-loop
 add-k c = search needs
@@ -89,63 +65,57 @@ end-byte-requires c κs = search needs
 
 slice-write-out : tie.Need-slice-write-out Inv-loop μ-loop
 slice-write-out c =
-    let a = c .before .before .before .before .before .before .before .before .before .before .before .before .before .before .before .args in
-    let l = c .before .before .before .before .before .before .before .before .before .before .loop in
-    let n = c .before .before .before .before .before .before .before .cut .result in
-    let q = c .before .before .before .before .before .before .before .cut .ensures in
+    let a = c .before .before .before .before .before .before .before .before .before .before .before .before .before .args in
+    let l = c .before .before .before .before .before .before .before .before .before .loop in
+    let n = c .before .before .before .before .before .before .cut .result in
+    let q = c .before .before .before .before .before .before .cut .ensures in
     let v : List ℕ = take (l .from + n - l .from) (drop (l .from) (a .texts .now)) in
-    let h : l .k < length (a .lengths .now) = c .before .before .before .before .before .before .before .before .before .loop-test .taken in
-    let w : length v ≡ n = value-size (a .texts .now) (a .lengths .now) (l .k) (l .from) n h (l .inv .1) q in
+    let h : l .k < length (a .lengths .now) = c .before .before .before .before .before .before .before .before .loop-test .taken in
     let z = size-turn (a .texts .now) (a .lengths .now) (l .k) (l .from) n h (l .inv .1) q in
-    let t = left-turn (a .texts .now) (a .lengths .now) (l .k) (l .from) n h (l .inv .1) q in
-    let s = sizes-turn (a .sizes .now) (l .k) _ _ v t (l .inv .5) in
     let f = c .before .before .before .put-field .ensures in
-    omega (arith, l .inv .3, s .0, ap length f, length-sets (l .out) (l .to) (fieldOf v))
+    omega (arith, c .before .before .before .before .before .before .before .before .before .before .before .before .before .pre .1, l .inv .2, l .inv .3, z, f .0, simp length-sets at (ap length (f .1)))
 
 add-to : tie.Need-add-to Inv-loop μ-loop
 add-to c =
-    let a = c .before .before .before .before .before .before .before .before .before .before .before .before .before .before .before .args in
-    let l = c .before .before .before .before .before .before .before .before .before .before .loop in
-    let n = c .before .before .before .before .before .before .before .cut .result in
-    let q = c .before .before .before .before .before .before .before .cut .ensures in
+    let a = c .before .before .before .before .before .before .before .before .before .before .before .before .before .args in
+    let l = c .before .before .before .before .before .before .before .before .before .loop in
+    let n = c .before .before .before .before .before .before .cut .result in
+    let q = c .before .before .before .before .before .before .cut .ensures in
     let v : List ℕ = take (l .from + n - l .from) (drop (l .from) (a .texts .now)) in
-    let h : l .k < length (a .lengths .now) = c .before .before .before .before .before .before .before .before .before .loop-test .taken in
-    let w : length v ≡ n = value-size (a .texts .now) (a .lengths .now) (l .k) (l .from) n h (l .inv .1) q in
+    let h : l .k < length (a .lengths .now) = c .before .before .before .before .before .before .before .before .loop-test .taken in
     let z = size-turn (a .texts .now) (a .lengths .now) (l .k) (l .from) n h (l .inv .1) q in
-    let t = left-turn (a .texts .now) (a .lengths .now) (l .k) (l .from) n h (l .inv .1) q in
-    let s = sizes-turn (a .sizes .now) (l .k) _ _ v t (l .inv .5) in
-    omega (arith, l .inv .3, s .0)
+    let f = c .before .before .before .put-field .ensures in
+    omega (arith, c .before .before .before .before .before .before .before .before .before .before .before .before .before .pre .1, l .inv .2, l .inv .3, z, f .0)
 
 loop-less : tie.Need-loop-less Inv-loop μ-loop
 loop-less c = search needs
 
 loop-again : tie.Need-loop-again Inv-loop μ-loop
 loop-again c =
-    let a = c .before .before .before .before .before .before .before .before .before .before .before .before .before .before .before .args in
-    let l = c .before .before .before .before .before .before .before .before .before .before .loop in
-    let n = c .before .before .before .before .before .before .before .cut .result in
-    let q = c .before .before .before .before .before .before .before .cut .ensures in
+    let a = c .before .before .before .before .before .before .before .before .before .before .before .before .before .args in
+    let l = c .before .before .before .before .before .before .before .before .before .loop in
+    let n = c .before .before .before .before .before .before .cut .result in
+    let q = c .before .before .before .before .before .before .cut .ensures in
     let v : List ℕ = take (l .from + n - l .from) (drop (l .from) (a .texts .now)) in
-    let h : l .k < length (a .lengths .now) = c .before .before .before .before .before .before .before .before .before .loop-test .taken in
-    let w : length v ≡ n = value-size (a .texts .now) (a .lengths .now) (l .k) (l .from) n h (l .inv .1) q in
+    let h : l .k < length (a .lengths .now) = c .before .before .before .before .before .before .before .before .loop-test .taken in
     let z = size-turn (a .texts .now) (a .lengths .now) (l .k) (l .from) n h (l .inv .1) q in
-    let t = left-turn (a .texts .now) (a .lengths .now) (l .k) (l .from) n h (l .inv .1) q in
-    let s = sizes-turn (a .sizes .now) (l .k) _ _ v t (l .inv .5) in
     let f = c .before .before .before .put-field .ensures in
-    let m : length (sets (l .out) (l .to) (fieldOf v)) ≡ length (a .out .now) = length-sets (l .out) (l .to) (fieldOf v) ∙ l .inv .2 in
+    let o = sets (l .out) (l .to) (fieldOf v) in
     let d = left-delimiter (a .texts .now) (a .lengths .now) (l .k + 1) (l .from + n) (omega arith) in
-    let g = length-set (sets (l .out) (l .to) (fieldOf v)) (l .to + length (fieldOf v)) (delimiter (left (a .texts .now) (a .lengths .now) (l .k + 1) (l .from + n))) in
-    rw (f, s .0, c .end-byte .ensures, d)
-    (omega arith, omega (arith, q), g ∙ m, omega (arith, l .inv .3, z, g, m, l .inv .2), l .inv .4 ∙ put-turn (a .texts .now) (a .lengths .now) (l .k) (l .from) n h (l .inv .1) q (l .out) (l .to), s .1)
+    let m : length o ≡ length (a .out .now) = length-sets (l .out) (l .to) (fieldOf v) ∙ l .inv .2 in
+    let g = length-set o (l .to + length (fieldOf v)) (delimiter (left (a .texts .now) (a .lengths .now) (l .k + 1) (l .from + n))) in
+    rw (f .1, f .0, c .end-byte .ensures, d)
+    (omega arith, omega (arith, q), g ∙ m, omega (arith, l .inv .3, z), l .inv .4 ∙ put-turn (a .texts .now) (a .lengths .now) (l .k) (l .from) n h (l .inv .1) q (l .out) (l .to))
 
 same-length : tie.Need-same-length Inv-loop μ-loop
 same-length c = c .before .loop .inv .2
 
 returns : tie.Need-returns Inv-loop μ-loop
 returns c =
-    let a = c .before .before .before .before .before .before .args in
+    let a = c .before .before .before .before .before .args in
     let l = c .before .loop in
-    sym (l .inv .4 ∙ none-sets (a .texts .now) (a .lengths .now) (l .k) (l .from) (l .out) (l .to) (search needs))
+    let h : length (a .lengths .now) ≤ l .k = c .loop-test .left in
+    (omega (arith, l .inv .3, none-size (a .texts .now) (a .lengths .now) (l .k) (l .from) h), sym (l .inv .4 ∙ none-sets (a .texts .now) (a .lengths .now) (l .k) (l .from) (l .out) (l .to) h))
 
 pub put-row-spec : {M : Type 1} → statement M
 put-row-spec =
@@ -159,13 +129,10 @@ put-row-spec =
     shared-slice-read-cut
     cut-requires
     add-end
-    mul-size
-    shared-slice-read-size
     sub-put-field
     part-put-field-start
     part-put-field-end
     put-field-requires
-    add-last
     add-k
     end-byte-requires
     slice-write-out
