@@ -5,6 +5,7 @@ Header, records, key and rows are laid out here from document 01, independently
 of the core and of the Rust."""
 
 import argparse
+import datetime
 import os
 import struct
 import subprocess
@@ -239,6 +240,7 @@ LONG_PICKS = [(b"line%04d" % i, b"r" * 32, b"", b"s" * 32, b"n" * 64) for i in r
 OK = "passes"
 REFUSAL_WORDS = {3: "mark", 4: "seal", 5: "span", 6: "source", 7: "data"}
 REFUSED = {n: "refusal %d %s" % (n, word) for n, word in REFUSAL_WORDS.items()}
+SECTORS = BANK // SECTOR
 LAST = (1 << 32) - 1
 HALF = 1 << 31
 
@@ -426,6 +428,75 @@ def selection(name):
     return out
 
 
+def share(length):
+    """A length's share of the capacity, in percent, rounded down."""
+    hundredths = length * 10_000 // CAPACITY
+    return "%d.%02d %%" % (hundredths // 100, hundredths % 100)
+
+
+def time(seconds):
+    """A time with its date, where datetime has one after 1970."""
+    if seconds == UNKNOWN:
+        return "unknown"
+    if seconds < 0:
+        return str(seconds)
+    date = datetime.datetime(1970, 1, 1) + datetime.timedelta(seconds=seconds)
+    return "%d (%s UTC)" % (seconds, date.isoformat(" "))
+
+
+def day(number):
+    try:
+        return datetime.date(number // 10000, number // 100 % 100, number % 100).isoformat()
+    except ValueError:
+        return str(number)
+
+
+def numbers(raw):
+    """The numbers of a header's bytes."""
+    version, generation, length, crc, count, key_length, _, checked = struct.unpack("<IIIIIIIq", raw[4:40])
+    return "version %d, generation %d, data length %d (%s of %d), data crc %08x, sources %d, key length %d, checked %s" % (
+        version, generation, length, share(length), CAPACITY, crc, count, key_length, time(checked))
+
+
+def header_crc(raw):
+    size = SIZES.get(struct.unpack("<I", raw[4:8])[0], SIZES[3])
+    return zlib.crc32(raw[:40] + bytes(8) + raw[48:48 + 3 * size])
+
+
+def state(raw, refusal):
+    """What happened to a refused bank, from its bytes; and whether its header is whole."""
+    magic, commit = raw[:4] == b"TTFC", struct.unpack("<I", raw[44:48])[0]
+    written = [k for k in range(SECTORS) if raw[k * SECTOR:(k + 1) * SECTOR].strip(b"\xff")]
+    if refusal == 4:
+        return "committed, header damaged", False
+    if refusal == 5:
+        return "sealed, a number of the header out of its range", False
+    if refusal == 6:
+        return "sealed, a source's record out of its range", False
+    if refusal == 7:
+        return "sealed, data damaged", True
+    if not written:
+        return "erased", None
+    if 0 not in written:
+        return "header erased, bytes written up to sector %d of %d" % (written[-1], SECTORS - 1), None
+    if commit == COMMIT:
+        return "committed, version not known" if magic else "committed, magic damaged", False
+    if not magic or struct.unpack("<I", raw[40:44])[0] != header_crc(raw):
+        return "header not whole, commit word missing", False
+    return "header written, commit word missing" if commit == LAST else "header written, commit word not whole", True
+
+
+def refused(raw, word):
+    """The line on a refused bank."""
+    words, whole = state(raw, int(word.split()[1]))
+    if whole is None:
+        return "%s: %s" % (word, words)
+    length = struct.unpack("<I", raw[12:16])[0]
+    data = ", computed data crc %08x" % zlib.crc32(raw[SECTOR:SECTOR + length]) if whole else ""
+    return "%s: %s; not trusted: %s%s, header crc %08x, computed header crc %08x" % (
+        word, words, numbers(raw), data, struct.unpack("<I", raw[40:44])[0], header_crc(raw))
+
+
 def freshness(bank):
     """Checked and updated time for DAYS at CHECKED, by Bank::fresh's rule."""
     left, used = set(DAYS), []
@@ -442,30 +513,30 @@ def lines(bank):
     """What is printed of the bank that load gives."""
     words = bytes(bank.data[:bank.key_length])
     out = ["key %d: %s" % (i, words[i:i + 32].hex(" ")) for i in range(0, len(words), 32)]
+    identity, picks = (LONG_IDENTITY, LONG_PICKS) if words == key(LONG_IDENTITY, LONG_PICKS) else (IDENTITY, PICKS)
+    out.append('identity: "%s"' % identity.decode())
+    stored = sorted((line, route, code, stop, b"" if code else name) for line, route, code, stop, name in picks)
+    out += ["pick %d: %s" % (i, ",".join('"%s"' % field.decode() for field in pick)) for i, pick in enumerate(stored)]
     for i, source in enumerate(bank.sources):
         present = [name for t, name in enumerate(TABLES) if source.present >> t & 1]
-        out.append("source %d: start %d, end %d, updated %s, present %s" % (
-            i, source.start, source.end, "unknown" if source.updated == UNKNOWN else source.updated,
-            " ".join(present) or "none"))
+        out.append("source %d: start %s, end %s, updated %s, present %s" % (
+            i, day(source.start), day(source.end), time(source.updated), " ".join(present) or "none"))
         for t in range(8 if bank.version == 3 else 7):
             (offset, length, crc), (original, size) = source.blocks[t], source.original[t]
             if length or original or size:
-                out.append("source %d %s: offset %d, length %d, crc %08x, original crc %08x, "
-                           "original length %d" % (i, TABLES[t], offset, length, crc, original, size))
+                out.append("source %d %s: offset %d, length %d (%s), crc %08x, original crc %08x, "
+                           "original length %d" % (i, TABLES[t], offset, length, share(length), crc, original, size))
     checked, updated = freshness(bank)
-    out.append("fresh: checked %d, updated %s" % (checked, "unknown" if updated is None else updated))
+    out.append("fresh: checked %s, updated %s" % (time(checked), "unknown" if updated is None else time(updated)))
     return out + ["match: yes"]
 
 
-def expected(banks, meant, load):
+def expected(image, banks, meant, load):
     """The lines that an inspect program should print."""
-    out = ["region: %d bytes" % REGION]
+    out = ["image: %s" % image, "region: %d bytes" % REGION]
     for i, (bank, word) in enumerate(zip(banks, meant)):
-        if word == OK:
-            word = "version %d, generation %d, data length %d, data crc %08x, sources %d, key length %d, " \
-                "checked %d" % (bank.version, bank.generation, bank.length, bank.crc, bank.count,
-                                bank.key_length, bank.checked)
-        out.append("bank %d: %s" % (i, word))
+        raw = bank if isinstance(bank, bytes) else bank.bytes()
+        out.append("bank %d: %s" % (i, numbers(raw) if word == OK else refused(raw, word)))
     if load is None:
         return out + ["load: none", "fresh: no bank", "match: no bank"]
     return out + ["load: bank %d" % load] + lines(banks[load])
@@ -480,7 +551,7 @@ def ask(folder, program):
         run = subprocess.run([program, *ASKED, *selection(name), image], text=True,
                              stdout=subprocess.PIPE)
         got = run.stdout.split("\n")
-        want = expected((a, b), (first, second), load) + [""]
+        want = expected(image, (a, b), (first, second), load) + [""]
         if run.returncode == 0 and got == want:
             continue
         bad += 1

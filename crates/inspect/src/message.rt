@@ -17,18 +17,27 @@ fn no_option(at: usize, buffer: &mut [u8]) {
     message::no_option(&program, part(buffer, 0, n));
 }
 
+fn no_image() {
+    let program = PROGRAM;
+    message::no_image(&program);
+}
+
 fn help_start() {
-    say(b"inspect [options] [IMAGE]\n");
+    say(b"inspect [options] IMAGE\n");
     say(b"\n");
-    say(b"Says what is in a board's two timetable banks: each bank's header or why it is\n");
-    say(b"refused, the bank that load gives, its key and its sources.\n");
+    say(b"Says what is in a board's two timetable banks: each bank's header, or why it is\n");
+    say(b"refused and what happened to it; the bank that load gives, its key and sources.\n");
     say(b"\n");
 }
 
 fn help_image() {
-    say(b"  IMAGE                a region of 983040 bytes, or a whole flash dump of 4194304\n");
-    say(b"                       bytes with the region at 3145728 (0x300000); default:\n");
-    say(b"                       samples/two-good.img\n");
+    say(b"  IMAGE                the region of 983040 bytes, or a whole flash dump with\n");
+    say(b"                       the region at 3145728 (0x300000): 4194304, 8388608 or\n");
+    say(b"                       16777216 bytes; - for standard input. It is only read\n");
+    say(b"  --offset BYTES       where the region starts in a dump, in decimal\n");
+    say(b"  --sample             samples/two-good.img below the current folder\n");
+    say(b"  --                   what follows is an image\n");
+    say(b"  --bank N             ask of bank 0 or 1, also one that load doesn't give\n");
 }
 
 fn help_fresh() {
@@ -47,15 +56,16 @@ fn help_match() {
 }
 
 fn help_rows() {
-    say(b"  --rows SOURCE TABLE  the stored rows of a table of a source: SOURCE is 0, 1, 2 or\n");
-    say(b"                       all, TABLE a table's name or all\n");
+    say(b"  --rows SOURCE TABLE  the stored rows of a table of a source: SOURCE is 0, 1, 2\n");
+    say(b"                       or all, TABLE a table's name or all\n");
+    say(b"  --json               one JSON object instead of lines\n");
     say(b"  --help               this text\n");
 }
 
 fn help_end() {
     say(b"\n");
     say(b"With wrong arguments, an image of another size or one that can't be read, one\n");
-    say(b"line stands on standard error and nothing on standard output.\n");
+    say(b"line is on standard error and nothing on standard output.\n");
 }
 
 fn help() {
@@ -75,6 +85,9 @@ pub fn report(o: Options, buffer: &mut [u8]) {
         End::Help => help(),
         End::NoOption => no_option(o.next, buffer),
         End::Images => wrong(b"one image at a time"),
+        End::NoImage => no_image(),
+        End::Offset => wrong(b"--offset needs a number of bytes, at most 16777216"),
+        End::Bank => wrong(b"--bank needs 0 or 1"),
         End::Now => wrong(b"--now needs a number of seconds"),
         End::Days => wrong(b"--days needs three numbers as D1,D2,D3"),
         End::DaysAlone => wrong(b"--days needs --now"),

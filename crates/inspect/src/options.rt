@@ -10,6 +10,8 @@ use key::MAX_PICKS;
 use leaf::bytes::get8;
 use program::arguments::follow;
 use program::bytes::copy;
+use program::image::LARGEST_DUMP_64;
+use program::image::Place;
 use program::lengths;
 use program::number::low32;
 use program::number::signed;
@@ -60,6 +62,10 @@ const THIRD_FLAG: usize = 4;
 
 const FLAGS_SIZE: usize = 5;
 
+const FIRST_BANK: u32 = 0;
+
+const SECOND_BANK: u32 = 1;
+
 const FIRST_SOURCE: u32 = 0;
 
 const SECOND_SOURCE: u32 = 1;
@@ -69,6 +75,10 @@ const THIRD_SOURCE: u32 = 2;
 // What an argument is.
 enum Argument {
     Image,
+    Empty,
+    Rest,
+    Sample,
+    Offset,
     Help,
     Now,
     Days,
@@ -77,6 +87,8 @@ enum Argument {
     Pick,
     Match,
     Rows,
+    Bank,
+    Json,
     Unknown,
 }
 
@@ -86,6 +98,8 @@ pub enum End {
     Help,
     NoOption,
     Images,
+    NoImage,
+    Offset,
     Now,
     Days,
     DaysAlone,
@@ -93,14 +107,18 @@ pub enum End {
     Identity,
     Pick,
     Rows,
+    Bank,
 }
 
-// What the arguments ask for, and the index of the one that is read next. The image and the identity are indices of arguments, 0 for none. Of
-// the picks the lengths and the bytes are counted.
+// What the arguments ask for, and the index of the one that is read next. The image and the identity are indices of arguments, 0 for none. After
+// `--` every argument is an image. Of the picks the lengths and the bytes are counted.
 pub struct Options {
     pub end: End,
     pub next: usize,
+    pub images_only: bool,
     pub image: usize,
+    pub sample: bool,
+    pub place: Place,
     pub timed: bool,
     pub now: i64,
     pub dated: bool,
@@ -112,6 +130,8 @@ pub struct Options {
     pub listed: bool,
     pub source: Choice,
     pub table: Choice,
+    pub bank: Choice,
+    pub json: bool,
 }
 
 fn none() -> Options {
@@ -127,7 +147,10 @@ fn none() -> Options {
     Options {
         end: End::More,
         next: 1,
+        images_only: false,
         image: 0,
+        sample: false,
+        place: Place::BySize,
         timed: false,
         now: 0,
         dated: false,
@@ -139,6 +162,8 @@ fn none() -> Options {
         listed: false,
         source: Choice::All,
         table: Choice::All,
+        bank: Choice::All,
+        json: false,
     }
 }
 
@@ -165,6 +190,34 @@ fn with_image(o: Options) -> Options {
     }
     let p = after_arguments(o, ALONE);
     Options { image: o.next, ..p }
+}
+
+fn with_images_only(o: Options) -> Options {
+    let p = after_arguments(o, ALONE);
+    Options {
+        images_only: true,
+        ..p
+    }
+}
+
+fn with_sample(o: Options) -> Options {
+    let p = after_arguments(o, ALONE);
+    Options { sample: true, ..p }
+}
+
+fn with_offset(o: Options, buffer: &mut [u8]) -> Options {
+    let n = text_of(o, 1, buffer);
+    let Number::Is(v) = digits(part(buffer, 0, n)) else {
+        return ended(o, End::Offset);
+    };
+    if LARGEST_DUMP_64 < v {
+        return ended(o, End::Offset);
+    }
+    let p = after_arguments(o, WITH_ONE);
+    Options {
+        place: Place::Given(v as usize),
+        ..p
+    }
 }
 
 // Whether a number starts with a minus sign.
@@ -405,13 +458,55 @@ fn with_rows(o: Options, buffer: &mut [u8]) -> Options {
     with_choices(o, source, table_named(part(buffer, 0, m)))
 }
 
+fn bank_named(s: &[u8]) -> Choice {
+    if same_bytes(s, b"0") {
+        return Choice::One(FIRST_BANK);
+    }
+    if same_bytes(s, b"1") {
+        Choice::One(SECOND_BANK)
+    } else {
+        Choice::Unknown
+    }
+}
+
+fn with_bank(o: Options, buffer: &mut [u8]) -> Options {
+    let n = text_of(o, 1, buffer);
+    let bank = bank_named(part(buffer, 0, n));
+    if !is_known(bank) {
+        return ended(o, End::Bank);
+    }
+    let p = after_arguments(o, WITH_ONE);
+    Options { bank, ..p }
+}
+
+fn with_json(o: Options) -> Options {
+    let p = after_arguments(o, ALONE);
+    Options { json: true, ..p }
+}
+
 fn argument_of(s: &[u8]) -> Argument {
-    if get8(s, 0) != b'-' {
+    if s.len() == 0 {
+        return Argument::Empty;
+    }
+    if (get8(s, 0) != b'-') | (s.len() == 1) {
         return Argument::Image;
     }
     if same_bytes(s, b"--help") | same_bytes(s, b"-h") {
         return Argument::Help;
     }
+    if same_bytes(s, b"--") {
+        return Argument::Rest;
+    }
+    if same_bytes(s, b"--sample") {
+        return Argument::Sample;
+    }
+    if same_bytes(s, b"--offset") {
+        return Argument::Offset;
+    }
+    freshness_argument(s)
+}
+
+fn freshness_argument(s: &[u8]) -> Argument {
     if same_bytes(s, b"--now") {
         return Argument::Now;
     }
@@ -435,7 +530,13 @@ fn selection_argument(s: &[u8]) -> Argument {
         return Argument::Match;
     }
     if same_bytes(s, b"--rows") {
-        Argument::Rows
+        return Argument::Rows;
+    }
+    if same_bytes(s, b"--bank") {
+        return Argument::Bank;
+    }
+    if same_bytes(s, b"--json") {
+        Argument::Json
     } else {
         Argument::Unknown
     }
@@ -444,9 +545,16 @@ fn selection_argument(s: &[u8]) -> Argument {
 // Reads one option with its arguments.
 fn step(o: Options, buffer: &mut [u8], texts: &mut [u8], lengths: &mut [u32]) -> Options {
     let n = os::arg(o.next, buffer);
+    if o.images_only & (n != 0) {
+        return with_image(o);
+    }
     let a = argument_of(part(buffer, 0, n));
     match a {
         Argument::Image => with_image(o),
+        Argument::Empty => ended(o, End::NoImage),
+        Argument::Rest => with_images_only(o),
+        Argument::Sample => with_sample(o),
+        Argument::Offset => with_offset(o, buffer),
         Argument::Help => ended(o, End::Help),
         Argument::Now => with_now(o, buffer),
         Argument::Days => with_days(o, buffer),
@@ -455,6 +563,8 @@ fn step(o: Options, buffer: &mut [u8], texts: &mut [u8], lengths: &mut [u32]) ->
         Argument::Pick => with_pick(o, buffer, texts, lengths),
         Argument::Match => with_match(o),
         Argument::Rows => with_rows(o, buffer),
+        Argument::Bank => with_bank(o, buffer),
+        Argument::Json => with_json(o),
         Argument::Unknown => ended(o, End::NoOption),
     }
 }
@@ -467,6 +577,20 @@ fn has_more(o: Options) -> bool {
     }
 }
 
+// An image or the sample must be asked for, and not both.
+fn with_an_image(o: Options) -> Options {
+    if o.image == 0 {
+        if o.sample {
+            return o;
+        }
+        return ended(o, End::NoImage);
+    }
+    if o.sample {
+        return ended(o, End::Images);
+    }
+    o
+}
+
 fn finished(o: Options) -> Options {
     let end = o.end;
     match end {
@@ -474,7 +598,7 @@ fn finished(o: Options) -> Options {
             if o.dated & !o.timed {
                 return ended(o, End::DaysAlone);
             }
-            o
+            with_an_image(o)
         }
         _ => o,
     }

@@ -1,4 +1,5 @@
 // Pieces of a line on standard output.
+use crate::text::put_hex;
 use base::number::SIGN_BIT;
 use base::number::u8_to_u64;
 use base::number::u32_to_u64;
@@ -11,7 +12,7 @@ use program::output;
 use program::output::long_field;
 use program::output::say;
 use refusal::Refusal;
-use std::num::wrapping_add_usize;
+use region::CAPACITY_64;
 
 // How many digits a CRC has.
 const CRC_DIGITS: usize = 8;
@@ -22,12 +23,6 @@ pub const BYTES_IN_LINE: usize = 32;
 const SPELLED: usize = 3;
 
 const LINE_SIZE: usize = SPELLED * BYTES_IN_LINE + 1;
-
-const HEX: u8 = 16;
-
-const TEN: u8 = 10;
-// The digit after 9 is a.
-const BEFORE_LETTERS: u8 = b'a' - TEN;
 
 // A text and a number.
 pub fn field(name: &[u8], n: u32) {
@@ -41,8 +36,7 @@ pub fn offset_field(name: &[u8], n: usize) {
 
 // A text and a CRC.
 pub fn hex_field(name: &[u8], crc: u32) {
-    say(name);
-    io::print_hex(STDOUT_FILENO, u32_to_u64(crc), CRC_DIGITS);
+    output::hex(STDOUT_FILENO, name, u32_to_u64(crc), CRC_DIGITS);
 }
 
 // A text and a signed number.
@@ -66,55 +60,55 @@ pub fn time_field(name: &[u8], z: i64) {
     signed_field(name, z);
 }
 
-fn word(r: Refusal) {
+pub fn say_word(r: Refusal) {
     match r {
-        Refusal::Region => say(b" region"),
-        Refusal::Argument => say(b" argument"),
-        Refusal::Mark => say(b" mark"),
-        Refusal::Seal => say(b" seal"),
-        Refusal::Span => say(b" span"),
-        Refusal::Source => say(b" source"),
-        Refusal::Data => say(b" data"),
-        Refusal::Identity => say(b" identity"),
-        Refusal::Small => say(b" small"),
-        Refusal::Full => say(b" full"),
-        Refusal::Turn => say(b" turn"),
-        Refusal::Obsolete => say(b" obsolete"),
-        Refusal::Unfit => say(b" unfit"),
-        Refusal::Row => say(b" row"),
-        Refusal::Key => say(b" key"),
-        Refusal::Future => say(b" future"),
-        Refusal::Line => say(b" line"),
-        Refusal::Rights => say(b" rights"),
-        Refusal::LastKeeper => say(b" last keeper"),
-        Refusal::List => say(b" list"),
-        Refusal::Absent => say(b" absent"),
-        Refusal::Layout => say(b" layout"),
-        Refusal::Table => say(b" table"),
+        Refusal::Region => say(b"region"),
+        Refusal::Argument => say(b"argument"),
+        Refusal::Mark => say(b"mark"),
+        Refusal::Seal => say(b"seal"),
+        Refusal::Span => say(b"span"),
+        Refusal::Source => say(b"source"),
+        Refusal::Data => say(b"data"),
+        Refusal::Identity => say(b"identity"),
+        Refusal::Small => say(b"small"),
+        Refusal::Full => say(b"full"),
+        Refusal::Turn => say(b"turn"),
+        Refusal::Obsolete => say(b"obsolete"),
+        Refusal::Unfit => say(b"unfit"),
+        Refusal::Row => say(b"row"),
+        Refusal::Key => say(b"key"),
+        Refusal::Future => say(b"future"),
+        Refusal::Line => say(b"line"),
+        Refusal::Rights => say(b"rights"),
+        Refusal::LastKeeper => say(b"last keeper"),
+        Refusal::List => say(b"list"),
+        Refusal::Absent => say(b"absent"),
+        Refusal::Layout => say(b"layout"),
+        Refusal::Table => say(b"table"),
     }
 }
 
-// A refusal by its number and its word, and the line's end.
+// A refusal by its number and its word.
 pub fn refused(r: Refusal) {
     long_field(STDOUT_FILENO, b"refusal ", u8_to_u64(refusal::number(r)));
-    word(r);
-    say(b"\n");
+    say(b" ");
+    say_word(r);
 }
 
-// A hexadecimal digit.
-fn hex_digit(d: u8) -> u8 {
-    let v = d % HEX;
-    if v < TEN {
-        b'0' + v
-    } else {
-        BEFORE_LETTERS + v
-    }
-}
+// Hundredths of a percent of the capacity, rounded down.
+const WHOLE: u64 = 10000;
 
-// Writes the two hexadecimal digits of a byte.
-pub fn put_hex(line: &mut [u8], at: usize, b: u8) {
-    put8(line, at, hex_digit(b / HEX));
-    put8(line, wrapping_add_usize(at, 1), hex_digit(b));
+const PERCENT: u64 = 100;
+
+const TEN: u64 = 10;
+
+// A length's share of a bank's capacity, in percent with two digits after the point.
+pub fn say_share(n: u32) {
+    let share = u32_to_u64(n) * WHOLE / CAPACITY_64;
+    long_field(STDOUT_FILENO, b"", share / PERCENT);
+    long_field(STDOUT_FILENO, b".", share / TEN % TEN);
+    long_field(STDOUT_FILENO, b"", share % TEN);
+    say(b" %");
 }
 
 // Writes each of the first bytes after a space, and the line's end; gives how many bytes that is.

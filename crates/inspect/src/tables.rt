@@ -25,18 +25,24 @@ pub enum Choice {
     Unknown,
 }
 
+// A table's name.
+pub fn say_name(t: u32) {
+    match t {
+        ROUTES => say(b"routes"),
+        STOPS => say(b"stops"),
+        TRIPS => say(b"trips"),
+        STOP_TIMES => say(b"stop_times"),
+        CALENDAR => say(b"calendar"),
+        CALENDAR_DATES => say(b"calendar_dates"),
+        FEED_INFO => say(b"feed_info"),
+        _ => say(b"transfers"),
+    }
+}
+
 // A space and a table's name.
 pub fn say_table(t: u32) {
-    match t {
-        ROUTES => say(b" routes"),
-        STOPS => say(b" stops"),
-        TRIPS => say(b" trips"),
-        STOP_TIMES => say(b" stop_times"),
-        CALENDAR => say(b" calendar"),
-        CALENDAR_DATES => say(b" calendar_dates"),
-        FEED_INFO => say(b" feed_info"),
-        _ => say(b" transfers"),
-    }
+    say(b" ");
+    say_name(t);
 }
 
 pub fn table_named(s: &[u8]) -> Choice {

@@ -1,5 +1,6 @@
 // Tries updates with the power cut between their flash operations and inside them: docs/POWERCUT.md has the options and the lines.
 mod data;
+mod file;
 mod kinds;
 mod leftover;
 mod lines;
@@ -12,6 +13,7 @@ mod torn;
 mod trial;
 mod update;
 
+use crate::file::NO_FILE;
 use crate::kinds::KINDS;
 use crate::kinds::LEFTOVERS;
 use crate::options::End;
@@ -28,7 +30,7 @@ use program::arguments;
 use program::bytes::copy;
 use program::image;
 use program::image::Image;
-use program::message::unwritten;
+use program::output;
 use program::output::complain;
 use region::CAPACITY;
 use region::REGION_SIZE;
@@ -38,9 +40,6 @@ pub const PROGRAM: [u8; 8] = *b"powercut";
 
 // Each kind of update with each leftover.
 const COMBINATIONS: u32 = LEFTOVERS * KINDS;
-
-// No file.
-const NO_FILE: i32 = -1;
 
 // How many updates were tried, their cuts together, the picture's file (below 0: none) and where its next part starts.
 struct Tally {
@@ -187,12 +186,8 @@ fn picture_file(o: Options, buffer: &mut [u8]) -> i32 {
         return NO_FILE;
     }
     let n = os::arg(o.picture, buffer);
-    let fd = os::open_overwrite(part(buffer, 0, n));
-    if fd < 0 {
-        let program = PROGRAM;
-        unwritten(&program, part(buffer, 0, n));
-    }
-    fd
+    let program = PROGRAM;
+    file::open(&program, part(buffer, 0, n))
 }
 
 fn start(o: Options, fd: i32) -> Tally {
@@ -216,7 +211,15 @@ fn finish(t: Tally, name: &[u8]) {
     lines::last_line(t.updates, all);
     if 0 <= t.fd {
         picture::end(t.fd, name, t.updates, all);
-        libc::close(t.fd);
+    }
+}
+
+// Gives the picture its name, if there is one.
+fn keep_picture(o: Options, fd: i32, buffer: &mut [u8]) {
+    if 0 <= fd {
+        let n = os::arg(o.picture, buffer);
+        let program = PROGRAM;
+        file::close(&program, part(buffer, 0, n), fd);
     }
 }
 
@@ -248,13 +251,15 @@ fn try_updates(image: &[u8; REGION_SIZE], o: Options, buffer: &mut [u8]) {
     let t = with_buffers(image, o, start(o, fd));
     let n = arguments::image_name(o.image, buffer);
     finish(t, part(buffer, 0, n));
+    keep_picture(o, fd, buffer);
 }
 
 fn try_image(o: Options, buffer: &mut [u8]) {
     let n = arguments::image_name(o.image, buffer);
     let program = PROGRAM;
     let mut image = image::buffer();
-    let i = image::read(&program, part(buffer, 0, n), &mut image);
+    let place = o.place;
+    let i = image::read(&program, part(buffer, 0, n), place, &mut image);
     match i {
         Image::Unusable => return,
         _ => try_updates(&image, o, buffer),
@@ -277,4 +282,6 @@ fn main() {
         End::More => try_image(with_progress(o), &mut buffer),
         _ => message::report(o, &mut buffer),
     }
+    let program = PROGRAM;
+    output::finish(&program);
 }

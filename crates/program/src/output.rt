@@ -1,5 +1,9 @@
 // Pieces of a line on a file, standard output or standard error. No contract can say what is written.
+//
+// A write that fails is told on standard error, and its file is closed. What is written to it from then on fails as on a file that isn't
+// open, which isn't told again; who has written all asks `finish`, or sees that the file can't be closed.
 use base::number::u32_to_u64;
+use libc::EBADF;
 use libc::STDERR_FILENO;
 use libc::STDOUT_FILENO;
 
@@ -9,8 +13,34 @@ const HUNDRED: u32 = 100;
 
 const THOUSAND: u32 = 1000;
 
+// Says that a write failed, and why, and closes its file.
+fn failed(fd: i32) {
+    if os::errno() == EBADF {
+        return;
+    }
+    os::fail(b"can't write");
+    libc::close(fd);
+}
+
 pub fn put(fd: i32, text: &[u8]) {
-    io::write_all(fd, text);
+    if !io::write_all(fd, text) {
+        failed(fd);
+    }
+}
+
+// A number in decimal digits.
+fn decimal(fd: i32, n: u64) {
+    if !io::print_decimal(fd, n) {
+        failed(fd);
+    }
+}
+
+// A text and a number in hexadecimal, with zeros before it up to a number of digits.
+pub fn hex(fd: i32, name: &[u8], n: u64, digits: usize) {
+    put(fd, name);
+    if !io::print_hex(fd, n, digits) {
+        failed(fd);
+    }
 }
 
 // Writes to standard output.
@@ -23,16 +53,24 @@ pub fn complain(text: &[u8]) {
     put(STDERR_FILENO, text);
 }
 
+// Says so if not all of standard output was written.
+pub fn finish(program: &[u8]) {
+    if libc::write(STDOUT_FILENO, b"") < 0 {
+        complain(program);
+        complain(b": can't write all of standard output\n");
+    }
+}
+
 // A text and a number.
 pub fn field(fd: i32, name: &[u8], n: u32) {
     put(fd, name);
-    io::print_decimal(fd, u32_to_u64(n));
+    decimal(fd, u32_to_u64(n));
 }
 
 // A text and a number of 64 bits.
 pub fn long_field(fd: i32, name: &[u8], n: u64) {
     put(fd, name);
-    io::print_decimal(fd, n);
+    decimal(fd, n);
 }
 
 // The last three digits of a number.

@@ -1,19 +1,23 @@
 //! The arguments.
-use crate::{TABLES, rows::Asked};
+use crate::{LARGEST, TABLES, rows::Asked};
 use std::{
     ffi::{OsStr, OsString},
     os::unix::ffi::OsStringExt,
 };
 
 pub const HELP: &str = "\
-inspect [options] [IMAGE]
+inspect [options] IMAGE
 
-Says what is in a board's two timetable banks: each bank's header or why it is
-refused, the bank that load gives, its key and its sources.
+Says what is in a board's two timetable banks: each bank's header, or why it is
+refused and what happened to it; the bank that load gives, its key and sources.
 
-  IMAGE                a region of 983040 bytes, or a whole flash dump of 4194304
-                       bytes with the region at 3145728 (0x300000); default:
-                       samples/two-good.img
+  IMAGE                the region of 983040 bytes, or a whole flash dump with
+                       the region at 3145728 (0x300000): 4194304, 8388608 or
+                       16777216 bytes; - for standard input. It is only read
+  --offset BYTES       where the region starts in a dump, in decimal
+  --sample             samples/two-good.img below the current folder
+  --                   what follows is an image
+  --bank N             ask of bank 0 or 1, also one that load doesn't give
   --now SECONDS        the time to ask freshness at, signed
   --days D1,D2,D3      three days to ask freshness for, each as year x 10000 +
                        month x 100 + day; needs --now
@@ -23,12 +27,12 @@ refused, the bank that load gives, its key and its sources.
                        one pick of the selection, '' for an empty field; may be
                        repeated
   --match              match the selection, also one without identity and picks
-  --rows SOURCE TABLE  the stored rows of a table of a source: SOURCE is 0, 1, 2 or
-                       all, TABLE a table's name or all
+  --rows SOURCE TABLE  the stored rows of a table of a source: SOURCE is 0, 1, 2
+                       or all, TABLE a table's name or all
   --help               this text
 
 With wrong arguments, an image of another size or one that can't be read, one
-line stands on standard error and nothing on standard output.
+line is on standard error and nothing on standard output.
 ";
 
 #[derive(Default)]
@@ -41,6 +45,9 @@ pub struct Selection {
 #[derive(Default)]
 pub struct Options {
     pub image: Option<OsString>,
+    pub sample: bool,
+    pub offset: Option<usize>,
+    pub bank: Option<u32>,
     pub now: Option<i64>,
     pub days: Option<[u32; 3]>,
     pub wanted: [bool; 3],
@@ -113,6 +120,22 @@ impl Options {
         mut value: impl FnMut(&str) -> Result<OsString, String>,
     ) -> Result<(), String> {
         match option {
+            "--sample" => self.sample = true,
+            "--offset" => {
+                let what = "--offset needs a number of bytes, at most 16777216";
+                let bytes = value(what)?;
+                let bytes = bytes.to_str().filter(|text| digits(text));
+                let bytes = bytes.and_then(|text| text.parse().ok());
+                self.offset = Some(needed(what, bytes.filter(|n| *n <= LARGEST))?);
+            }
+            "--bank" => {
+                let what = "--bank needs 0 or 1";
+                self.bank = Some(match value(what)?.to_str() {
+                    Some("0") => 0,
+                    Some("1") => 1,
+                    _ => return needed(what, None),
+                });
+            }
             "--now" => {
                 let what = "--now needs a number of seconds";
                 self.now = Some(needed(what, seconds(&value(what)?))?);
@@ -144,23 +167,30 @@ impl Options {
     }
 }
 
+const NO_IMAGE: &str = "no image is named; usage: inspect [options] IMAGE, or inspect --sample for the one in samples/";
+
 /// The arguments as options; none if help is asked for.
 pub fn read(mut arguments: impl Iterator<Item = OsString>) -> Result<Option<Options>, String> {
     let mut options = Options { wanted: [true; 3], ..Options::default() };
+    let mut images_only = false;
     while let Some(argument) = arguments.next() {
         match argument.to_str() {
-            Some("--help" | "-h") => return Ok(None),
-            Some(option) if option.starts_with('-') => {
+            Some("") => return needed(NO_IMAGE, None),
+            Some("--help" | "-h") if !images_only => return Ok(None),
+            Some("--") if !images_only => images_only = true,
+            Some(option) if option.starts_with('-') && option != "-" && !images_only => {
                 options.set(option, |what| needed(what, arguments.next()))?;
             }
-            _ if options.image.is_some() => {
-                return Err("one image at a time; see inspect --help".into());
-            }
+            _ if options.image.is_some() => return needed("one image at a time", None),
             _ => options.image = Some(argument),
         }
     }
     if options.days.is_some() && options.now.is_none() {
-        return Err("--days needs --now; see inspect --help".into());
+        return needed("--days needs --now", None);
     }
-    Ok(Some(options))
+    match (&options.image, options.sample) {
+        (None, false) => needed(NO_IMAGE, None),
+        (Some(_), true) => needed("one image at a time", None),
+        _ => Ok(Some(options)),
+    }
 }

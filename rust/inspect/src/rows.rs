@@ -1,6 +1,6 @@
 //! The stored rows of the bank that load gives, by the lifted reader of stored
 //! tables, `csv::Reader`.
-use crate::{TABLES, refused};
+use crate::{TABLES, refused, text};
 use lifted::{
     cache::{
         Bank, Storage,
@@ -16,7 +16,7 @@ use lifted::{
         view::View,
     },
 };
-use std::{cell::Cell, fmt::Write};
+use std::cell::Cell;
 
 /// Which rows are asked for; none means all.
 pub struct Asked {
@@ -46,21 +46,9 @@ impl Read for Bytes<'_> {
     }
 }
 
-/// Each value in quotes; a byte that isn't from 32 to 126, a quote and a
-/// backslash as \xNN.
+/// Each value in quotes.
 fn spell(values: &[String]) -> String {
-    let mut line = String::new();
-    for (k, value) in values.iter().enumerate() {
-        line += if k == 0 { "\"" } else { ",\"" };
-        for b in value.bytes() {
-            match b {
-                b'"' | b'\\' | 0..32 | 127.. => write!(line, "\\x{b:02x}").unwrap(),
-                _ => line.push(b.into()),
-            }
-        }
-        line.push('"');
-    }
-    line
+    text::quoted(values.iter().map(String::as_bytes))
 }
 
 /// What the reader says: 14 if it means the row's width or length.

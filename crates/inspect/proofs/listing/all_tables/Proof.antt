@@ -1,20 +1,23 @@
--- Only safety: t is at most 8.
+-- Only safety and an end: t is at most the number of tables.
 use borrow.Author.Needs.{needs}
 use Prim.Native.Nat.{_≤_, _-_}
 use Rattle.inspect.proofs.listing.all_tables.Statement.{statement}
 use Rattle.inspect.proofs.listing.all_tables.Tie as tie
 
 abbrev Inv-loop : tie.InvT-loop
-Inv-loop region bank source t₀ t = t ≤ 8
+Inv-loop region bank source json t₀ t = t ≤ 8
 
 abbrev μ-loop : tie.MeasureT-loop
-μ-loop region bank source t₀ t = 8 - t
+μ-loop region bank source json t₀ t = 8 - t
 
 loop-holds : tie.Need-loop-holds Inv-loop μ-loop
 loop-holds c = search needs
 
-row-lines-requires : tie.Need-row-lines-requires Inv-loop μ-loop
-row-lines-requires c κs = search needs
+comma-requires : tie.Need-comma-requires Inv-loop μ-loop
+comma-requires c κs = search needs
+
+table-rows-requires : tie.Need-table-rows-requires Inv-loop μ-loop
+table-rows-requires c κs = search needs
 
 add-t : tie.Need-add-t Inv-loop μ-loop
 add-t c = search needs
@@ -31,4 +34,13 @@ returns c = search needs
 pub all-tables-spec : {M : Type 1} → statement M
 all-tables-spec =
     tie.close
-    (tie.spec Inv-loop μ-loop loop-holds row-lines-requires add-t loop-less loop-again returns)
+    (tie.spec
+    Inv-loop
+    μ-loop
+    loop-holds
+    comma-requires
+    table-rows-requires
+    add-t
+    loop-less
+    loop-again
+    returns)

@@ -1,4 +1,4 @@
--- Only safety: the line's length stays; each turn leaves one value fewer.
+-- Only safety and an end: the line's length stays; each turn leaves one value fewer.
 use borrow.Author.Needs.{needs}
 use mathlib.Core.Path.{_≡_}
 use Prim.Native.Nat.{_-_}
@@ -7,10 +7,10 @@ use Rattle.inspect.proofs.listing.spell_row.Statement.{statement}
 use Rattle.inspect.proofs.listing.spell_row.Tie as tie
 
 abbrev Inv-loop : tie.InvT-loop
-Inv-loop values ends width line₀ at₀ from₀ k₀ line at from k = length line ≡ length line₀
+Inv-loop values ends width line₀ json at₀ from₀ k₀ line at from k = length line ≡ length line₀
 
 abbrev μ-loop : tie.MeasureT-loop
-μ-loop values ends width line₀ at₀ from₀ k₀ line at from k = width - k
+μ-loop values ends width line₀ json at₀ from₀ k₀ line at from k = width - k
 
 loop-holds : tie.Need-loop-holds Inv-loop μ-loop
 loop-holds c = search needs
@@ -21,20 +21,11 @@ end-of-requires c κs = search needs
 between-requires : tie.Need-between-requires Inv-loop μ-loop
 between-requires c κs = search needs
 
-spell-value-requires : tie.Need-spell-value-requires Inv-loop μ-loop
-spell-value-requires c κs = search needs
+spell-column-requires : tie.Need-spell-column-requires Inv-loop μ-loop
+spell-column-requires c κs = search needs
 
 add-k : tie.Need-add-k Inv-loop μ-loop
 add-k c = search needs
-
-delimiter-requires : tie.Need-delimiter-requires Inv-loop μ-loop
-delimiter-requires c κs = search needs
-
-put8-requires : tie.Need-put8-requires Inv-loop μ-loop
-put8-requires c κs = search needs
-
-wrapping-add-usize-requires : tie.Need-wrapping-add-usize-requires Inv-loop μ-loop
-wrapping-add-usize-requires c κs = search needs
 
 loop-less : tie.Need-loop-less Inv-loop μ-loop
 loop-less c = search needs
@@ -57,11 +48,8 @@ spell-row-spec =
     loop-holds
     end-of-requires
     between-requires
-    spell-value-requires
+    spell-column-requires
     add-k
-    delimiter-requires
-    put8-requires
-    wrapping-add-usize-requires
     loop-less
     loop-again
     same-length

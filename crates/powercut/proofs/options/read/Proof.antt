@@ -23,6 +23,9 @@ loop-holds c = search needs
 has-more-requires : tie.Need-has-more-requires Inv-loop μ-loop
 has-more-requires c κs = search needs
 
+finished-requires : tie.Need-finished-requires Inv-loop μ-loop
+finished-requires c κs = search needs
+
 same-length : tie.Need-same-length Inv-loop μ-loop
 same-length c = search needs
 
@@ -41,6 +44,9 @@ loop-less c = search needs
 loop-again : tie.Need-loop-again Inv-loop μ-loop
 loop-again c = search needs
 
+finished-requires-2 : tie.Need-finished-requires-2 Inv-loop μ-loop
+finished-requires-2 c κs = search needs
+
 same-length-2 : tie.Need-same-length-2 Inv-loop μ-loop
 same-length-2 c = search needs
 
@@ -57,11 +63,13 @@ read-spec =
     arg-count-requires
     loop-holds
     has-more-requires
+    finished-requires
     same-length
     returns
     step-requires
     sub-left
     loop-less
     loop-again
+    finished-requires-2
     same-length-2
     returns-2)

@@ -1,20 +1,20 @@
--- Only safety: i is at most the count.
+-- Only safety and an end: i is at most the count.
 use borrow.Author.Needs.{needs}
 use Prim.Native.Nat.{_≤_, _-_}
-use Rattle.inspect.proofs.lines.sources.Statement.{statement}
-use Rattle.inspect.proofs.lines.sources.Tie as tie
+use Rattle.inspect.proofs.report.sources.Statement.{statement}
+use Rattle.inspect.proofs.report.sources.Tie as tie
 
 abbrev Inv-loop : tie.InvT-loop
-Inv-loop region b i₀ i = i ≤ b .count
+Inv-loop region number count json i₀ i = i ≤ count
 
 abbrev μ-loop : tie.MeasureT-loop
-μ-loop region b i₀ i = b .count - i
+μ-loop region number count json i₀ i = count - i
 
 loop-holds : tie.Need-loop-holds Inv-loop μ-loop
 loop-holds c = search needs
 
-source-of-requires : tie.Need-source-of-requires Inv-loop μ-loop
-source-of-requires c κs = search needs
+source-report-requires : tie.Need-source-report-requires Inv-loop μ-loop
+source-report-requires c κs = search needs
 
 add-i : tie.Need-add-i Inv-loop μ-loop
 add-i c = search needs
@@ -31,4 +31,4 @@ returns c = search needs
 pub sources-spec : {M : Type 1} → statement M
 sources-spec =
     tie.close
-    (tie.spec Inv-loop μ-loop loop-holds source-of-requires add-i loop-less loop-again returns)
+    (tie.spec Inv-loop μ-loop loop-holds source-report-requires add-i loop-less loop-again returns)

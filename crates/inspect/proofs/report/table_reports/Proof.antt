@@ -1,14 +1,14 @@
--- Only safety: t is at most 8, so indexes t, 2 t and 2 t + 1 are inside their arrays.
+-- Only safety and an end: t is at most the number of tables, so both arrays have it.
 use borrow.Author.Needs.{needs}
 use Prim.Native.Nat.{_≤_, _-_}
-use Rattle.inspect.proofs.lines.table_lines.Statement.{statement}
-use Rattle.inspect.proofs.lines.table_lines.Tie as tie
+use Rattle.inspect.proofs.report.table_reports.Statement.{statement}
+use Rattle.inspect.proofs.report.table_reports.Tie as tie
 
 abbrev Inv-loop : tie.InvT-loop
-Inv-loop i tables original t₀ t = t ≤ 8
+Inv-loop region number i json tables original t₀ t = t ≤ 8
 
 abbrev μ-loop : tie.MeasureT-loop
-μ-loop i tables original t₀ t = 8 - t
+μ-loop region number i json tables original t₀ t = 8 - t
 
 loop-holds : tie.Need-loop-holds Inv-loop μ-loop
 loop-holds c = search needs
@@ -43,8 +43,8 @@ mul-length-2 c = search needs
 array-read-length : tie.Need-array-read-length Inv-loop μ-loop
 array-read-length c = search needs
 
-table-line-requires : tie.Need-table-line-requires Inv-loop μ-loop
-table-line-requires c κs = search needs
+table-report-requires : tie.Need-table-report-requires Inv-loop μ-loop
+table-report-requires c κs = search needs
 
 add-t : tie.Need-add-t Inv-loop μ-loop
 add-t c = search needs
@@ -58,8 +58,8 @@ loop-again c = search needs
 returns : tie.Need-returns Inv-loop μ-loop
 returns c = search needs
 
-pub table-lines-spec : {M : Type 1} → statement M
-table-lines-spec =
+pub table-reports-spec : {M : Type 1} → statement M
+table-reports-spec =
     tie.close
     (tie.spec
     Inv-loop
@@ -75,7 +75,7 @@ table-lines-spec =
     add-length
     mul-length-2
     array-read-length
-    table-line-requires
+    table-report-requires
     add-t
     loop-less
     loop-again

@@ -2,14 +2,14 @@
 use borrow.Author.Needs.{needs}
 use mathlib.Core.Path.{_≡_}
 use lib.ListN.{length}
-use Rattle.inspect.proofs.listing.row_lines.Statement.{statement}
-use Rattle.inspect.proofs.listing.row_lines.Tie as tie
+use Rattle.inspect.proofs.listing.row_reports.Statement.{statement}
+use Rattle.inspect.proofs.listing.row_reports.Tie as tie
 
 abbrev Inv-loop : tie.InvT-loop
-Inv-loop region bank source table values₀ line₀ offset₀ rows₀ values line offset rows = (length values ≡ length values₀) × (length line ≡ length line₀)
+Inv-loop region bank source table json values₀ line₀ offset₀ rows₀ values line offset rows = (length values ≡ length values₀) × (length line ≡ length line₀)
 
 abbrev μ-loop : tie.MeasureT-loop
-μ-loop region bank source table values₀ line₀ offset₀ rows₀ values line offset rows = rows
+μ-loop region bank source table json values₀ line₀ offset₀ rows₀ values line offset rows = rows
 
 slice-aggregate-values : tie.Need-slice-aggregate-values Inv-loop μ-loop
 slice-aggregate-values c = search needs
@@ -20,8 +20,8 @@ slice-aggregate-line c = search needs
 loop-holds : tie.Need-loop-holds Inv-loop μ-loop
 loop-holds c = search needs
 
-row-line-requires : tie.Need-row-line-requires Inv-loop μ-loop
-row-line-requires c κs = search needs
+row-report-requires : tie.Need-row-report-requires Inv-loop μ-loop
+row-report-requires c κs = search needs
 
 returns : tie.Need-returns Inv-loop μ-loop
 returns c = search needs
@@ -38,8 +38,8 @@ loop-again c = search needs
 returns-2 : tie.Need-returns-2 Inv-loop μ-loop
 returns-2 c = search needs
 
-pub row-lines-spec : {M : Type 1} → statement M
-row-lines-spec =
+pub row-reports-spec : {M : Type 1} → statement M
+row-reports-spec =
     tie.close
     (tie.spec
     Inv-loop
@@ -47,7 +47,7 @@ row-lines-spec =
     slice-aggregate-values
     slice-aggregate-line
     loop-holds
-    row-line-requires
+    row-report-requires
     returns
     sub-rows
     loop-less

@@ -3,14 +3,11 @@ use mathlib.Core.Path.{sym}
 use native.Mathlib.Omega.{arith}
 use lib.Seq.{length-take-le}
 use borrow.Author.Needs.{needs}
-use Rattle.program.proofs.image.skip.Statement.{statement}
-use Rattle.program.proofs.image.skip.Tie as tie
+use Rattle.program.proofs.image.read_first.Statement.{statement}
+use Rattle.program.proofs.image.read_first.Tie as tie
 
-large-buffer-requires : tie.Need-large-buffer-requires
-large-buffer-requires c κs = search needs
-
-slice-aggregate-bytes : tie.Need-slice-aggregate-bytes
-slice-aggregate-bytes c = search needs
+slice-relend-prefix-read : tie.Need-slice-relend-prefix-read
+slice-relend-prefix-read c = search needs
 
 slice-aggregate-read : tie.Need-slice-aggregate-read
 slice-aggregate-read c = sym (length-take-le _ _ (omega arith))
@@ -18,23 +15,30 @@ slice-aggregate-read c = sym (length-take-le _ _ (omega arith))
 read-requires : tie.Need-read-requires
 read-requires c κs = search needs
 
+same-length : tie.Need-same-length
+same-length c = search needs
+
 returns : tie.Need-returns
 returns c = search needs
 
 read-requires-2 : tie.Need-read-requires-2
 read-requires-2 c κs = search needs
 
+same-length-2 : tie.Need-same-length-2
+same-length-2 c = search needs
+
 returns-2 : tie.Need-returns-2
 returns-2 c = search needs
 
-pub skip-spec : {M : Type 1} → statement M
-skip-spec =
+pub read-first-spec : {M : Type 1} → statement M
+read-first-spec =
     tie.close
     (tie.spec
-    large-buffer-requires
-    slice-aggregate-bytes
+    slice-relend-prefix-read
     slice-aggregate-read
     read-requires
+    same-length
     returns
     read-requires-2
+    same-length-2
     returns-2)
