@@ -136,7 +136,7 @@ pub fn leftover_at(i: u32) -> Leftover {
     }
 }
 
-fn leftover_index(l: Leftover) -> u32 {
+pub fn leftover_index(l: Leftover) -> u32 {
     match l {
         Leftover::Found => 0,
         Leftover::Erased => 1,
@@ -217,12 +217,17 @@ pub fn operations(k: Kind) -> u32 {
     }
 }
 
-pub fn put_kinds(fd: i32, l: Leftover, k: Kind) {
-    put(fd, b"leftover ");
-    put_leftover(fd, l);
-    count(fd, b", update of ", low32(size(k) as u64));
+pub fn put_update(fd: i32, k: Kind) {
+    count(fd, b"update of ", low32(size(k) as u64));
     put(fd, b" bytes");
     if is_compared(k) {
         put(fd, b", compared first");
     }
+}
+
+pub fn put_kinds(fd: i32, l: Leftover, k: Kind) {
+    put(fd, b"leftover ");
+    put_leftover(fd, l);
+    put(fd, b", ");
+    put_update(fd, k);
 }

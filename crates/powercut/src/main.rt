@@ -41,12 +41,11 @@ pub const PROGRAM: [u8; 8] = *b"powercut";
 // Each kind of update with each leftover.
 const COMBINATIONS: u32 = LEFTOVERS * KINDS;
 
-// How many updates were tried, their cuts together, the picture's file (below 0: none) and where its next part starts.
+// How many updates were tried, their cuts together, and the picture's file (below 0: none).
 struct Tally {
     updates: u32,
     all: Count,
     fd: i32,
-    y: u32,
 }
 
 // An update that is tried, or one that isn't asked for.
@@ -55,7 +54,7 @@ enum Combination {
     Skipped,
 }
 
-fn added(t: Tally, c: Count, y: u32) -> Tally {
+fn added(t: Tally, c: Count) -> Tally {
     let a = t.all;
     let all = Count {
         cuts: wrapping_add_u32(a.cuts, c.cuts),
@@ -71,7 +70,6 @@ fn added(t: Tally, c: Count, y: u32) -> Tally {
         updates: wrapping_add_u32(t.updates, 1),
         all,
         fd: t.fd,
-        y,
     }
 }
 
@@ -91,14 +89,15 @@ fn prepare(image: &[u8], region: &mut [u8], data: &mut [u8], s: Setting) {
     data::make(data, kinds::size(k), 0);
 }
 
-// Writes an update's line and draws its part, and adds it to the others.
-fn reported(t: Tally, p: Plan, c: Count, marks: &[u8]) -> Tally {
+// Writes an update's line and draws its column, and adds it to the others.
+fn reported(t: Tally, p: Plan, c: Count, marks: &[u8], o: Options) -> Tally {
     lines::update_line(p, c);
-    let mut y = t.y;
+    let leftovers = o.leftovers;
+    let updates = o.updates;
     if 0 <= t.fd {
-        y = picture::draw(t.fd, marks, p, c, y);
+        picture::draw(t.fd, marks, p, c, leftovers, updates);
     }
-    added(t, c, y)
+    added(t, c)
 }
 
 // Tries an update on a prepared region.
@@ -108,13 +107,14 @@ fn tried(
     data: &[u8],
     scratch: &mut [u8],
     s: Setting,
+    o: Options,
     t: Tally,
 ) -> Tally {
     let p = trial::planned(region, data, s);
     strips::clear(scratch);
     let c = trial::trial(p, region, image, data, scratch);
     clear(s.progress);
-    reported(t, p, c, part(scratch, MARKS, MARKS_SIZE))
+    reported(t, p, c, part(scratch, MARKS, MARKS_SIZE), o)
 }
 
 // Tries an update on the image with a leftover.
@@ -124,10 +124,11 @@ fn try_setting(
     data: &mut [u8],
     scratch: &mut [u8],
     s: Setting,
+    o: Options,
     t: Tally,
 ) -> Tally {
     prepare(image, region, data, s);
-    tried(image, region, data, scratch, s, t)
+    tried(image, region, data, scratch, s, o, t)
 }
 
 fn combination_at(o: Options, k: u32) -> Combination {
@@ -154,10 +155,11 @@ fn if_asked(
     data: &mut [u8],
     scratch: &mut [u8],
     c: Combination,
+    o: Options,
     t: Tally,
 ) -> Tally {
     match c {
-        Combination::Asked(s) => try_setting(image, region, data, scratch, s, t),
+        Combination::Asked(s) => try_setting(image, region, data, scratch, s, o, t),
         Combination::Skipped => t,
     }
 }
@@ -174,7 +176,7 @@ fn try_combinations(
     let mut t = begun;
     let mut k: u32 = 0;
     while k < COMBINATIONS {
-        t = if_asked(image, region, data, scratch, combination_at(o, k), t);
+        t = if_asked(image, region, data, scratch, combination_at(o, k), o, t);
         k += 1;
     }
     t
@@ -191,18 +193,15 @@ fn picture_file(o: Options, buffer: &mut [u8]) -> i32 {
 }
 
 fn start(o: Options, fd: i32) -> Tally {
-    let leftovers = o.leftovers;
     let updates = o.updates;
     let cuts = o.cuts;
-    let mut y: u32 = 0;
     if 0 <= fd {
-        y = picture::start(fd, leftovers, updates, cuts);
+        picture::start(fd, updates, cuts);
     }
     Tally {
         updates: 0,
         all: trial::none(),
         fd,
-        y,
     }
 }
 

@@ -69,6 +69,21 @@ pub fn cells(t: Target) -> u32 {
     wrapping_add_u32(cell(t, wrapping_sub_u32(operation_size(t), 1)), 1)
 }
 
+// The first byte of a cell, counted from 1.
+pub fn first_byte(t: Target, k: u32) -> u32 {
+    match t {
+        Target::CommitWord => wrapping_add_u32(k, 1),
+        _ => k % STRIP_SIZE * GROUP + 1,
+    }
+}
+
+// The last byte of a cell; the last cell ends with the operation.
+pub fn last_byte(t: Target, k: u32) -> u32 {
+    let next = wrapping_sub_u32(first_byte(t, wrapping_add_u32(k, 1)), 1);
+    let size = operation_size(t);
+    if next < size { next } else { size }
+}
+
 fn has_strip(t: Target) -> bool {
     match t {
         Target::Nothing => false,
