@@ -144,7 +144,7 @@ pub fn asked(number: u32, given: bool) {
     if given {
         say(b"\n");
     } else {
-        say(b", which load doesn't give: not trusted\n");
+        say(b", which load doesn't give\n");
     }
 }
 

@@ -341,7 +341,7 @@ fn inspect(options: &Options) -> Result<Vec<String>, String> {
     let number = given.map(|bank| (BankFields::from(bank).offset - OFFSET) / BANK_SIZE);
     out.push(number.map_or("load: none".into(), |n| format!("load: bank {n}")));
     if let Some(n) = options.bank {
-        let trust = if number == Some(n) { "" } else { ", which load doesn't give: not trusted" };
+        let trust = if number == Some(n) { "" } else { ", which load doesn't give" };
         out.push(format!("asked: bank {n}{trust}"));
         out.extend(by_number(&flash, n, options));
     } else if let Some(bank) = given {
