@@ -10,12 +10,12 @@ use mathlib.Core.Path.{_≡_, refl, sym, ap, _∙_}
 use mathlib.Core.List.{List, [], _∷_, _++_, append-assoc}
 use lib.Dec.{eqb}
 use lib.ListN.{length, take, drop, getD, set, drop-of-length-le, length-drop, length-append, length-take, take-append-drop}
-use lib.Seq.{sets, sets-eq, set-set, set-comm, drop-cons, drop-drop, take-all, take-add, take-append-seam, length-take-le}
+use lib.Seq.{sets, sets-eq, set-set, drop-cons, drop-drop, take-all, take-add, take-append-seam, length-take-le}
 use borrow.Author.Tests.{eq-eqb, ne-eqb, eqb-true, eqb-false}
 use Rattle.base.specs.Number.{pick}
 use Rattle.csv.specs.Write.{special, anySpecial, doubled, fieldOf, delimiter, rowOf}
 use Rattle.base.proofs.Lists.{next}
-use Rattle.csv.proofs.Laws.{sets-append}
+use Rattle.csv.proofs.Laws.{sets-append, sets-over}
 use Rattle.row.specs.Write.{cutBy}
 use Rattle.row.specs.Steps.{has, quotedOf}
 use Rattle.csv.specs.Csv.{quote, comma, carriageReturn, lineFeed}
@@ -30,18 +30,6 @@ copy-turn out to i v h = rw (add-one i, drop-cons v i 0 h, add-suc to i)
 
 pub copy-end : (out : List ℕ) (to i : ℕ) (v : List ℕ) → length v ≤ i → sets out to (drop i v) ≡ out
 copy-end out to i v h = rw (drop-of-length-le v h)
-
-set-early : (o : List ℕ) (k m c : ℕ) (b : List ℕ) → k < m → set (sets o m b) k c ≡ sets (set o k c) m b
-set-early o k m c [] h = refl
-set-early o k m c (x ∷ b) h = set-early (set o m x) k (suc m) c b (omega arith) ∙ ap (λ (l : List ℕ). sets l (suc m) b) (set-comm o m k x c (λ e. omega arith))
-
--- what is overwritten might as well not have been written
-sets-over : (o : List ℕ) (k : ℕ) (b c : List ℕ) → length b ≤ length c → sets (sets o k b) k c ≡ sets o k c
-sets-over o k [] c h = refl
-sets-over o k (x ∷ b) [] h = absurd (omega arith)
-sets-over o k (x ∷ b) (y ∷ c) h =
-    let e : set (sets (set o k x) (suc k) b) k y ≡ sets (set o k y) (suc k) b = set-early (set o k x) k (suc k) y b (omega arith) ∙ ap (λ (l : List ℕ). sets l (suc k) b) (set-set o k x y) in
-    ap (λ (l : List ℕ). sets l (suc k) c) e ∙ sets-over (set o k y) (suc k) b c (omega arith)
 
 -- the first bytes of an array into which v was stored are v
 pub sets-front : (b v : List ℕ) → length v ≤ length b → take (length v) (sets b 0 v) ≡ v

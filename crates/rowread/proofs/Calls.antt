@@ -12,12 +12,11 @@ use Rattle.leaf.proofs.Laws.{written-sets}
 use Rattle.csv.specs.Read as Csv
 use Rattle.csv.proofs.Grammar.{sound, complete}
 use Rattle.refusal.specs.declared.Refusal.the-variants.{Small, Row}
-use Rattle.rowread.specs.declared.scan.Scan.the-variants.{Whole, Broken}
+use Rattle.rowread.specs.declared.exact.Scan.the-variants.{Whole, Broken}
 use Rattle.rowread.specs.declared.ReadAnswer.{ReadAnswer}
 use Rattle.rowread.specs.declared.ReadAnswer.the-variants.{Stored, End, Refused}
 use Rattle.rowread.specs.Stored.{partAt, rowAt, valuesOf, valuesAt, joined, endsOf, found, readAnswer, after}
 use Rattle.rowread.specs.Steps.{scanFrom, scanOf, IsRow, Holds}
-use Rattle.csv.specs.Csv.{maxRow}
 
 take-min : (n : ℕ) (l : List ℕ) → take (min n (length l)) l ≡ take n l
 take-min n l = go (decLt n (length l))
@@ -25,11 +24,6 @@ take-min n l = go (decLt n (length l))
     go : Dec (n < length l) → take (min n (length l)) l ≡ take n l
     go (yes h) = let e : min n (length l) ≡ n = omega arith in rw e
     go (no h) = take-all (min n (length l)) l (omega arith) ∙ sym (take-all n l (omega arith))
-
-pub part-is : (table : List ℕ) (offset end : ℕ) → offset ≤ length table → end ≡ offset + min maxRow (length table - offset) → take (end - offset) (drop offset table) ≡ partAt table offset
-part-is table offset end h e =
-    let n : end - offset ≡ min maxRow (length (drop offset table)) = omega (arith, length-drop offset table) in
-    rw n (take-min maxRow (drop offset table))
 
 pub length-ends : (from : ℕ) (vs : List (List ℕ)) → length (endsOf from vs) ≡ length vs
 unfolding endsOf

@@ -1,132 +1,20 @@
--- What a turn of each copying loop does to what is left to copy: the output with the rest stored after it stays the same list. The rest is
--- what the reader's definition gives from the offset on.
-use Prim.Native.Nat.{ℕ, suc, _+_, _-_, _≤_, _<_}
+-- The values of a row, one after the other, for both passes of the exact path: what is left of them in the second, nothing in the first.
+use Prim.Native.Nat.{ℕ, _+_, _-_, _≤_, _<_}
 use native.Mathlib.Omega.{arith}
-use native.Mathlib.Decide.{decLt}
 use native.Mathlib.Numerals.{add-one}
-use mathlib.Core.Path.{_≡_, refl, sym, ap, _∙_}
 use mathlib.Core.Bool.{Bool, true, false}
-use mathlib.Core.List.{List, [], _∷_, _++_}
-use lib.ListN.{length, take, drop, getD, set, drop-of-length-le, length-drop, length-append}
-use lib.Seq.{sets, drop-cons, drop-drop}
-use Rattle.csv.specs.Csv.{isText, lf, Record, last, more, quote, comma, lineFeed}
-use Rattle.csv.specs.Read.{plainValue, Got, got, bad, push, inner, fieldAt, Row, row, malformed, values}
-use Rattle.csv.proofs.Grammar.{field-complete, comma-stops, lf-stops, sound}
-use Rattle.csv.proofs.Laws.{sets-append}
+use mathlib.Core.Path.{_≡_, refl, sym, ap, _∙_}
+use mathlib.Core.List.{List, [], _∷_, _++_, append-assoc}
+use lib.ListN.{length, drop, set, length-drop, length-append, length-set}
+use lib.Seq.{sets, drop-drop}
+use Rattle.csv.specs.Csv.{Record, last, more, lf, comma, lineFeed}
+use Rattle.csv.specs.Read.{Got, got, fieldAt, Row, row, malformed, values}
+use Rattle.csv.proofs.Grammar.{sound, field-complete, lf-stops, comma-stops}
 use Rattle.csv.proofs.Offsets.{field-offset}
+use Rattle.rowread.specs.declared.exact.Scan.the-variants.{Whole, Broken}
 use Rattle.rowread.specs.Stored.{valuesOf, joined, endsOf}
-use Rattle.base.specs.Number.{pick}
-use Rattle.rowread.specs.Steps.{valueOf, restOf, IsRow, isQuoteOrLf, lineOf}
-use Rattle.rowread.proofs.Lines.{no-quote, run-end, run-part}
-use Rattle.rowread.proofs.Laws.{inner-out, inner-byte, inner-twice, inner-close, past, plain-size, field-plain}
-
--- ---- a value without quotes
-
-pub plain-next : (t : List ℕ) (i : ℕ) → i < length t → isText (getD t i 0) ≡ true → plainValue (drop i t) ≡ getD t i 0 ∷ plainValue (drop (i + 1) t)
-unfolding plainValue
-plain-next t i h e = rw (add-one i, drop-cons t i 0 h) (simp e)
-
-pub plain-stops : (t : List ℕ) (i : ℕ) → i < length t → isText (getD t i 0) ≡ false → plainValue (drop i t) ≡ []
-unfolding plainValue
-plain-stops t i h e = rw (drop-cons t i 0 h) (simp e)
-
-pub plain-ends : (t : List ℕ) (i : ℕ) → length t ≤ i → plainValue (drop i t) ≡ []
-unfolding plainValue
-plain-ends t i h = rw (drop-of-length-le t h)
-
--- where it ends
-pub plain-place : (t : List ℕ) (from : ℕ) → from ≤ length t → (getD t from 0 ≡ quote → ⊥) → from + length (plainValue (drop from t)) ≡ length t - length (restOf (fieldAt (drop from t)))
-plain-place t from h e =
-    omega (arith, plain-size t from, ap (λ (g : Got). length (restOf g)) (field-plain t from e))
-
--- ---- a part of t
-
-pub part-next : (t : List ℕ) (i end : ℕ) → i < end → end ≤ length t → take (end - i) (drop i t) ≡ getD t i 0 ∷ take (end - (i + 1)) (drop (i + 1) t)
-part-next t i end h g = let m : end - i ≡ suc (end - (i + 1)) = omega arith in rw (m, add-one i, drop-cons t i 0 (omega arith))
-
-pub part-none : (t : List ℕ) (i end : ℕ) → end ≤ i → take (end - i) (drop i t) ≡ []
-part-none t i end h = let m : end - i ≡ 0 = omega arith in rw m
-
--- ---- a quoted value
-
--- g is a value followed by r
-abbrev pub Has : Got → List ℕ → Type 0
-Has g r = g ≡ got (valueOf g) r
-
-has-same : (g h : Got) (r : List ℕ) → g ≡ h → Has g r → Has h r
-has-same g h r e p = rw e at p
-
-not-bad : (r : List ℕ) → Has bad r → ⊥
-not-bad r p = let z : _≡_ {A = ℕ} 0 1 = cc in omega arith
-
-push-has : (b : ℕ) (g : Got) (r : List ℕ) → Has (push b g) r → Has g r × (valueOf (push b g) ≡ b ∷ valueOf g)
-push-has b bad r p = absurd (not-bad r p)
-push-has b (got v s) r p = let e : s ≡ r = cc in (ap (got v) e, refl)
-
-run-has : (bs r : List ℕ) → Has (inner bs) r → Has (inner (drop (length (lineOf bs)) bs)) r × (valueOf (inner bs) ≡ lineOf bs ++ valueOf (inner (drop (length (lineOf bs)) bs)))
-unfolding inner lineOf
-run-has [] r h = (h, refl)
-run-has (b ∷ bs) r h = go (isQuoteOrLf b) refl (run-has bs r)
-  where
-    go : (q : Bool) → isQuoteOrLf b ≡ q → (Has (inner bs) r → Has (inner (drop (length (lineOf bs)) bs)) r × (valueOf (inner bs) ≡ lineOf bs ++ valueOf (inner (drop (length (lineOf bs)) bs))))
-        → Has (inner (drop (length (pick q [] (b ∷ lineOf bs))) (b ∷ bs))) r × (valueOf (inner (b ∷ bs)) ≡ pick q [] (b ∷ lineOf bs) ++ valueOf (inner (drop (length (pick q [] (b ∷ lineOf bs))) (b ∷ bs))))
-    go true s f = (h, refl)
-    go false s f =
-        let p : inner (b ∷ bs) ≡ push b (inner bs) = simp (no-quote b s) in
-        let w = push-has b (inner bs) r (has-same (inner (b ∷ bs)) (push b (inner bs)) r p h) in
-        let x = f (w .0) in
-        (x .0, ap valueOf p ∙ w .1 ∙ ap (λ (l : List ℕ). b ∷ l) (x .1))
-
--- a run without quotes and LF, from p to e
-module _ (t : List ℕ) (p e : ℕ) (r : List ℕ) (h : Has (inner (drop p t)) r) (q : e ≡ p + length (lineOf (drop p t))) where
-  pub run-left : Has (inner (drop e t)) r
-  run-left = has-same (inner (drop (length (lineOf (drop p t))) (drop p t))) (inner (drop e t)) r (ap inner (run-end t p e q)) (run-has (drop p t) r h .0)
-
-  run-value : valueOf (inner (drop p t)) ≡ take (e - p) (drop p t) ++ valueOf (inner (drop e t))
-  run-value = run-has (drop p t) r h .1 ∙ ap (λ (l : List ℕ). lineOf (drop p t) ++ valueOf (inner l)) (run-end t p e q) ∙ ap (λ (l : List ℕ). l ++ valueOf (inner (drop e t))) (sym (run-part t p e q))
-
-  pub run-size : length (valueOf (inner (drop p t))) ≡ (e - p) + length (valueOf (inner (drop e t)))
-  run-size = ap length run-value ∙ length-append (take (e - p) (drop p t)) (valueOf (inner (drop e t))) ∙ omega (arith, ap length (run-part t p e q), q)
-
-  pub run-sets : (out : List ℕ) (n : ℕ) → sets out n (valueOf (inner (drop p t))) ≡ sets (sets out n (take (e - p) (drop p t))) (n + (e - p)) (valueOf (inner (drop e t)))
-  run-sets out n =
-      let m : length (take (e - p) (drop p t)) ≡ e - p = omega (arith, ap length (run-part t p e q), q) in
-      ap (sets out n) run-value ∙ sets-append out n (take (e - p) (drop p t)) (valueOf (inner (drop e t))) ∙ ap (λ (x : ℕ). sets (sets out n (take (e - p) (drop p t))) (n + x) (valueOf (inner (drop e t)))) m
-
-module _ (t : List ℕ) (p : ℕ) (r : List ℕ) (h : Has (inner (drop p t)) r) where
-  pub copy-inside : p < length t
-  copy-inside = go (decLt p (length t))
-    where
-      go : Dec (p < length t) → p < length t
-      go (yes d) = d
-      go (no d) = absurd (not-bad r (has-same (inner (drop p t)) bad r (inner-out t p (omega arith)) h))
-
-  pub copy-byte : (getD t p 0 ≡ quote → ⊥) → Has (inner (drop (p + 1) t)) r × (valueOf (inner (drop p t)) ≡ getD t p 0 ∷ valueOf (inner (drop (p + 1) t)))
-  copy-byte e =
-      let q = inner-byte t p copy-inside e in
-      let w = push-has (getD t p 0) (inner (drop (p + 1) t)) r (has-same _ _ r q h) in
-      (w .0, ap valueOf q ∙ w .1)
-
-  -- two quotes are one
-  pub copy-twice : getD t p 0 ≡ quote → getD t (p + 1) 0 ≡ quote
-      → (p + 1 < length t) × Has (inner (drop (p + 1 + 1) t)) r × (valueOf (inner (drop p t)) ≡ getD t p 0 ∷ valueOf (inner (drop (p + 1 + 1) t)))
-  copy-twice e d =
-      let q = inner-twice t p copy-inside e d in
-      let w = push-has quote (inner (drop (p + 1 + 1) t)) r (has-same _ _ r q h) in
-      (past t (p + 1) 33 d, w .0, ap valueOf q ∙ w .1 ∙ rw e)
-
-  -- a quote that no other follows ends the value
-  pub copy-close : getD t p 0 ≡ quote → (getD t (p + 1) 0 ≡ quote → ⊥) → (valueOf (inner (drop p t)) ≡ []) × (p + 1 ≡ length t - length r)
-  copy-close e d =
-      let i : inner (drop p t) ≡ got [] (drop (p + 1) t) = inner-close t p copy-inside e d in
-      let q : r ≡ drop (p + 1) t = cc in
-      (ap valueOf i, omega (arith, ap length q, length-drop (p + 1) t, copy-inside))
-
-pub sets-turn : (out : List ℕ) (n b : ℕ) (v w : List ℕ) → v ≡ b ∷ w → sets out n v ≡ sets (set out n b) (n + 1) w
-sets-turn out n b v w e = rw (e, add-one n)
-
-pub sets-done : (out : List ℕ) (n : ℕ) (v : List ℕ) → v ≡ [] → sets out n v ≡ out
-sets-done out n v e = rw e
+use Rattle.rowread.specs.Steps.{valueOf, restOf, scanFrom, scanOf, IsRow, Ahead, Written, FieldRoom, RowRoom, RowWritten}
+use Rattle.rowread.proofs.Laws.{IsValue}
 
 -- ---- the values of a row, one by one
 
@@ -170,42 +58,39 @@ first-of (one {offset = offset} {v = v} {vs = vs} s i r l) h = record { value = 
 pub is-got : (g : Got) (v r : List ℕ) → g ≡ got v r → g ≡ got (valueOf g) (restOf g)
 is-got g v r e = rw e
 
-pub place-of : (t : List ℕ) (g : Got) (v : List ℕ) (offset : ℕ) → offset < length t → g ≡ got v (drop offset t) → length t - length (restOf g) ≡ offset
-place-of t g v offset h e = rw e (omega (arith, length-drop offset t))
-
 -- what is left to copy: values from an offset on, after `to` bytes and k ends
-pub record Left (t out₀ ends₀ : List ℕ) (width : ℕ) (out ends : List ℕ) (from to k : ℕ) : Type 0 where
+pub record Left (b : ℕ) (t out₀ ends₀ : List ℕ) (width : ℕ) (out ends : List ℕ) (from to k : ℕ) : Type 0 where
   pub values : List (List ℕ)
   pub fields : Fields t from values
   pub many : k + length values ≡ width
   pub same : length out ≡ length out₀
   pub alike : length ends ≡ length ends₀
-  pub fits : to + length (joined values) ≤ length out
-  pub bytes : sets out₀ 0 (joined (valuesOf (Rattle.csv.specs.Read.values width t))) ≡ sets out to (joined values)
+  pub fits : to + length (joined values) + b ≤ length out
+  pub bytes : (rest : List ℕ) → b ≤ length rest → sets out₀ 0 (joined (valuesOf (Rattle.csv.specs.Read.values width t)) ++ rest) ≡ sets out to (joined values ++ rest)
   pub marks : sets ends₀ 0 (endsOf 0 (valuesOf (Rattle.csv.specs.Read.values width t))) ≡ sets ends k (endsOf to values)
 
-pub left-all : (t out ends : List ℕ) (width : ℕ) → IsRow (values width t) → length (joined (valuesOf (values width t))) ≤ length out → Left t out ends width out ends 0 0 0
-left-all t out ends width h n = go (values width t) refl h n
+pub left-all : (b : ℕ) (t out ends : List ℕ) (width : ℕ) → IsRow (values width t) → length (joined (valuesOf (values width t))) + b ≤ length out → Left b t out ends width out ends 0 0 0
+left-all b t out ends width h n = go (values width t) refl h n
   where
-    go : (g : Row) → values width t ≡ g → IsRow g → length (joined (valuesOf g)) ≤ length out → Left t out ends width out ends 0 0 0
+    go : (g : Row) → values width t ≡ g → IsRow g → length (joined (valuesOf g)) + b ≤ length out → Left b t out ends width out ends 0 0 0
     go malformed q i m = absurd i
     go (row vs r) q i m =
         let s = sound width t vs r q in
-        record { values = vs; fields = fields-of t (s .0) 0 refl (omega arith); many = omega (arith, s .1); same = refl; alike = refl; fits = omega arith; bytes = rw q; marks = rw q }
+        record { values = vs; fields = fields-of t (s .0) 0 refl (omega arith); many = omega (arith, s .1); same = refl; alike = refl; fits = omega arith; bytes = λ rest l. rw q; marks = rw q }
 
 joined-split : (ws : List (List ℕ)) (v : List ℕ) (vs : List (List ℕ)) → ws ≡ v ∷ vs → length (joined ws) ≡ length v + length (joined vs)
 unfolding joined
 joined-split ws v vs e = rw e (length-append v (joined vs))
 
-sets-split : (out : List ℕ) (to : ℕ) (ws : List (List ℕ)) (v : List ℕ) (vs : List (List ℕ)) → ws ≡ v ∷ vs → sets out to (joined ws) ≡ sets (sets out to v) (to + length v) (joined vs)
+joined-rest : (ws : List (List ℕ)) (v : List ℕ) (vs : List (List ℕ)) (rest : List ℕ) → ws ≡ v ∷ vs → joined ws ++ rest ≡ v ++ (joined vs ++ rest)
 unfolding joined
-sets-split out to ws v vs e = rw e (sets-append out to v (joined vs))
+joined-rest ws v vs rest e = rw e (append-assoc v (joined vs) rest)
 
 ends-split : (ends : List ℕ) (k to : ℕ) (ws : List (List ℕ)) (v : List ℕ) (vs : List (List ℕ)) → ws ≡ v ∷ vs → sets ends k (endsOf to ws) ≡ sets (set ends k (to + length v)) (k + 1) (endsOf (to + length v) vs)
 unfolding endsOf
 ends-split ends k to ws v vs e = rw (e, add-one k)
 
-module _ {t out₀ ends₀ : List ℕ} {width : ℕ} {out ends : List ℕ} {from to k : ℕ} (l : Left t out₀ ends₀ width out ends from to k) where
+module _ {b : ℕ} {t out₀ ends₀ : List ℕ} {width : ℕ} {out ends : List ℕ} {from to k : ℕ} (l : Left b t out₀ ends₀ width out ends from to k) where
   module _ (h : k < width) where
     pub here : First t from (l .values)
     here = first-of (l .fields) (omega (arith, l .many))
@@ -216,28 +101,30 @@ module _ {t out₀ ends₀ : List ℕ} {width : ℕ} {out ends : List ℕ} {from
     pub here-got : fieldAt (drop from t) ≡ got (valueOf (fieldAt (drop from t))) (restOf (fieldAt (drop from t)))
     here-got = is-got (fieldAt (drop from t)) (here .value) (drop (here .offset) t) (here .read)
 
-    pub here-fits : to + length (valueOf (fieldAt (drop from t))) ≤ length out
+    pub here-fits : to + length (valueOf (fieldAt (drop from t))) + b ≤ length out
     here-fits = omega (arith, ap length read-value, l .fits, joined-split (l .values) (here .value) (here .others) (here .split))
 
-    pub here-place : length t - length (restOf (fieldAt (drop from t))) ≡ here .offset
-    here-place = place-of t (fieldAt (drop from t)) (here .value) (here .offset) (here .inside) (here .read)
+    here-offset : (next : ℕ) (v : List ℕ) → next ≤ length t → fieldAt (drop from t) ≡ got v (drop next t) → next ≡ here .offset
+    here-offset next v m e =
+        let z : length (drop next t) ≡ length (drop (here .offset) t) = ap (λ (g : Got). length (restOf g)) (sym e ∙ here .read) in
+        omega (arith, z, length-drop next t, length-drop (here .offset) t, here .inside)
 
-    pub left-next : (o : List ℕ) (offset end : ℕ) → o ≡ sets out to (valueOf (fieldAt (drop from t))) → offset ≡ length t - length (restOf (fieldAt (drop from t)))
-        → end ≡ to + length (valueOf (fieldAt (drop from t))) → length o ≡ length out → length (set ends k end) ≡ length ends → Left t out₀ ends₀ width o (set ends k end) (offset + 1) end (k + 1)
-    left-next o offset end e p q m n =
+    pub left-next : (o : List ℕ) (next end : ℕ) (v : List ℕ) → Ahead b out to (valueOf (fieldAt (drop from t))) o → next ≤ length t → fieldAt (drop from t) ≡ got v (drop next t)
+        → end ≡ to + length (valueOf (fieldAt (drop from t))) → Left b t out₀ ends₀ width o (set ends k end) (next + 1) end (k + 1)
+    left-next o next end v e m p q =
         let f = here in
-        let z : offset ≡ f .offset = p ∙ here-place in
+        let z : next ≡ f .offset = here-offset next v m p in
         let y : end ≡ to + length (f .value) = q ∙ rw read-value in
-        let x : o ≡ sets out to (f .value) = e ∙ rw read-value in
+        let x : Ahead b out to (f .value) o = rw read-value at e in
         let w = joined-split (l .values) (f .value) (f .others) (f .split) in
         record {
           values = f .others;
           fields = rw z (f .left);
           many = omega (arith, l .many, ap length (f .split));
-          same = m ∙ l .same;
-          alike = n ∙ l .alike;
-          fits = omega (arith, y, w, l .fits, m);
-          bytes = l .bytes ∙ rw (x, y) (sets-split out to (l .values) (f .value) (f .others) (f .split));
+          same = e .0 ∙ l .same;
+          alike = length-set ends k end ∙ l .alike;
+          fits = omega (arith, y, w, l .fits, e .0);
+          bytes = λ rest r. l .bytes rest r ∙ ap (sets out to) (joined-rest (l .values) (f .value) (f .others) rest (f .split)) ∙ sym (x .1 (joined (f .others) ++ rest) (omega (arith, r, length-append (joined (f .others)) rest))) ∙ rw y;
           marks = l .marks ∙ rw y (ends-split ends k to (l .values) (f .value) (f .others) (f .split));
         }
 
@@ -248,6 +135,67 @@ module _ {t out₀ ends₀ : List ℕ} {width : ℕ} {out ends : List ℕ} {from
       go [] e = refl
       go (v ∷ vs) e = absurd (omega arith)
 
-  pub left-none : width ≤ k → (out ≡ sets out₀ 0 (joined (valuesOf (values width t)))) × (ends ≡ sets ends₀ 0 (endsOf 0 (valuesOf (values width t))))
+  pub left-none : width ≤ k → to ≡ length (joined (valuesOf (values width t))) → Ahead b out₀ 0 (joined (valuesOf (values width t))) out × (ends ≡ sets ends₀ 0 (endsOf 0 (valuesOf (values width t))))
   unfolding joined endsOf
-  left-none h = (sym (l .bytes ∙ rw (none-left h)), sym (l .marks ∙ rw (none-left h)))
+  left-none h m = (
+    (
+      l .same,
+      λ rest r.
+          let z : 0 + length (joined (valuesOf (values width t))) ≡ to = omega (arith, m) in
+          rw z (sym (l .bytes rest r ∙ ap (λ (vs : List (List ℕ)). sets out to (joined vs ++ rest)) (none-left h))),
+    ),
+    sym (l .marks ∙ rw (none-left h)),
+  )
+
+-- ---- both passes
+
+-- a row that is written can't be malformed
+pub row-sound : (b : ℕ) (write : Bool) (t : List ℕ) (width : ℕ) (out ends : List ℕ) → RowRoom b write t width out ends → Broken ≡ scanOf width t → write ≡ true → ⊥
+unfolding scanOf
+row-sound b write t width out ends r e w = go (values width t) (r w .0) e
+  where
+    go : (g : Row) → IsRow g → Broken ≡ scanFrom (length t) 0 g → ⊥
+    go malformed i f = i
+    go (row vs s) i f = let z : _≡_ {A = ℕ} 0 1 = cc in omega arith
+
+pub broken-row : {b : ℕ} {write : Bool} {t : List ℕ} {width : ℕ} {out ends o s : List ℕ} → RowRoom b write t width out ends → Broken ≡ scanOf width t → (write ≡ false → (o ≡ out) × (s ≡ ends)) → RowWritten b write t width out ends o s
+broken-row {b} {write} {t} {width} {out} {ends} r e f = record { kept = f; ahead = λ w. absurd (row-sound b write t width out ends r e w) }
+
+pub record RowState (b : ℕ) (write : Bool) (t : List ℕ) (width : ℕ) (out₀ ends₀ out ends : List ℕ) (from to k : ℕ) : Type 0 where
+  pub kept : write ≡ false → (out ≡ out₀) × (ends ≡ ends₀)
+  pub left : write ≡ true → Left b t out₀ ends₀ width out ends from to k
+
+pub state-start : (b : ℕ) (write : Bool) (t : List ℕ) (width : ℕ) (out ends : List ℕ) → RowRoom b write t width out ends → RowState b write t width out ends out ends 0 0 0
+state-start b write t width out ends r = record { kept = λ w. (refl, refl); left = λ w. let x = r w in left-all b t out ends width (x .0) (x .1) }
+
+module _ {b : ℕ} {write : Bool} {t : List ℕ} {width : ℕ} {out₀ ends₀ out ends : List ℕ} {from to k : ℕ} (s : RowState b write t width out₀ ends₀ out ends from to k) where
+  pub state-same : (length out ≡ length out₀) × (length ends ≡ length ends₀)
+  state-same = go write refl
+    where
+      go : (w : Bool) → write ≡ w → (length out ≡ length out₀) × (length ends ≡ length ends₀)
+      go true e = (s .left e .same, s .left e .alike)
+      go false e = (ap length (s .kept e .0), ap length (s .kept e .1))
+
+  pub state-room : k < width → FieldRoom b write t from out to
+  state-room h w = let l = s .left w in (here-got l h, here-fits l h)
+
+  pub state-next : k < width → (o m : List ℕ) {next size : ℕ} (end : ℕ) → IsValue t from next size → end ≡ to + size → Written b write out to (valueOf (fieldAt (drop from t))) o
+      → (write ≡ false → m ≡ ends) × (write ≡ true → m ≡ set ends k end) → RowState b write t width out₀ ends₀ o m (next + 1) end (k + 1)
+  state-next h o m {next} {size} end v e w p =
+      let z : length (valueOf (fieldAt (drop from t))) ≡ size = ap (λ (g : Got). length (valueOf g)) (v .read) ∙ v .sized in
+      record {
+        kept = λ f. (w .kept f ∙ s .kept f .0, p .0 f ∙ s .kept f .1);
+        left = λ f. rw (p .1 f) (left-next (s .left f) h o next end (v .value) (w .ahead f) (v .inside) (v .read) (omega (arith, e, z)));
+      }
+
+  -- all values are written, or there is no row
+  pub state-whole : width ≤ k → (next : ℕ) → Whole next to ≡ scanOf width t → RowWritten b write t width out₀ ends₀ out ends
+  unfolding scanOf
+  state-whole h next e = record { kept = s .kept; ahead = λ w. left-none (s .left w) h (go (values width t) e) }
+    where
+      go : (g : Row) → Whole next to ≡ scanFrom (length t) 0 g → to ≡ length (joined (valuesOf g))
+      go malformed f = absurd (let z : _≡_ {A = ℕ} 0 1 = cc in omega arith)
+      go (row vs r) f = let z : to ≡ 0 + length (joined vs) = cc in omega (arith, z)
+
+  pub state-broken : RowRoom b write t width out₀ ends₀ → Broken ≡ scanOf width t → RowWritten b write t width out₀ ends₀ out ends
+  state-broken r e = record { kept = s .kept; ahead = λ w. absurd (row-sound b write t width out₀ ends₀ r e w) }

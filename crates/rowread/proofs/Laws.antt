@@ -9,16 +9,15 @@ use mathlib.Core.Bool.{Bool, true, false}
 use mathlib.Core.Path.{_≡_, refl, sym, ap, _∙_}
 use mathlib.Core.List.{List, [], _∷_, _++_}
 use lib.Dec.{eqb}
-use lib.ListN.{length, drop, getD, drop-of-length-le, length-drop, length-append, List·getD-eq-default}
-use lib.Seq.{drop-cons, getD-drop, drop-drop}
+use lib.ListN.{length, take, drop, getD, drop-of-length-le, length-drop, length-append, List·getD-eq-default}
+use lib.Seq.{drop-cons, getD-drop, drop-drop, take-at}
 use borrow.Author.Tests.{eq-eqb, ne-eqb, eqb-true}
 use Rattle.base.specs.Number.{pick}
 use Rattle.csv.specs.Csv.{isText, quote, comma, lineFeed}
 use Rattle.csv.specs.Read.{Got, got, bad, push, plainValue, plainRest, inner, closing, fieldAt, Row, row, malformed, front, rowEnd, ended, parted, values}
 use Rattle.csv.proofs.Offsets.{field-offset}
-use Rattle.rowread.specs.declared.scan.Piece.{Piece}
-use Rattle.rowread.specs.declared.scan.Piece.the-variants.{Value, Bad}
-use Rattle.rowread.specs.declared.scan.Scan.the-variants.{Whole, Broken}
+use Rattle.rowread.specs.declared.exact.Piece.the-variants.{Value, Bad}
+use Rattle.rowread.specs.declared.exact.Scan.the-variants.{Whole, Broken}
 use Rattle.rowread.specs.Stored.{joined}
 use Rattle.rowread.specs.Steps.{pieceOf, scanFrom, scanOf}
 
@@ -69,39 +68,12 @@ inner-twice t i h e k = inner-quote t i h e ∙ closing-yes (drop (i + 1) t) (fi
 pub inner-close : (t : List ℕ) (i : ℕ) → i < length t → getD t i 0 ≡ quote → (getD t (i + 1) 0 ≡ quote → ⊥) → inner (drop i t) ≡ got [] (drop (i + 1) t)
 inner-close t i h e k = inner-quote t i h e ∙ closing-no (drop (i + 1) t) (λ q. k (sym (first t (i + 1)) ∙ q))
 
-abbrev pub add : ℕ → Piece → Piece
-add k (Value n s) = Value n (k + s)
-add k Bad = Bad
-
-pub add-zero-piece : (p : Piece) → p ≡ add 0 p
-add-zero-piece (Value n s) = ap (Value n) (omega arith)
-add-zero-piece Bad = refl
-
-pub add-push : (k n b : ℕ) (g : Got) → add k (pieceOf n (push b g)) ≡ add (k + 1) (pieceOf n g)
-add-push k n b (got v r) = ap (Value (n - length r)) (omega arith)
-add-push k n b bad = refl
-
 pub past : (t : List ℕ) (i b : ℕ) → getD t i 0 ≡ suc b → i < length t
 past t i b e = go (decLt i (length t))
   where
     go : Dec (i < length t) → i < length t
     go (yes h) = h
     go (no h) = absurd (let z : getD t i 0 ≡ 0 = List·getD-eq-default t 0 {n = i} (omega arith) in omega arith)
-
-pub closed : (t : List ℕ) (i k : ℕ) → i ≤ length t → Value i k ≡ add k (pieceOf (length t) (got [] (drop i t)))
-closed t i k h = rw (length-drop i t) (let e : length t - (length t - i) ≡ i = omega arith in rw e (ap (Value i) (omega arith)))
-
-pub turn-byte : (t : List ℕ) (i k : ℕ) → i < length t → (getD t i 0 ≡ quote → ⊥) → add k (pieceOf (length t) (inner (drop i t))) ≡ add (k + 1) (pieceOf (length t) (inner (drop (i + 1) t)))
-turn-byte t i k h e = rw (inner-byte t i h e) (add-push k (length t) (getD t i 0) (inner (drop (i + 1) t)))
-
-pub turn-twice : (t : List ℕ) (i k : ℕ) → i < length t → getD t i 0 ≡ quote → getD t (i + 1) 0 ≡ quote → add k (pieceOf (length t) (inner (drop i t))) ≡ add (k + 1) (pieceOf (length t) (inner (drop (i + 1 + 1) t)))
-turn-twice t i k h e f = rw (inner-twice t i h e f) (add-push k (length t) quote (inner (drop (i + 1 + 1) t)))
-
-pub turn-close : (t : List ℕ) (i k : ℕ) → i < length t → getD t i 0 ≡ quote → (getD t (i + 1) 0 ≡ quote → ⊥) → Value (i + 1) k ≡ add k (pieceOf (length t) (inner (drop i t)))
-turn-close t i k h e f = rw (inner-close t i h e f) (closed t (i + 1) k (omega arith))
-
-pub turn-out : (t : List ℕ) (i k : ℕ) → length t ≤ i → Bad ≡ add k (pieceOf (length t) (inner (drop i t)))
-turn-out t i k h = rw (inner-out t i h)
 
 -- ---- a row end
 
@@ -126,6 +98,12 @@ plain-all (b ∷ bs) = go (isText b) (plain-all bs)
 
 pub plain-size : (t : List ℕ) (i : ℕ) → length (plainValue (drop i t)) + length (plainRest (drop i t)) ≡ length t - i
 plain-size t i = sym (length-append (plainValue (drop i t)) (plainRest (drop i t))) ∙ ap length (plain-all (drop i t)) ∙ length-drop i t
+
+-- its bytes are a part of t
+pub plain-part : (t : List ℕ) (from e : ℕ) → e ≡ from + length (plainValue (drop from t)) → take (e - from) (drop from t) ≡ plainValue (drop from t)
+plain-part t from e h =
+    let z : e - from ≡ length (plainValue (drop from t)) = omega (arith, h) in
+    rw z (rw (plain-all (drop from t)) at (take-at (plainValue (drop from t)) (plainRest (drop from t)) (length (plainValue (drop from t))) refl))
 
 field-not : (bs : List ℕ) → (getD bs 0 0 ≡ quote → ⊥) → fieldAt bs ≡ got (plainValue bs) (plainRest bs)
 unfolding fieldAt plainValue plainRest
@@ -195,10 +173,14 @@ unfolding parted
 parted-no n v [] e = refl
 parted-no n v (b ∷ bs) e = simp (ne-eqb b comma e)
 
--- a row of no values
-pub scan-none : (t : List ℕ) (width : ℕ) → width ≡ 0 → Broken ≡ scanOf width t
-unfolding scanOf values
-scan-none t width e = rw e
+-- at the start, and a row of no values
+pub scan-start : (width : ℕ) (t : List ℕ) → scanOf width t ≡ scanFrom (length t) 0 (values width (drop 0 t))
+unfolding scanOf
+scan-start width t = refl
+
+pub scan-zero : (n s : ℕ) (bs : List ℕ) → scanFrom n s (values 0 bs) ≡ Broken
+unfolding values
+scan-zero n s bs = refl
 
 -- m values are left to read, at least two
 module _ (t : List ℕ) (s from m n : ℕ) (left : m ≡ suc (suc n)) where

@@ -1,6 +1,11 @@
+pub mod Little
+pub mod Words
 pub mod Laws
 pub mod Lines
+pub mod Search
+pub mod Blocks
+pub mod Values
+pub mod Quoted
 pub mod Copies
 pub mod Calls
-pub mod OnePass
 pub mod Table

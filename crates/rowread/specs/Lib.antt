@@ -1,3 +1,4 @@
+pub mod Marks
 pub mod Stored
 pub mod Steps
 pub mod Claims

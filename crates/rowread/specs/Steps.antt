@@ -1,35 +1,38 @@
 -- What the private functions promise each other. Nothing here says what a row is.
 use Prim.Native.Nat.{ℕ, _+_, _-_, _≤_, _<_}
 use mathlib.Core.Path.{_≡_}
-use mathlib.Core.Bool.{Bool, false, _||_}
+use mathlib.Core.Bool.{Bool, true, false, _||_}
 use mathlib.Core.List.{List, [], _∷_, _++_}
 use lib.Dec.{eqb}
 use lib.ListN.{length, take, drop, getD}
 use lib.Seq.{sets}
 use Rattle.base.specs.Number.{pick}
 use Rattle.csv.specs.Csv.{Record, quote, comma, lineFeed}
-use Rattle.csv.specs.Read.{Got, got, bad, Row, row, malformed, values}
-use Rattle.rowread.specs.declared.scan.Piece.{Piece}
-use Rattle.rowread.specs.declared.scan.Piece.the-variants.{Value, Bad}
-use Rattle.rowread.specs.declared.scan.Scan.{Scan}
-use Rattle.rowread.specs.declared.scan.Scan.the-variants.{Whole, Broken}
-use Rattle.rowread.specs.declared.fast.Fast.{Fast}
-use Rattle.rowread.specs.declared.fast.Fast.the-variants.{Read, Not}
-use Rattle.rowread.specs.Stored.{joined, endsOf}
+use Rattle.csv.specs.Read.{Got, got, bad, Row, row, malformed, values, inner, fieldAt}
+use Rattle.rowread.specs.declared.exact.Piece.{Piece}
+use Rattle.rowread.specs.declared.exact.Piece.the-variants.{Value, Bad}
+use Rattle.rowread.specs.declared.exact.Scan.{Scan}
+use Rattle.rowread.specs.declared.exact.Scan.the-variants.{Whole, Broken}
+use Rattle.rowread.specs.declared.line.Fast.{Fast}
+use Rattle.rowread.specs.declared.line.Fast.the-variants.{Read, Not}
+use Rattle.rowread.specs.declared.line.Found.{Found}
+use Rattle.rowread.specs.declared.line.Found.the-variants.{Stop, Commas}
+use Rattle.rowread.specs.declared.unquote.Turn.{Turn}
+use Rattle.rowread.specs.declared.unquote.ByMarks.{ByMarks}
+use Rattle.rowread.specs.Marks.{longBytes, little, marks, isQuote, since}
+use Rattle.rowread.specs.Stored.{joined, endsOf, valuesOf}
 
--- how many bytes are counted at once, and how many are searched for a quote or LF
-abbrev pub atOnce : ℕ
-atOnce = 64
+-- how many bytes are copied at once
+abbrev pub blockSize : ℕ
+blockSize = 16
 
-abbrev pub searched : ℕ
-searched = 32
+-- how many bytes a turn by marks may read
+abbrev pub searchedBytes : ℕ
+searchedBytes = 24
 
--- the two buffers that a row is read into
-abbrev pub smallBuffer : ℕ
-smallBuffer = 256
-
-abbrev pub largeBuffer : ℕ
-largeBuffer = 1024
+-- how many bytes after a value may be overwritten
+abbrev pub slackOf : Bool → ℕ
+slackOf ahead = pick ahead blockSize 0
 
 -- the end of a value in n bytes, and its size
 abbrev pub pieceOf : ℕ → Got → Piece
@@ -71,10 +74,6 @@ unfoldable pub lineOf : List ℕ → List ℕ
 lineOf [] = []
 lineOf (b ∷ t) = pick (isQuoteOrLf b) [] (b ∷ lineOf t)
 
--- n is the index of the first quote or LF, the chunk's size if there is none
-abbrev pub FirstQuoteOrLf : List ℕ → ℕ → Type 0
-FirstQuoteOrLf v n = (n ≤ searched) × (n ≡ searched → length (lineOf v) ≡ length v) × (n < searched → (n ≡ length (lineOf v)) × (n < length v))
-
 -- of bytes without quotes: how many are commas; the others; and where in these the values end, those that a comma follows, and all
 unfoldable pub commasIn : List ℕ → ℕ
 commasIn [] = 0
@@ -91,35 +90,97 @@ cutsIn n (b ∷ v) = pick (eqb b comma) (n ∷ cutsIn n v) (cutsIn (n + 1) v)
 abbrev pub marksIn : ℕ → List ℕ → List ℕ
 marksIn n v = cutsIn n v ++ ((n + length (textIn v)) ∷ [])
 
--- ---- a row with quotes, in one pass
-
 unfoldable pub anyQuoteOrLf : List ℕ → Bool
 anyQuoteOrLf [] = false
 anyQuoteOrLf (b ∷ v) = isQuoteOrLf b || anyQuoteOrLf v
 
--- before offset e there are n values without quotes, each with its comma
-pub record Opens (t : List ℕ) (e n : ℕ) : Type 0 where
-  pub inside : e ≤ length t
-  pub clean : anyQuoteOrLf (take e t) ≡ false
-  pub afterComma : (e ≡ 0 → ⊥) → getD t (e - 1) 0 ≡ comma
-  pub count : n ≡ commasIn (take e t)
+-- the first p bytes were searched: they have no quote or LF and k commas, and `marks`, which were `slots`, have where the values before these end,
+-- if there are slots for all
+pub record At (t slots marks : List ℕ) (p k : ℕ) : Type 0 where
+  pub inside : p ≤ length t
+  pub line : length (lineOf t) ≡ p + length (lineOf (drop p t))
+  pub many : k ≡ commasIn (take p t)
+  pub same : length marks ≡ length slots
+  pub ends : k ≤ length slots → marks ≡ sets slots 0 (cutsIn 0 (take p t))
 
--- the value whose opening quote is at e is closed at c, has no quote or LF inside, and ends the row
-abbrev pub Closes : List ℕ → ℕ → ℕ → Type 0
-Closes t e c = (c ≡ e + 1 + length (lineOf (drop (e + 1) t))) × (getD t c 0 ≡ quote) × (getD t (c + 1) 0 ≡ lineFeed)
+-- a quote or LF is at e
+abbrev pub StopAt : List ℕ → ℕ → Type 0
+StopAt t e = (e < length t) × (isQuoteOrLf (getD t e 0) ≡ true)
 
--- by a rule of the grammar a value was read at an offset of t and put into out
-pub record Into (Rule : List ℕ → List ℕ → List ℕ → Type 0) (t : List ℕ) (from : ℕ) (out : List ℕ) (to : ℕ) (o : List ℕ) (next size : ℕ) : Type 0 where
+-- eight bytes from i on were searched
+abbrev pub WordSearched : List ℕ → ℕ → ℕ → List ℕ → List ℕ → Found → Type 0
+WordSearched t i k before marks (Stop e n) = (slots : List ℕ) → At t slots before i k → At t slots marks e n × StopAt t e
+WordSearched t i k before marks (Commas n) = (slots : List ℕ) → At t slots before i k → At t slots marks (i + longBytes) n
+
+abbrev pub LineFound : List ℕ → List ℕ → List ℕ → Found → Type 0
+LineFound t slots marks (Stop e n) = At t slots marks e n × StopAt t e
+LineFound t slots marks (Commas n) = Unit {0}
+
+-- v was written at `to`, and b bytes after it are free: what is written there next makes the output that has both
+abbrev pub Ahead : ℕ → List ℕ → ℕ → List ℕ → List ℕ → Type 0
+Ahead b out to v o = (length o ≡ length out) × ((rest : List ℕ) → b ≤ length rest → sets o (to + length v) rest ≡ sets out to (v ++ rest))
+
+-- ---- a quoted value
+
+-- v put before a value
+abbrev pub prefixed : List ℕ → Got → Got
+prefixed v (got w r) = got (v ++ w) r
+prefixed v bad = bad
+
+-- if `write`, v was written at `to`; else nothing was
+pub record Written (b : ℕ) (write : Bool) (out : List ℕ) (to : ℕ) (v o : List ℕ) : Type 0 where
+  pub kept : write ≡ false → o ≡ out
+  pub ahead : write ≡ true → Ahead b out to v o
+
+-- if `write`, what follows the opening quote is a value, and it fits, with b bytes after it
+abbrev pub Room : ℕ → Bool → List ℕ → ℕ → List ℕ → ℕ → Type 0
+Room b write t from out to = write ≡ true → IsGot (inner (drop from t)) × (to + length (valueOf (inner (drop from t))) + b ≤ length out)
+
+-- the same of any value
+abbrev pub FieldRoom : ℕ → Bool → List ℕ → ℕ → List ℕ → ℕ → Type 0
+FieldRoom b write t from out to = write ≡ true → IsGot (fieldAt (drop from t)) × (to + length (valueOf (fieldAt (drop from t))) + b ≤ length out)
+
+-- the same of a row and its ends
+abbrev pub RowRoom : ℕ → Bool → List ℕ → ℕ → List ℕ → List ℕ → Type 0
+RowRoom b write t width out ends = write ≡ true → IsRow (values width t) × (length (joined (valuesOf (values width t))) + b ≤ length out) × (width ≤ length ends)
+
+-- if `write`, the values of the row and their ends were written; else nothing was
+pub record RowWritten (b : ℕ) (write : Bool) (t : List ℕ) (width : ℕ) (out ends o s : List ℕ) : Type 0 where
+  pub kept : write ≡ false → (o ≡ out) × (s ≡ ends)
+  pub ahead : write ≡ true → Ahead b out 0 (joined (valuesOf (values width t))) o × (s ≡ sets ends 0 (endsOf 0 (valuesOf (values width t))))
+
+-- the word at i is searched, from p on: m has the marks of its quotes from there on
+pub record Grid (t : List ℕ) (i p m : ℕ) : Type 0 where
+  pub low : i ≤ p
+  pub high : p ≤ i + longBytes
+  pub inside : i + longBytes ≤ length t
+  pub quotes : m ≡ little (since (p - i) (marks isQuote (take longBytes (drop i t))))
+
+-- the value goes on: some bytes of it, and the word that is searched next; or the quote at which it ends
+pub record Turned (t : List ℕ) (i p : ℕ) (r : Turn) : Type 0 where
+  pub few : r .copied ≤ longBytes
+  pub ends : r .closed ≡ true → (inner (drop p t) ≡ got (take (r .copied) (drop p t)) (drop (r .p + 1) t)) × (p + r .copied ≤ r .p) × (r .p < length t)
+  pub on : r .closed ≡ false → (inner (drop p t) ≡ prefixed (take (r .copied) (drop p t)) (inner (drop (r .p) t))) × (p + r .copied ≤ r .p) × (r .p ≤ length t) × (i + p < r .i + r .p) × Grid t (r .i) (r .p) (r .m)
+
+-- a part of the value was read, up to p, and written
+pub record Unquoting (b : ℕ) (write : Bool) (t : List ℕ) (from : ℕ) (out : List ℕ) (to : ℕ) (o : List ℕ) (p n : ℕ) : Type 0 where
   pub value : List ℕ
-  pub read : Rule (drop from t) value (drop next t)
-  pub sized : size ≡ length value
-  pub grows : from + size ≤ next
-  pub inside : next ≤ length t
-  pub bytes : o ≡ sets out to value
+  pub on : inner (drop from t) ≡ prefixed value (inner (drop p t))
+  pub upto : n ≡ to + length value
+  pub grows : from + length value ≤ p
+  pub inside : p ≤ length t
+  pub written : Written b write out to value o
 
-abbrev pub ValueRead : (List ℕ → List ℕ → List ℕ → Type 0) → List ℕ → ℕ → List ℕ → ℕ → List ℕ → Piece → Type 0
-ValueRead Rule t from out to o (Value next size) = Into Rule t from out to o next size
-ValueRead Rule t from out to o Bad = Unit {0}
+-- a value that was read from an offset on is inside t
+abbrev pub Inside : List ℕ → ℕ → Piece → Type 0
+Inside t from (Value next size) = (from + size ≤ next) × (next ≤ length t)
+Inside t from Bad = Unit {0}
+
+-- the value was read by marks: all of it, or a part
+abbrev pub ReadByMarks : Bool → List ℕ → ℕ → List ℕ → ℕ → List ℕ → ByMarks → Type 0
+ReadByMarks write t from out to o r =
+    (r .whole ≡ true → (Value (r .next) (r .size) ≡ pieceOf (length t) (inner (drop from t))) × Written blockSize write out to (valueOf (inner (drop from t))) o)
+    × (r .whole ≡ false → Unquoting blockSize write t from out to o (r .next) (to + r .size))
 
 -- the values of a row from an offset on, with k values before it, were put into out after `to` bytes, and their ends into `ends`
 pub record Holds (t : List ℕ) (from to k width : ℕ) (out ends o s : List ℕ) (next size : ℕ) : Type 0 where
@@ -133,22 +194,7 @@ pub record Holds (t : List ℕ) (from to k width : ℕ) (out ends o s : List ℕ
   pub bytes : o ≡ sets out to (joined values)
   pub marks : s ≡ sets ends k (endsOf to values)
 
-abbrev pub RowRead : List ℕ → ℕ → ℕ → ℕ → ℕ → List ℕ → List ℕ → List ℕ → List ℕ → Scan → Type 0
-RowRead t from to k width out ends o s (Whole next size) = Holds t from to k width out ends o s next size
-RowRead t from to k width out ends o s Broken = Unit {0}
-
 -- a fast path: the row was read, or nothing was written
 abbrev pub Quickly : List ℕ → ℕ → List ℕ → List ℕ → List ℕ → List ℕ → Fast → Type 0
 Quickly t width out ends o s (Read next size) = Holds t 0 0 0 width out ends o s next size
 Quickly t width out ends o s Not = (o ≡ out) × (s ≡ ends)
-
--- a row that was scanned is copied from the buffers `buffer` and `marks`, or nothing is written
-abbrev pub Handed : Scan → ℕ → List ℕ → List ℕ → List ℕ → List ℕ → List ℕ → List ℕ → Fast → Type 0
-Handed scan width buffer marks out ends o s (Read next size) =
-    (scan ≡ Whole next size) × (size ≤ length out) × (width ≤ length ends) × (o ≡ sets out 0 (take size buffer)) × (s ≡ sets ends 0 (take width marks))
-Handed scan width buffer marks out ends o s Not = (o ≡ out) × (s ≡ ends)
-
--- the scanned values have at most as many bytes as the buffer
-abbrev pub Within : ℕ → Scan → Type 0
-Within capacity (Whole next size) = size ≤ capacity
-Within capacity Broken = Unit {0}

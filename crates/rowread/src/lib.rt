@@ -1,44 +1,28 @@
 // Reads a stored row by RFC 4180. Nothing is written before the whole row is read, so that a refusal leaves the outputs unchanged.
-mod buffered;
-mod copy;
-mod fast;
+//
+// The fast path (`line`) reads a row without quotes in one search, and says nothing of any other: too near the table's end, too wide, an output without a
+// block to spare, or malformed. The exact path (`exact`) reads any row and gives every refusal. It goes through the row twice by the same functions, first
+// without writing. Both find delimiters by `marks`, eight bytes at a time; `unquote` is the exact path's quoted value.
+// A delimiter is known in four places: its mark (`marks::delimiters_of`), a byte of text (`exact::is_text`), and the row end (`exact::row_end`,
+// `line::fast_row`).
+mod exact;
 mod line;
-mod scan;
+mod marks;
+mod unquote;
 
 ghost use Rattle.rowread.specs.Claims.{Claims};
 ghost use mathlib.Core.Path.{_≡_};
 ghost use Prim.Native.Nat.{_+_, _<_};
 ghost use lib.ListN.{length};
 ghost use Rattle.rowread.specs.Stored.{valuesAt, joined, endsOf, readAnswer, after};
-use crate::copy::copy_row;
-use crate::fast::Fast;
-use crate::fast::fast_row;
-use crate::scan::Scan;
-use crate::scan::end_within;
-use crate::scan::scan_row;
+use crate::exact::Scan;
+use crate::exact::row;
+use crate::exact::write_row;
+use crate::line::Fast;
+use crate::line::fast_row;
+use base::slice::part;
 use csv::MAX_ROW;
 use refusal::Refusal;
-
-// How many bytes are counted at once, and how many are searched for a quote or LF.
-const AT_ONCE: usize = 64;
-
-const SEARCHED: usize = 32;
-
-// The index that means that a chunk has no quote or LF.
-const NOT_FOUND: u8 = SEARCHED as u8;
-
-// From how many bytes without a quote on the search is faster.
-const WITHOUT_QUOTE: usize = 16;
-
-// The two buffers that a row is read into, and within how many bytes its end is for the small one.
-const SMALL_BUFFER: usize = 256;
-
-const LARGE_BUFFER: usize = 1024;
-
-const LF_WITHIN: usize = 64;
-
-// The closing quote of a row's last value, and the LF.
-const ROW_END: usize = 2;
 
 pub enum ReadAnswer {
     // The values, joined, are in the first size bytes, and the next row starts at next.
@@ -64,8 +48,7 @@ pub fn read_row(
     if offset == table.len() {
         return ReadAnswer::End;
     }
-    let end = end_within(table.len(), offset, MAX_ROW);
-    let t = &table[offset..end];
+    let t = part(table, offset, MAX_ROW);
     let quick = fast_row(t, width, out, ends);
     if let Fast::Read { next, size } = quick {
         return ReadAnswer::Stored {
@@ -73,7 +56,7 @@ pub fn read_row(
             size,
         };
     }
-    let scan = scan_row(t, width);
+    let scan = row(t, width, out, ends, false, true);
     let Scan::Whole { next, size } = scan else {
         return ReadAnswer::Refused(Refusal::Row);
     };
@@ -83,7 +66,7 @@ pub fn read_row(
     if ends.len() < width {
         return ReadAnswer::Refused(Refusal::Small);
     }
-    copy_row(t, width, out, ends);
+    write_row(t, width, size, out, ends);
     ReadAnswer::Stored {
         next: offset + next,
         size,

@@ -1,132 +1,176 @@
-// A line without quotes, and one with a quoted last field.
+// The fast path: a row without quotes. One search, eight bytes at a time, finds the first quote or LF and the commas before it. If that is an LF,
+// the values are copied block by block: a block may go past the end of its value, since the next value overwrites what is too much, and what the
+// last block overwrites after the row is saved before and put back.
 ghost use mathlib.Core.Path.{_≡_};
-ghost use mathlib.Core.Bool.{true};
 ghost use Prim.Native.Nat.{_+_, _-_, _≤_, _<_};
-ghost use lib.ListN.{length, getD};
+ghost use lib.ListN.{length, take, drop};
 ghost use lib.Seq.{sets};
-ghost use Rattle.csv.specs.Csv.{quote, comma, maxRow};
-ghost use Rattle.rowread.specs.Steps.{commasIn, textIn, cutsIn, marksIn, Opens, Closes, Quickly, atOnce};
-use crate::AT_ONCE;
-use crate::ROW_END;
-use crate::copy::copy_part;
-use crate::fast::Fast;
-use crate::scan::byte_at;
-use crate::scan::quote_or_lf_from;
+ghost use Rattle.rowread.specs.Marks.{longBytes};
+ghost use Rattle.rowread.specs.Steps.{commasIn, textIn, cutsIn, marksIn, blockSize, Ahead, WordSearched, LineFound, Quickly};
+use crate::marks::LONG;
+use crate::marks::clear_first;
+use crate::marks::delimiters_of;
+use crate::marks::first;
+use crate::marks::load;
 use csv::COMMA;
 use csv::LF;
-use csv::QUOTE;
+use csv::MAX_COLUMNS;
 
-// How many of at most 64 bytes are commas.
-fn count_commas_in_block(v: &[u8]) -> u8
-    requires { ⌜ length (now v) ≤ atOnce ⌝ }
-    ensures { λ r. ⌜ r ≡ commasIn (now (v .entry)) ⌝ }
+// How many bytes are copied at once.
+pub(crate) const BLOCK: usize = 16;
+
+// What the fast path did: the values are written, or nothing is.
+pub(crate) enum Fast {
+    Read { next: usize, size: usize },
+    Not,
+}
+
+// What a search found: the offset of the first quote or LF and how many commas are before it, or only commas.
+pub(crate) enum Found {
+    Stop { end: usize, commas: usize },
+    Commas(usize),
+}
+
+// Searches eight bytes. `commas` are before them; `marks` gets where the values before each comma end.
+fn search_word(t: &[u8], i: usize, commas: usize, marks: &mut [usize]) -> Found
+    requires { ⌜ i + longBytes ≤ length (now t) ⌝ }
+    requires { ⌜ commas ≤ i ⌝ }
+    ensures { λ r. ⌜ WordSearched (now (t .entry)) i commas (now (marks .entry)) (now (marks .exit)) r ⌝ }
 {
-    let mut n: u8 = 0;
-    let mut i: usize = 0;
-    while i < v.len() {
-        if v[i] == COMMA {
-            n += 1;
+    let mut m = delimiters_of(load(t, i));
+    let mut k = commas;
+    while m != 0 {
+        let q = i + first(m);
+        if t[q] != COMMA {
+            return Found::Stop { end: q, commas: k };
         }
+        if k < marks.len() {
+            marks[k] = q - k;
+        }
+        k += 1;
+        m = clear_first(m);
+    }
+    Found::Commas(k)
+}
+
+// Searches the first quote or LF; where t ends within eight bytes it is not found.
+fn search_line(t: &[u8], marks: &mut [usize]) -> Found
+    ensures { λ r. ⌜ LineFound (now (t .entry)) (now (marks .entry)) (now (marks .exit)) r ⌝ }
+{
+    let mut k: usize = 0;
+    let mut i: usize = 0;
+    while LONG <= t.len() - i {
+        let found = search_word(t, i, k, marks);
+        let Found::Commas(n) = found else {
+            return found;
+        };
+        k = n;
+        i += LONG;
+    }
+    Found::Commas(k)
+}
+
+// Copies the bytes of t from one offset to another to out; gives where they end there.
+pub(crate) fn copy_part(t: &[u8], from: usize, end: usize, out: &mut [u8], to: usize) -> usize
+    requires { ⌜ (from ≤ end) × (end ≤ length (now t)) × (to + (end - from) ≤ length (now out)) ⌝ }
+    ensures { λ r. ⌜ (r ≡ to + (end - from)) × (now (out .exit) ≡ sets (now (out .entry)) to (take (end - from) (drop from (now (t .entry))))) ⌝ }
+{
+    let mut i = from;
+    let mut n = to;
+    while i < end {
+        out[n] = t[i];
+        n += 1;
         i += 1;
     }
     n
 }
 
-// How many bytes are commas.
-pub(crate) fn count_commas(v: &[u8]) -> usize
-    requires { ⌜ length (now v) ≤ maxRow ⌝ }
-    ensures { λ r. ⌜ r ≡ commasIn (now (v .entry)) ⌝ }
+// Copies a block. The array in between is copied whole.
+pub(crate) fn copy_block(t: &[u8], from: usize, out: &mut [u8], to: usize)
+    requires { ⌜ (from + blockSize ≤ length (now t)) × (to + blockSize ≤ length (now out)) ⌝ }
+    ensures { λ _. ⌜ now (out .exit) ≡ sets (now (out .entry)) to (take blockSize (drop from (now (t .entry)))) ⌝ }
 {
-    let mut n: usize = 0;
+    let mut b: [u8; BLOCK] = [0; BLOCK];
+    copy_part(t, from, from + BLOCK, &mut b, 0);
+    copy_part(&b, 0, BLOCK, out, to);
+}
+
+// Copies n bytes by blocks; up to a block after them is overwritten too.
+pub(crate) fn copy_value(t: &[u8], from: usize, n: usize, out: &mut [u8], to: usize)
+    requires { ⌜ (from + n + blockSize ≤ length (now t)) × (to + n + blockSize ≤ length (now out)) ⌝ }
+    ensures { λ _. ⌜ Ahead blockSize (now (out .entry)) to (take n (drop from (now (t .entry)))) (now (out .exit)) ⌝ }
+{
     let mut i: usize = 0;
-    while AT_ONCE <= v.len() - i {
-        let end = i + AT_ONCE;
-        n += count_commas_in_block(&v[i..end]) as usize;
-        i = end;
+    while i < n {
+        copy_block(t, from + i, out, to + i);
+        i += BLOCK;
     }
-    n + count_commas_in_block(&v[i..v.len()]) as usize
 }
 
-// Copies the values of bytes without quotes to out, and the ends of those that a comma follows; gives how many bytes they have.
-pub(crate) fn copy_before(v: &[u8], out: &mut [u8], ends: &mut [usize]) -> usize
-    requires { ⌜ (length (textIn (now v)) ≤ length (now out)) × (commasIn (now v) ≤ length (now ends)) ⌝ }
-    ensures { λ r. ⌜ (r ≡ length (textIn (now (v .entry)))) × (now (out .exit) ≡ sets (now (out .entry)) 0 (textIn (now (v .entry)))) × (now (ends .exit) ≡ sets (now (ends .entry)) 0 (cutsIn 0 (now (v .entry)))) ⌝ }
+// Copies the values of the first e bytes, which have n commas, and their ends; up to a block after the values is overwritten too.
+fn copy_values(t: &[u8], e: usize, n: usize, marks: &[usize], out: &mut [u8], ends: &mut [usize])
+    requires { ⌜ (e + blockSize ≤ length (now t)) × (n ≡ commasIn (take e (now t))) × (take n (now marks) ≡ cutsIn 0 (take e (now t))) ⌝ }
+    requires { ⌜ (n ≤ length (now marks)) × (e - n + blockSize ≤ length (now out)) × (n < length (now ends)) ⌝ }
+    ensures { λ _. ⌜ Ahead blockSize (now (out .entry)) 0 (textIn (take e (now (t .entry)))) (now (out .exit)) × (now (ends .exit) ≡ sets (now (ends .entry)) 0 (marksIn 0 (take e (now (t .entry))))) ⌝ }
 {
-    let mut n: usize = 0;
+    let mut from: usize = 0;
+    let mut to: usize = 0;
     let mut k: usize = 0;
-    let mut j: usize = 0;
-    while j < v.len() {
-        let b = v[j];
-        if b == COMMA {
-            ends[k] = n;
-            k += 1;
-        } else {
-            out[n] = b;
-            n += 1;
-        }
-        j += 1;
+    while k < n {
+        let end = marks[k];
+        copy_value(t, from, end - to, out, to);
+        ends[k] = end;
+        from = from + (end - to) + 1;
+        to = end;
+        k += 1;
     }
-    n
+    copy_value(t, from, e - from, out, to);
+    ends[n] = e - n;
 }
 
-// Copies the values of a row without quotes, whose bytes are v, and their ends.
-pub(crate) fn copy_line(v: &[u8], out: &mut [u8], ends: &mut [usize])
-    requires { ⌜ (length (textIn (now v)) ≤ length (now out)) × (commasIn (now v) < length (now ends)) ⌝ }
-    ensures { λ _. ⌜ (now (out .exit) ≡ sets (now (out .entry)) 0 (textIn (now (v .entry)))) × (now (ends .exit) ≡ sets (now (ends .entry)) 0 (marksIn 0 (now (v .entry)))) ⌝ }
+// Copies the values of the first e bytes, which have n commas, and their ends.
+fn copy_line(t: &[u8], e: usize, n: usize, marks: &[usize], out: &mut [u8], ends: &mut [usize])
+    requires { ⌜ (e + blockSize ≤ length (now t)) × (n ≡ commasIn (take e (now t))) × (take n (now marks) ≡ cutsIn 0 (take e (now t))) ⌝ }
+    requires { ⌜ (n ≤ length (now marks)) × (e - n + blockSize ≤ length (now out)) × (n < length (now ends)) ⌝ }
+    ensures { λ _. ⌜ (now (out .exit) ≡ sets (now (out .entry)) 0 (textIn (take e (now (t .entry))))) × (now (ends .exit) ≡ sets (now (ends .entry)) 0 (marksIn 0 (take e (now (t .entry))))) ⌝ }
 {
-    let n = copy_before(v, out, ends);
-    let k = v.len() - n;
-    ends[k] = n;
+    let mut saved: [u8; BLOCK] = [0; BLOCK];
+    copy_block(out, e - n, &mut saved, 0);
+    copy_values(t, e, n, marks, out, ends);
+    copy_block(&saved, 0, out, e - n);
 }
 
-// Whether offset e is at the start or after a comma.
-pub(crate) fn after_comma(t: &[u8], e: usize) -> bool
-    requires { ⌜ e ≤ length (now t) ⌝ }
-    ensures { λ r. ⌜ (r ≡ true → (e ≡ 0 → ⊥) → getD (now (t .entry)) (e - 1) 0 ≡ comma) ⌝ }
+// Reads the row of `width` values at the start of t, if it has no quotes, and if a block fits after it and after its values.
+pub(crate) fn fast_row(t: &[u8], width: usize, out: &mut [u8], ends: &mut [usize]) -> Fast
+    ensures { λ r. ⌜ Quickly (now (t .entry)) width (now (out .entry)) (now (ends .entry)) (now (out .exit)) (now (ends .exit)) r ⌝ }
 {
-    if e == 0 {
-        return true;
-    }
-    t[e - 1] == COMMA
-}
-
-// Where the value whose opening quote is at e is closed, if it has no quote or LF inside and ends the row; else 0.
-pub(crate) fn closing_quote(t: &[u8], e: usize) -> usize
-    requires { ⌜ e < length (now t) ⌝ }
-    ensures { λ r. ⌜ ((r ≡ 0 → ⊥) → Closes (now (t .entry)) e r) ⌝ }
-{
-    let c = quote_or_lf_from(t, e + 1);
-    if byte_at(t, c) == QUOTE {
-        if byte_at(t, c + 1) == LF {
-            return c;
-        }
-    }
-    0
-}
-
-// Reads a row of n values without quotes and a last one whose opening quote is at e and closing quote at c.
-pub(crate) fn last_quoted(
-    t: &[u8],
-    e: usize,
-    c: usize,
-    n: usize,
-    out: &mut [u8],
-    ends: &mut [usize],
-) -> Fast
-    requires { ⌜ Opens (now t) e n × (getD (now t) e 0 ≡ quote) × Closes (now t) e c ⌝ }
-    ensures { λ r. ⌜ Quickly (now (t .entry)) (n + 1) (now (out .entry)) (now (ends .entry)) (now (out .exit)) (now (ends .exit)) r ⌝ }
-{
-    if out.len() < e - n + (c - (e + 1)) {
+    let mut marks: [usize; MAX_COLUMNS] = [0; MAX_COLUMNS];
+    let found = search_line(t, &mut marks);
+    let Found::Stop { end, commas } = found else {
+        return Fast::Not;
+    };
+    if t[end] != LF {
         return Fast::Not;
     }
-    if ends.len() <= n {
+    if commas + 1 != width {
         return Fast::Not;
     }
-    let m = copy_before(&t[0..e], out, ends);
-    let size = copy_part(t, e + 1, c, out, m);
-    ends[n] = size;
+    if MAX_COLUMNS < width {
+        return Fast::Not;
+    }
+    if ends.len() < width {
+        return Fast::Not;
+    }
+    if t.len() - end < BLOCK {
+        return Fast::Not;
+    }
+    let size = end - commas;
+    if out.len() < size + BLOCK {
+        return Fast::Not;
+    }
+    copy_line(t, end, commas, &marks, out, ends);
     Fast::Read {
-        next: c + ROW_END,
+        next: end + 1,
         size,
     }
 }

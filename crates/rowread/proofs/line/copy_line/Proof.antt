@@ -1,56 +1,76 @@
--- `copy_before` stores all ends but the last, which has index v.len() - n, the number of commas (`marks-last`).
-use mathlib.Core.Path.{refl}
+-- What a block may overwrite after the values was saved, and is put back (`ahead-back`).
+use Prim.Native.Nat.{_-_}
 use native.Mathlib.Omega.{arith}
-use Rattle.rowread.proofs.Lines.{text-size, marks-last}
+use mathlib.Core.Path.{_≡_, refl}
+use lib.ListN.{length, take, length-take}
+use Rattle.rowread.specs.Steps.{textIn}
+use Rattle.rowread.proofs.Lines.{text-size}
+use Rattle.rowread.proofs.Blocks.{ahead-back}
 use borrow.Author.Needs.{needs}
 use Rattle.rowread.proofs.line.copy_line.Statement.{statement}
 use Rattle.rowread.proofs.line.copy_line.Tie as tie
 
-copy-before-requires : tie.Need-copy-before-requires
-copy-before-requires c κs = search needs
+-- src/line.rt:124:21
+sub-copy-block : tie.Need-sub-copy-block
+sub-copy-block c =
+    let s = c .before .before .before .before .before in
+    omega (arith, s .pre .0 .1, text-size (take (s .args .e) (s .args .t .now)), length-take (s .args .e) (s .args .t .now))
 
-sub-k : tie.Need-sub-k
-sub-k c =
-    let s = c .before .before .before .before .before .before .before .before .before .before in
-    let v = s .args .v .now in
-    let e = c .before .before .before .before .copy-before .ensures in
-    omega (arith, e .0, text-size v)
+-- src/line.rt:124:28
+slice-aggregate-copy-block : tie.Need-slice-aggregate-copy-block
+slice-aggregate-copy-block c = search needs
 
-mul-ends : tie.Need-mul-ends
-mul-ends c =
-    let s = c .before .before .before .before .before .before .before .before .before .before in
-    let v = s .args .v .now in
-    let e = c .before .before .before .before .copy-before .ensures in
-    omega (arith, e .0, text-size v, s .pre .1)
+-- src/line.rt:124:5
+copy-block-requires : tie.Need-copy-block-requires
+copy-block-requires c κs = search needs
 
-slice-write-ends : tie.Need-slice-write-ends
-slice-write-ends c =
-    let s = c .before .before .before .before .before .before .before .before .before .before in
-    let v = s .args .v .now in
-    let e = c .before .before .before .before .copy-before .ensures in
-    omega (arith, e .0, text-size v, s .pre .1)
+-- src/line.rt:125:5
+copy-values-requires : tie.Need-copy-values-requires
+copy-values-requires c κs = search needs
 
+-- src/line.rt:126:16
+slice-aggregate-copy-block-2 : tie.Need-slice-aggregate-copy-block-2
+slice-aggregate-copy-block-2 c = search needs
+
+-- src/line.rt:126:32
+sub-copy-block-2 : tie.Need-sub-copy-block-2
+sub-copy-block-2 c =
+    let s = c .before .before .before .before .before .before .before .before .before .before .before .before .before .before .before .before .before in
+    omega (arith, s .pre .0 .1, text-size (take (s .args .e) (s .args .t .now)), length-take (s .args .e) (s .args .t .now))
+
+-- src/line.rt:126:5
+copy-block-requires-2 : tie.Need-copy-block-requires-2
+copy-block-requires-2 c κs = search needs
+
+-- src/line.rt:118:1
 same-length : tie.Need-same-length
 same-length c = search needs
 
+-- src/line.rt:118:1
 same-length-2 : tie.Need-same-length-2
 same-length-2 c = search needs
 
+-- src/line.rt:118:1
 returns : tie.Need-returns
 returns c =
-    let s = c .before .before .before .before .before .before .before .before .before .before in
-    let v = s .args .v .now in
-    let e = c .before .before .before .before .copy-before .ensures in
-    (e .1, rw (e .2) (marks-last (s .args .ends .now) v _ _ refl (e .0)))
+    let s = c .before .before .before .before .before .before .before .before .before .before .before .before .before .before .before .before .before .before .before .before in
+    let a = s .args in
+    let t = a .t .now in
+    let w = c .before .before .before .before .before .before .before .before .before .copy-values .ensures in
+    let n : a .e - a .n ≡ length (textIn (take (a .e) t)) = omega (arith, s .pre .0 .1, text-size (take (a .e) t), length-take (a .e) t, s .pre .0 .0) in
+    (ahead-back (a .out .now) (textIn (take (a .e) t)) _ _ _ _ (a .e - a .n) (w .0) n (s .pre .1 .1) refl (c .before .before .before .before .before .before .before .before .before .before .before .before .before .copy-block .ensures) (c .before .before .copy-block2 .ensures), w .1)
 
 pub copy-line-spec : {M : Type 1} → statement M
 copy-line-spec =
     tie.close
     (tie.spec
-    copy-before-requires
-    sub-k
-    mul-ends
-    slice-write-ends
+    sub-copy-block
+    slice-aggregate-copy-block
+    copy-block-requires
+    copy-values-requires
+    slice-aggregate-copy-block-2
+    sub-copy-block-2
+    copy-block-requires-2
     same-length
     same-length-2
     returns)

@@ -1,0 +1,177 @@
+-- The search found an LF before any quote, and one comma fewer than values: the values between the commas are the row's (`line-holds`). On every
+-- other path nothing was written.
+use Prim.Native.Nat.{_+_, _≤_}
+use native.Mathlib.Omega.{arith}
+use mathlib.Core.Path.{_≡_, sym, ap, _∙_}
+use lib.ListN.{length, take, length-take}
+use Rattle.rowread.specs.Steps.{lineOf, cutsIn}
+use Rattle.rowread.proofs.Lines.{line-stop, line-holds, text-size, cuts-size}
+use Rattle.rowread.proofs.Blocks.{take-sets}
+use borrow.Author.Needs.{needs}
+use Rattle.rowread.proofs.line.fast_row.Statement.{statement}
+use Rattle.rowread.proofs.line.fast_row.Tie as tie
+
+-- src/line.rt:134:32
+slice-aggregate-search-line : tie.Need-slice-aggregate-search-line
+slice-aggregate-search-line c = search needs
+
+-- src/line.rt:134:9
+search-line-requires : tie.Need-search-line-requires
+search-line-requires c κs = search needs
+
+-- src/line.rt:135:23
+enum-known-found : tie.Need-enum-known-found
+enum-known-found c = search needs
+
+-- src/line.rt:136:9
+enum-told : tie.Need-enum-told
+enum-told c = search needs
+
+-- src/line.rt:136:9
+returns : tie.Need-returns
+returns c = search needs
+
+-- src/line.rt:138:8
+shared-slice-read-if1 : tie.Need-shared-slice-read-if1
+shared-slice-read-if1 c =
+    let s = c .before .before .before .before .before .before .before .before .before .before in
+    let t = s .args .t .now in
+    let g = c .before .before .found .given in
+    let x = rw (g .1) at (c .before .before .before .before .before .search-line .ensures) in
+    let e = g .0 .0 in
+    let n = g .0 .1 .0 in
+    x .1 .0
+
+-- src/line.rt:139:9
+returns-2 : tie.Need-returns-2
+returns-2 c = search needs
+
+-- src/line.rt:141:8
+add-if2 : tie.Need-add-if2
+add-if2 c =
+    let s = c .before .before .before .before .before .before .before .before .before .before .before in
+    let t = s .args .t .now in
+    let g = c .before .before .before .found .given in
+    let x = rw (g .1) at (c .before .before .before .before .before .before .search-line .ensures) in
+    let e = g .0 .0 in
+    let n = g .0 .1 .0 in
+    let f : n ≤ e = omega (arith, x .0 .many, text-size (take e t), length-take e t) in
+    omega (arith, f, x .1 .0)
+
+-- src/line.rt:142:9
+returns-3 : tie.Need-returns-3
+returns-3 c = search needs
+
+-- src/line.rt:145:9
+returns-4 : tie.Need-returns-4
+returns-4 c = search needs
+
+-- src/line.rt:148:9
+returns-5 : tie.Need-returns-5
+returns-5 c = search needs
+
+-- src/line.rt:150:8
+sub-if5 : tie.Need-sub-if5
+sub-if5 c =
+    let s = c .before .before .before .before .before .before .before .before .before .before .before .before .before .before in
+    let t = s .args .t .now in
+    let g = c .before .before .before .before .before .before .found .given in
+    let x = rw (g .1) at (c .before .before .before .before .before .before .before .before .before .search-line .ensures) in
+    let e = g .0 .0 in
+    let n = g .0 .1 .0 in
+    x .0 .inside
+
+-- src/line.rt:151:9
+returns-6 : tie.Need-returns-6
+returns-6 c = search needs
+
+-- src/line.rt:153:16
+sub-size : tie.Need-sub-size
+sub-size c =
+    let s = c .before .before .before .before .before .before .before .before .before .before .before .before .before .before .before in
+    let t = s .args .t .now in
+    let g = c .before .before .before .before .before .before .before .found .given in
+    let x = rw (g .1) at (c .before .before .before .before .before .before .before .before .before .before .search-line .ensures) in
+    let e = g .0 .0 in
+    let n = g .0 .1 .0 in
+    omega (arith, x .0 .many, text-size (take e t), length-take e t)
+
+-- src/line.rt:154:20
+add-if6 : tie.Need-add-if6
+add-if6 c = search needs
+
+-- src/line.rt:155:9
+returns-7 : tie.Need-returns-7
+returns-7 c = search needs
+
+-- src/line.rt:157:31
+slice-aggregate-copy-line : tie.Need-slice-aggregate-copy-line
+slice-aggregate-copy-line c = search needs
+
+-- src/line.rt:157:5
+copy-line-requires : tie.Need-copy-line-requires
+copy-line-requires c κs =
+    let s = c .before .before .before .before .before .before .before .before .before .before .before .before .before .before .before .before .before .before .before in
+    let t = s .args .t .now in
+    let g = c .before .before .before .before .before .before .before .before .before .before .before .found .given in
+    let x = rw (g .1) at (c .before .before .before .before .before .before .before .before .before .before .before .before .before .before .search-line .ensures) in
+    let e = g .0 .0 in
+    let n = g .0 .1 .0 in
+    let w : n + 1 ≡ s .args .width = c .before .before .before .before .before .before .before .if2 .left in
+    let m : s .args .width ≤ 10 = c .before .before .before .before .before .before .if3 .left in
+    let c' = cutsIn 0 (take e t) in
+    let z : n ≡ length c' = x .0 .many ∙ sym (cuts-size 0 (take e t)) in
+    let k = ap (take n) (x .0 .ends (omega (arith, w, m))) ∙ take-sets _ c' n z (omega (arith, w, m)) in
+    ((omega (arith, c .before .before .before .before .if5 .left, x .0 .inside), x .0 .many, k), (omega (arith, w, m, x .0 .same), c .before .before .before .if6 .left, omega (arith, w, c .before .before .before .before .before .if4 .left)))
+
+-- src/line.rt:159:15
+add-t15 : tie.Need-add-t15
+add-t15 c = search needs
+
+-- src/line.rt:130:1
+same-length : tie.Need-same-length
+same-length c = search needs
+
+-- src/line.rt:130:1
+same-length-2 : tie.Need-same-length-2
+same-length-2 c = search needs
+
+-- src/line.rt:130:1
+returns-8 : tie.Need-returns-8
+returns-8 c =
+    let s = c .before .before .before .before .before .before .before .before .before .before .before .before .before .before .before .before .before .before .before .before .before .before .before .before in
+    let t = s .args .t .now in
+    let g = c .before .before .before .before .before .before .before .before .before .before .before .before .before .before .before .before .found .given in
+    let x = rw (g .1) at (c .before .before .before .before .before .before .before .before .before .before .before .before .before .before .before .before .before .before .before .search-line .ensures) in
+    let e = g .0 .0 in
+    let n = g .0 .1 .0 in
+    let w = c .before .before .before .before .copy-line .ensures in
+    let l : e ≡ length (lineOf t) = line-stop t e (x .1 .0) (x .1 .1) ∙ sym (x .0 .line) in
+    line-holds t e n (s .args .width) (s .args .out .now) (s .args .ends .now) _ _ l (c .before .before .before .before .before .before .before .before .before .before .before .before .before .if1 .left) (x .0 .many) (c .before .before .before .before .before .before .before .before .before .before .before .before .if2 .left) (omega (arith, c .before .before .before .before .before .before .before .before .if6 .left)) (c .before .before .before .before .before .before .before .before .before .before .if4 .left) (w .0) (w .1)
+
+pub fast-row-spec : {M : Type 1} → statement M
+fast-row-spec =
+    tie.close
+    (tie.spec
+    slice-aggregate-search-line
+    search-line-requires
+    enum-known-found
+    enum-told
+    returns
+    shared-slice-read-if1
+    returns-2
+    add-if2
+    returns-3
+    returns-4
+    returns-5
+    sub-if5
+    returns-6
+    sub-size
+    add-if6
+    returns-7
+    slice-aggregate-copy-line
+    copy-line-requires
+    add-t15
+    same-length
+    same-length-2
+    returns-8)

@@ -1,0 +1,169 @@
+// The exact path: any row, in two passes of the same functions. The first (`write` is false) only reads, so that a refusal leaves the outputs
+// unchanged; the second writes the values of a row that is known to fit.
+ghost use mathlib.Core.Path.{_≡_};
+ghost use Prim.Native.Nat.{_+_, _-_, _≤_};
+ghost use lib.ListN.{length, take, drop, getD};
+ghost use lib.Seq.{sets};
+ghost use Rattle.csv.specs.Csv.{isText};
+ghost use Rattle.csv.specs.Read.{plainValue, fieldAt, rowEnd, values};
+ghost use Rattle.rowread.specs.Stored.{valuesOf, joined, endsOf};
+ghost use Rattle.rowread.specs.Steps.{pieceOf, valueOf, scanOf, IsRow, slackOf, Ahead, Written, FieldRoom, RowRoom, RowWritten};
+use crate::line::BLOCK;
+use crate::line::copy_block;
+use crate::line::copy_part;
+use crate::line::copy_value;
+use crate::marks::LONG;
+use crate::marks::delimiters_of;
+use crate::marks::first;
+use crate::marks::load;
+use crate::unquote::unquote;
+use csv::COMMA;
+use csv::LF;
+use csv::QUOTE;
+
+// A value of size bytes; next is the offset after it.
+pub(crate) enum Piece {
+    Value { next: usize, size: usize },
+    Bad,
+}
+
+// A row whose values have size bytes; next is the offset after it.
+pub(crate) enum Scan {
+    Whole { next: usize, size: usize },
+    Broken,
+}
+
+// The byte at an index, 0 past the end.
+pub(crate) fn byte_at(s: &[u8], i: usize) -> u8
+    ensures { λ r. ⌜ r ≡ getD (now (s .entry)) i 0 ⌝ }
+{
+    if i < s.len() { s[i] } else { 0 }
+}
+
+// Whether a byte may be in a field without quotes.
+fn is_text(b: u8) -> bool
+    ensures { λ r. ⌜ r ≡ isText b ⌝ }
+{
+    !((b == QUOTE) | ((b == COMMA) | (b == LF)))
+}
+
+// How many bytes the row end at an offset has, 0 if there is none.
+fn row_end(t: &[u8], i: usize) -> usize
+    requires { ⌜ i ≤ length (now t) ⌝ }
+    ensures { λ r. ⌜ r ≡ rowEnd (drop i (now (t .entry))) ⌝ }
+{
+    if byte_at(t, i) == LF { 1 } else { 0 }
+}
+
+// The end of the value without quotes at an offset.
+fn text_end(t: &[u8], from: usize) -> usize
+    requires { ⌜ from ≤ length (now t) ⌝ }
+    ensures { λ r. ⌜ r ≡ from + length (plainValue (drop from (now (t .entry)))) ⌝ }
+{
+    let mut i = from;
+    while LONG <= t.len() - i {
+        let m = delimiters_of(load(t, i));
+        if m != 0 {
+            return i + first(m);
+        }
+        i += LONG;
+    }
+    while i < t.len() {
+        if !is_text(t[i]) {
+            return i;
+        }
+        i += 1;
+    }
+    i
+}
+
+// Copies the bytes of t from one offset to another to out. If `ahead`, a block after them may be overwritten.
+fn put_text(t: &[u8], from: usize, end: usize, out: &mut [u8], to: usize, ahead: bool)
+    requires { ⌜ (from ≤ end) × (end ≤ length (now t)) × (to + (end - from) + slackOf ahead ≤ length (now out)) ⌝ }
+    ensures { λ _. ⌜ Ahead (slackOf ahead) (now (out .entry)) to (take (end - from) (drop from (now (t .entry)))) (now (out .exit)) ⌝ }
+{
+    if ahead {
+        if BLOCK <= t.len() - end {
+            copy_value(t, from, end - from, out, to);
+            return;
+        }
+    }
+    copy_part(t, from, end, out, to);
+}
+
+// The value at an offset, unquoted; if `write`, it goes to out. If `ahead`, a block after it may be overwritten.
+fn value(t: &[u8], from: usize, out: &mut [u8], to: usize, write: bool, ahead: bool) -> Piece
+    requires { ⌜ (from ≤ length (now t)) × (to ≤ from) ⌝ }
+    requires { ⌜ FieldRoom (slackOf ahead) write (now t) from (now out) to ⌝ }
+    ensures { λ r. ⌜ (r ≡ pieceOf (length (now (t .entry))) (fieldAt (drop from (now (t .entry))))) × Written (slackOf ahead) write (now (out .entry)) to (valueOf (fieldAt (drop from (now (t .entry))))) (now (out .exit)) ⌝ }
+{
+    if byte_at(t, from) == QUOTE {
+        return unquote(t, from + 1, out, to, write, ahead);
+    }
+    let e = text_end(t, from);
+    if write {
+        put_text(t, from, e, out, to, ahead);
+    }
+    Piece::Value {
+        next: e,
+        size: e - from,
+    }
+}
+
+// The row of `width` values at the start of t; if `write`, the values go to out and their ends to ends. If `ahead`, a block after the values may be
+// overwritten.
+pub(crate) fn row(
+    t: &[u8],
+    width: usize,
+    out: &mut [u8],
+    ends: &mut [usize],
+    write: bool,
+    ahead: bool,
+) -> Scan
+    requires { ⌜ RowRoom (slackOf ahead) write (now t) width (now out) (now ends) ⌝ }
+    ensures { λ r. ⌜ (r ≡ scanOf width (now (t .entry))) × RowWritten (slackOf ahead) write (now (t .entry)) width (now (out .entry)) (now (ends .entry)) (now (out .exit)) (now (ends .exit)) ⌝ }
+{
+    let mut from: usize = 0;
+    let mut to: usize = 0;
+    let mut k: usize = 0;
+    while k < width {
+        let Piece::Value { next, size } = value(t, from, out, to, write, ahead) else {
+            return Scan::Broken;
+        };
+        to += size;
+        if write {
+            ends[k] = to;
+        }
+        k += 1;
+        if k == width {
+            let e = row_end(t, next);
+            if e == 0 {
+                return Scan::Broken;
+            }
+            return Scan::Whole {
+                next: next + e,
+                size: to,
+            };
+        }
+        if byte_at(t, next) != COMMA {
+            return Scan::Broken;
+        }
+        from = next + 1;
+    }
+    Scan::Broken
+}
+
+// Writes the values of the row at the start of t, `size` bytes, and their ends. What a block may overwrite after them is saved before, and put back.
+pub(crate) fn write_row(t: &[u8], width: usize, size: usize, out: &mut [u8], ends: &mut [usize])
+    requires { ⌜ IsRow (values width (now t)) × (size ≡ length (joined (valuesOf (values width (now t))))) × (size ≤ length (now out)) × (width ≤ length (now ends)) ⌝ }
+    ensures { λ _. ⌜ (now (out .exit) ≡ sets (now (out .entry)) 0 (joined (valuesOf (values width (now (t .entry)))))) × (now (ends .exit) ≡ sets (now (ends .entry)) 0 (endsOf 0 (valuesOf (values width (now (t .entry)))))) ⌝ }
+{
+    if out.len() - size < BLOCK {
+        row(t, width, out, ends, true, false);
+        return;
+    }
+    let mut saved: [u8; BLOCK] = [0; BLOCK];
+    copy_block(out, size, &mut saved, 0);
+    row(t, width, out, ends, true, true);
+    copy_block(&saved, 0, out, size);
+}

@@ -1,0 +1,99 @@
+// Which of eight bytes are delimiters, told by marks: a number whose byte k is 128 if byte k of the eight is one, else 0. Eight bytes are tested
+// at once, in a 64-bit number.
+ghost use mathlib.Core.Path.{_≡_};
+ghost use Prim.Native.Nat.{_+_, _*_, _<_, _≤_};
+ghost use lib.ListN.{length, take, drop};
+ghost use Rattle.base.specs.Number.{wordValues};
+ghost use Rattle.rowread.specs.Marks.{little, Bytes, isQuote, isDelimiter, HasMarks, MarksOf, FirstOf, ClearedOf, longBytes, halfBytes, bitsOf};
+use base::number::FOURTH_BYTE_64;
+use base::number::SECOND_BYTE_64;
+use base::number::THIRD_BYTE_64;
+use base::number::WORD_VALUES;
+use base::number::u8_to_u64;
+use csv::COMMA;
+use csv::LF;
+use csv::QUOTE;
+
+// The bytes of a 64-bit number, and of half of one.
+pub(crate) const LONG: usize = 8;
+
+const HALF: usize = 4;
+
+const BYTE_BITS: usize = 8;
+
+// A byte in each of the eight places.
+const EACH: u64 = 0x0101010101010101;
+
+const LOW_BITS: u64 = 127 * EACH;
+
+const HIGH_BITS: u64 = 128 * EACH;
+
+const QUOTES: u64 = (QUOTE as u64) * EACH;
+
+const COMMAS: u64 = (COMMA as u64) * EACH;
+
+const LFS: u64 = (LF as u64) * EACH;
+
+// The four bytes at offset i as a little-endian number.
+fn half(s: &[u8], i: usize) -> u64
+    requires { ⌜ i + halfBytes ≤ length (now s) ⌝ }
+    ensures { λ r. ⌜ (r ≡ little (take halfBytes (drop i (now (s .entry))))) × (r < wordValues) × Bytes (now (s .entry)) ⌝ }
+{
+    u8_to_u64(s[i])
+        + u8_to_u64(s[i + 1]) * SECOND_BYTE_64
+        + u8_to_u64(s[i + 2]) * THIRD_BYTE_64
+        + u8_to_u64(s[i + 3]) * FOURTH_BYTE_64
+}
+
+// The eight bytes at offset i as a little-endian number.
+pub(crate) fn load(s: &[u8], i: usize) -> u64
+    requires { ⌜ i + longBytes ≤ length (now s) ⌝ }
+    ensures { λ r. ⌜ (r ≡ little (take longBytes (drop i (now (s .entry))))) × Bytes (now (s .entry)) ⌝ }
+{
+    half(s, i) + half(s, i + HALF) * WORD_VALUES
+}
+
+// Marks on the bytes of w that are quotes.
+pub(crate) fn quotes_of(w: u64) -> u64
+    ensures { λ r. ⌜ MarksOf isQuote w r ⌝ }
+{
+    !((((w & LOW_BITS) ^ QUOTES) + LOW_BITS) | w) & HIGH_BITS
+}
+
+// Marks on the bytes of w that are quotes, commas or LF.
+pub(crate) fn delimiters_of(w: u64) -> u64
+    ensures { λ r. ⌜ MarksOf isDelimiter w r ⌝ }
+{
+    let low = w & LOW_BITS;
+    !((((low ^ QUOTES) + LOW_BITS) & (((low ^ COMMAS) + LOW_BITS) & ((low ^ LFS) + LOW_BITS))) | w)
+        & HIGH_BITS
+}
+
+// How many binary digits x has.
+fn bits(x: u64) -> usize
+    ensures { λ r. ⌜ r ≡ bitsOf x ⌝ }
+{
+    let mut y = x;
+    let mut n: usize = 0;
+    while y != 0 {
+        y = y >> 1;
+        n += 1;
+    }
+    n
+}
+
+// The index of the first mark.
+pub(crate) fn first(m: u64) -> usize
+    requires { ⌜ HasMarks m × (0 < m) ⌝ }
+    ensures { λ r. ⌜ FirstOf m r ⌝ }
+{
+    bits(m ^ (m - 1)) / BYTE_BITS - 1
+}
+
+// The marks without the first.
+pub(crate) fn clear_first(m: u64) -> u64
+    requires { ⌜ 0 < m ⌝ }
+    ensures { λ r. ⌜ ClearedOf m r × (r < m) ⌝ }
+{
+    m & (m - 1)
+}
