@@ -178,7 +178,6 @@ pub fn lines(rounds: usize) -> Vec<Line> {
         ("key, 1 pick", None, KEY, small(20, 1)),
         ("key, 16 picks", None, KEY, small(20, 16)),
         ("key, 16 picks, identity of 65,535", None, KEY, small(LONGEST, 16)),
-        ("key match, 1 pick", None, SAME_KEY, small(20, 1)),
         ("key match, 16 picks", mark, SAME_KEY, small(20, 16)),
         ("key match, 16 picks, identity of 65,535", mark, SAME_KEY, small(LONGEST, 16)),
         ("key match, 1 pick, both test", mark, TESTED_SAME_KEY, small(20, 1)),

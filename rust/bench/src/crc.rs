@@ -30,12 +30,12 @@ const NAMES: [&str; 4] = ["core", "table", "SIMD", "zlib"];
 const ALL: [Run; 4] = [core, table, simd, zlib];
 /// Sizes, and the mark to reach.
 const SIZES: [(usize, Option<f64>); 6] = [
-    (16, None),
-    (64, Some(0.5)),
-    (256, None),
-    (1500, None),
-    (4096, Some(1.0)),
-    (487_424, Some(1.0)),
+    (16, Some(1.5)),
+    (64, Some(0.85)),
+    (256, Some(1.0)),
+    (1500, Some(1.15)),
+    (4096, Some(1.15)),
+    (487_424, Some(1.15)),
 ];
 const WIDTH: usize = 40;
 

@@ -7,7 +7,7 @@ use std::cell::RefCell;
 const IDS: usize = 64;
 const BYTES: usize = 16_384;
 const LENGTHS: [usize; 7] = [1, 8, 16, 24, 31, 32, 40];
-const MARK: f64 = 0.5;
+const MARK: f64 = 1.0;
 
 struct Case {
     ids: Vec<String>,

@@ -36,9 +36,9 @@ updates a full update by bytes and by rows beside the lifted Rust, built in both
         ways
 calls   single calls of an update and on a bank, the core alone
 
-Without a word all are timed. They stand in one table: nanoseconds a call, the
-ratio (the peer's time over the core's, so above 1 the core is faster), the least
-and the most of the ratios, the mark to reach.
+Without a word all are timed. One table has them: nanoseconds a call, the ratio
+(the peer's time over the core's, so above 1 the core is faster), the least and the
+most of the ratios, the mark. A mark is reached if the least ratio reaches it.
 
   --quick      four runs with fewer rounds
   --markdown   the table in Markdown
@@ -176,7 +176,7 @@ fn show(options: &Options) -> std::io::Result<bool> {
     println!();
     table::summary(&rows);
     if let Some(file) = &options.svg {
-        fs::write(file, picture::svg(&rows))?;
+        fs::write(file, picture::svg(&rows, &machine))?;
     }
     let missed = rows.iter().any(|r| r.reached() == Some(false));
     let failed = rows.iter().any(Row::differs) || options.judge && missed;

@@ -80,14 +80,13 @@ impl Row {
     pub fn ratio(&self) -> Option<f64> {
         (!self.ratios.is_empty()).then(|| median(&self.ratios))
     }
-    /// Whether the mark is reached, but not in every run.
-    pub fn narrow(&self) -> bool {
-        let least = self.ratios.first().zip(self.line.mark);
-        self.reached() == Some(true) && least.is_some_and(|(least, mark)| *least < mark)
+    /// The least of the ratios.
+    pub fn least(&self) -> Option<f64> {
+        self.ratios.first().copied()
     }
-    /// Whether the mark is reached, if there is one.
+    /// Whether the mark is reached in every run, if there is one.
     pub fn reached(&self) -> Option<bool> {
         let mark = self.line.mark?;
-        Some(self.ratio().is_some_and(|r| r >= mark))
+        Some(self.least().is_some_and(|r| r >= mark))
     }
 }

@@ -205,11 +205,14 @@ fn cases() -> Vec<(&'static str, Case)> {
         ("Calendar", Case::new(4, calendar)),
         ("Transfers, mostly empty", Case::new(7, transfer)),
         ("long values, plain", Case::new(1, long_row('x', 0))),
-        ("long values, commas", Case::new(1, long_row(',', 30))),
+        (CLOSE, Case::new(1, long_row(',', 30))),
         ("long values, few quotes", Case::new(1, long_row('"', 60))),
         ("long values, many quotes", Case::new(1, long_row('"', 8))),
     ]
 }
+
+/// The rows that both write nearly as fast as memory allows.
+const CLOSE: &str = "long values, commas";
 
 type Run = fn(&Case) -> u64;
 const WAYS: [(&str, [Run; 2]); 2] =
@@ -219,7 +222,8 @@ pub fn lines(rounds: usize) -> Vec<Line> {
     let cases = cases();
     let all = WAYS.iter().flat_map(|way| cases.iter().map(move |case| (way, case)));
     let line = |((way, runs), (name, case)): (&(&str, [Run; 2]), &(&str, Case))| {
-        let line = Line::new(format!("row {way}: {name}"), "csv-core", Some(1.0));
+        let mark = if *way == "read" || *name == CLOSE { 1.0 } else { 1.1 };
+        let line = Line::new(format!("row {way}: {name}"), "csv-core", Some(mark));
         if same(case) { line.timed(*runs, case, rounds, ROWS) } else { line }
     };
     all.map(line).collect()

@@ -48,7 +48,7 @@ fn cells(row: &Row) -> Cells {
         time(2),
         row.ratio().map_or(String::new(), ratio),
         spread,
-        row.line.mark.map_or(String::new(), |m| format!("{m:.1}")),
+        row.line.mark.map_or(String::new(), |m| format!("{m:.2}")),
         reached.into(),
     ]
 }
@@ -98,18 +98,16 @@ pub fn machine() -> String {
     format!("{kind}, {cores} cores; load before the run {load}")
 }
 
-/// What was reached, in one line; what was not, or not in every run, a line each.
+/// What was reached, in one line; what was not, a line each. The least of a row's
+/// ratios counts.
 pub fn summary(rows: &[Row]) {
     let marked = rows.iter().filter(|r| r.reached().is_some()).count();
     let reached = rows.iter().filter(|r| r.reached() == Some(true)).count();
-    println!("{reached} of {marked} marks reached");
+    println!("{reached} of {marked} marks reached in every run");
     println!();
-    for row in rows {
-        let (name, mark) = (&row.line.name, row.line.mark.unwrap_or(0.0));
-        if row.reached() == Some(false) {
-            println!("- missed: {name}, {} of {mark:.1}", ratio(row.ratio().unwrap_or(0.0)));
-        } else if row.narrow() {
-            println!("- not in every run: {name}, {} of {mark:.1}", ratio(row.ratios[0]));
-        }
+    for row in rows.iter().filter(|r| r.reached() == Some(false)) {
+        let [least, middle] = [row.least(), row.ratio()].map(|r| ratio(r.unwrap_or(0.0)));
+        let mark = row.line.mark.unwrap_or(0.0);
+        println!("- missed: {}, {least} of {mark:.2} (median {middle})", row.line.name);
     }
 }
