@@ -29,12 +29,8 @@ pub fn header_crc_with(bank: &[u8], data: u32) -> u32 {
 }
 
 fn header_crc(bank: &[u8]) -> u32 {
-    let version = get(bank, 4);
-    // A version that isn't known has the records of the last one.
-    let size = match version {
-        1 | 2 => door::source_size(version),
-        _ => door::source_size(3),
-    };
+    // A version that isn't known has the records of the nearest one.
+    let size = door::source_size(get(bank, 4).clamp(1, 3));
     let mut bytes = bank[..RECORDS + SOURCES * size].to_vec();
     bytes[SEAL].fill(0);
     crc(&bytes)
