@@ -145,7 +145,7 @@ def told(name, code, words):
 
 
 def split(arguments, known):
-    """The options as they are, the images, and the words that neither program knows but ./run does."""
+    """The options as they are, the images, and the words that neither program knows but ./run does; None where an option lacks an argument."""
     options, images, own, i = [], [], [], 0
     while i < len(arguments):
         word = arguments[i]
@@ -156,6 +156,8 @@ def split(arguments, known):
             images.append(str(SAMPLE))
         elif word == "--summary":
             own.append(word)
+        elif word in known and i + known[word] >= len(arguments):
+            return None
         elif word in known:
             options += arguments[i:i + 1 + known[word]]
             i += known[word]
@@ -218,9 +220,14 @@ def write(text):
 
 
 def inspect(arguments):
-    options, images, own = split(arguments, INSPECT_OPTIONS)
+    parts = split(arguments, INSPECT_OPTIONS)
     if closed_output():
         return WRITE_FAILED
+    if parts is None:
+        return show("inspect", arguments)
+    options, images, own = parts
+    if "--help" in options or "-h" in options:
+        return show("inspect", ["--help"])
     if own and images:
         return summary(images, options)
     if len(images) < 2:
@@ -245,18 +252,54 @@ def pass_on(stream, kept):
         os.write(2, piece)
 
 
+def started(words):
+    """Starts a program, and a function that lets signals through again and gives those that came meanwhile: who starts it cleans up after it."""
+    came = []
+    old = {n: signal.signal(n, lambda number, _: came.append(number)) for n in (signal.SIGINT, signal.SIGTERM, signal.SIGHUP)}
+    child = subprocess.Popen(words, stdout=subprocess.PIPE, stderr=subprocess.PIPE)
+
+    def early():
+        for number, handler in old.items():
+            signal.signal(number, handler)
+        return came
+    return child, early
+
+
+def picture_of(options):
+    """The name after the last --svg, which is the one that powercut takes."""
+    picture, i = None, 0
+    while i < len(options):
+        if options[i] == "--svg":
+            picture = options[i + 1]
+        i += 1 + POWERCUT_OPTIONS.get(options[i], 0)
+    return picture
+
+
 def powercut(arguments):
-    options, images, _ = split(arguments, POWERCUT_OPTIONS)
+    parts = split(arguments, POWERCUT_OPTIONS)
     if closed_output():
         return WRITE_FAILED
+    if parts is None:
+        return show("powercut", arguments)
+    options, images, own = parts
+    if own:
+        say(f"powercut: {own[0]} is no option; see ./run powercut --help")
+        return BAD_INPUT
     if os.isatty(2):
         options.append("--progress")
-    picture = options[options.index("--svg") + 1] if "--svg" in options[:-1] else None
-    child = subprocess.Popen(command("powercut", [*options, *(["--", *images] if images else [])]), stdout=subprocess.PIPE, stderr=subprocess.PIPE)
+    picture = picture_of(options)
+    if picture is not None and os.path.exists(picture) and not os.path.isfile(picture):
+        say(f"powercut: {picture} is there already and isn't an SVG picture; it is left as it is")
+        return BAD_INPUT
+    part = None if picture is None else pathlib.Path(f"{picture}.part")
+    is_older = part is not None and os.path.lexists(part)
+    child, early = started(command("powercut", [*options, *(["--", *images] if images else [])]))
     kept, words, failed = b"", [], None
     reader = threading.Thread(target=pass_on, args=(child.stderr, words), daemon=True)
-    reader.start()
     try:
+        reader.start()
+        for number in early():
+            os.kill(os.getpid(), number)
         while True:
             piece = os.read(child.stdout.fileno(), CHUNK)
             if not piece:
@@ -270,15 +313,18 @@ def powercut(arguments):
         if failed or sys.exc_info()[0]:
             child.terminate()
         code = child.wait()
-        reader.join()
-        if picture and code:
-            pathlib.Path(f"{picture}.part").unlink(missing_ok=True)
+        if reader.ident:
+            reader.join()
+        if part and code and not is_older:
+            part.unlink(missing_ok=True)
     if failed:
         if failed.errno == errno.EPIPE:
             raise failed
         say(f"powercut: can't write standard output: {failed.strerror}")
         return WRITE_FAILED
     status = told("powercut", code, b"".join(words).decode("utf-8", "backslashreplace"))
+    if status == WRITE_FAILED and is_older:
+        say(f"run: {part} was there before: if a run that was ended left it, remove it")
     if status:
         return status
     lines = kept.decode("utf-8", "replace").rstrip("\n").split("\n")
