@@ -1,5 +1,6 @@
 pub mod Number
 pub mod Lists
+pub mod Little
 pub mod Same
 pub mod Table
 pub mod Claims

@@ -9,8 +9,9 @@ use lib.Pow.{low, shl-shr, mod-pow-add}
 use lib.Bits.{bitXor, xor-mod, xor-shr, xor-zero-r}
 use lib.ListN.{length, take, drop, take-append-drop}
 use lib.Seq.{length-take-le}
-use Rattle.checksum.specs.Register.{steps, run, little}
-use Rattle.checksum.proofs.Little.{little-two, part-lt}
+use Rattle.base.specs.Little.{little}
+use Rattle.checksum.specs.Register.{steps, run}
+use Rattle.base.proofs.Little.{little-two, part-lt}
 use Rattle.checksum.proofs.Steps.{steps-xor, steps-add, steps-shift, steps-split, run-append, run-steps, run-zero}
 
 -- n bytes are N bits; r zeros are before them in a word of 64

@@ -11,10 +11,11 @@ use lib.Bits.{bitXor, xor-comm, xor-zero-r, xor-shifted, xor-block, xor-lt}
 use lib.ListN.{length, take, drop, getD, length-drop, take-append-drop}
 use lib.Seq.{length-take-le, drop-drop, drop-cons}
 use native.Mathlib.Numerals.{add-one}
-use Rattle.checksum.specs.Register.{step, steps, run, little}
+use Rattle.base.specs.Little.{little}
+use Rattle.checksum.specs.Register.{step, steps, run}
 use Rattle.checksum.specs.Pending.{three, five}
 use Rattle.checksum.proofs.Xor.{xor-assoc, xor-four}
-use Rattle.checksum.proofs.Little.{little-append, part-lt}
+use Rattle.base.proofs.Little.{little-append, part-lt}
 use Rattle.checksum.proofs.Steps.{steps-xor, steps-add, steps-shift, steps-split, run-steps}
 use Rattle.checksum.proofs.Sum.{term, plus, same, xors}
 use Rattle.checksum.proofs.Multiple.{Multiple, multiple, steps-zero}

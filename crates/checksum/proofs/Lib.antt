@@ -1,7 +1,6 @@
 pub mod Xor
 pub mod Sum
 pub mod Steps
-pub mod Little
 pub mod Multiple
 pub mod First
 pub mod Fold

@@ -9,7 +9,8 @@ use lib.Pow.{pow-pos, split, shr-shr, shr-lt}
 use lib.Bits.{bitXor, differ, xor-comm, xor-zero-r, xor-shifted, shifted-half, shifted-even, xor-lt}
 use lib.ListN.{length, take, drop}
 use lib.Seq.{take-add}
-use Rattle.checksum.specs.Register.{step, steps, run, little}
+use Rattle.base.specs.Little.{little}
+use Rattle.checksum.specs.Register.{step, steps, run}
 use Rattle.checksum.proofs.Xor.{digit-ind, xor-odd, xor-half, xor-assoc, xor-four}
 
 two-pos : 0 < 2

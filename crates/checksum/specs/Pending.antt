@@ -33,13 +33,6 @@ rowSteps j = longBits - digitBits * j
 abbrev pub packed : ℕ → ℕ
 packed k = steps (rowSteps (k / digitValues)) (k % digitValues) * wordValues + steps (rowSteps (rows + k / digitValues)) (k % digitValues)
 
--- the bytes of a 64-bit number, and of half of one
-abbrev pub longBytes : ℕ
-longBytes = 8
-
-abbrev pub halfBytes : ℕ
-halfBytes = 4
-
 -- pending 64-bit words as one number, the first word lowest
 abbrev pub two : ℕ → ℕ → ℕ
 two a b = b * 2 ^ longBits + a

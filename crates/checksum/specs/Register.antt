@@ -1,7 +1,7 @@
 -- The shift register that divides by the CRC's generator, one bit a step. leaf/proofs/Shift.antt proves that it computes
 -- the remainder of IEEE 802.3.
 use mathlib.Core.List.{List, [], _∷_}
-use Prim.Native.Nat.{ℕ, zero, suc, _+_, _*_, _/_, _%_}
+use Prim.Native.Nat.{ℕ, zero, suc, _*_, _/_, _%_}
 use lib.Bits.{bitXor}
 use Rattle.base.specs.Number.{byteValues, byteBits}
 
@@ -21,8 +21,3 @@ steps (suc n) r = steps n (step r)
 unfoldable pub run : ℕ → List ℕ → ℕ
 run r [] = r
 run r (b ∷ bs) = run (steps byteBits (bitXor r (b % byteValues))) bs
-
--- bytes as one little-endian number
-unfoldable pub little : List ℕ → ℕ
-little [] = 0
-little (b ∷ bs) = little bs * byteValues + b % byteValues

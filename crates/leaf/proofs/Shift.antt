@@ -11,7 +11,8 @@ use lib.Pow.{pow-pos}
 use lib.Bits.{bitXor, xor-comm, xor-zero-r, xor-block}
 use lib.Dec.{eqb}
 use lib.ListN.{length, length-append, length-map}
-use Rattle.checksum.specs.Register.{step, steps, run, little}
+use Rattle.base.specs.Little.{little}
+use Rattle.checksum.specs.Register.{step, steps, run}
 use Rattle.checksum.proofs.Xor.{digit-ind}
 use Rattle.checksum.proofs.Steps.{run-steps}
 use Rattle.leaf.specs.Polynomial.{zeros, plus, add, powers, has, coefficients, turn, remainder}

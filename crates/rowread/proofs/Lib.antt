@@ -1,4 +1,3 @@
-pub mod Little
 pub mod Words
 pub mod Laws
 pub mod Lines

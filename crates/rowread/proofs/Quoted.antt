@@ -14,7 +14,8 @@ use borrow.Author.Tests.{eqb-true, eqb-false}
 use Rattle.csv.specs.Csv.{quote}
 use Rattle.csv.specs.Read.{Got, got, bad, push, inner}
 use Rattle.rowread.specs.declared.exact.Piece.the-variants.{Value, Bad}
-use Rattle.rowread.specs.Marks.{little, marks, Marks, isQuote, firstMark, cleared, since, FirstOf, ClearedOf}
+use Rattle.base.specs.Little.{little}
+use Rattle.rowread.specs.Marks.{marks, Marks, isQuote, firstMark, cleared, since, FirstOf, ClearedOf}
 use Rattle.rowread.specs.Steps.{pieceOf, valueOf, IsGot, prefixed, Written, Room, Grid, Turned, Unquoting}
 use Rattle.rowread.proofs.Laws.{inner-byte, inner-twice, inner-close, inner-out, past}
 use Rattle.rowread.proofs.Search.{since-zero, since-marks, FirstAt, first-at, cleared-at, none-since, word-eight, byte-of}

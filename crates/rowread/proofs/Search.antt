@@ -17,7 +17,8 @@ use Rattle.csv.specs.Csv.{isText, quote, comma, lineFeed}
 use Rattle.csv.specs.Read.{plainValue}
 use Rattle.rowread.proofs.Laws.{plain-turn}
 use Rattle.csv.proofs.Laws.{sets-append}
-use Rattle.rowread.specs.Marks.{little, Bytes, mark, marks, AreMarks, none, more, Marks, FirstOf, isDelimiter, firstMark, cleared, since}
+use Rattle.base.specs.Little.{little}
+use Rattle.rowread.specs.Marks.{Bytes, mark, marks, AreMarks, none, more, Marks, FirstOf, isDelimiter, firstMark, cleared, since}
 use Rattle.rowread.specs.Steps.{isQuoteOrLf, commasIn, textIn, cutsIn, At}
 use Rattle.rowread.proofs.Lines.{neither, line-turn, cuts-size, text-size}
 

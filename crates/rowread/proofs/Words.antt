@@ -12,7 +12,8 @@ use lib.Pow.{pow-pos}
 use lib.Bits.{bitAnd, bitOr, bitXor, and-block, or-block, xor-block, and-le-r, or-lt, xor-lt, and-lt}
 use lib.ListN.{length, getD}
 use Rattle.base.specs.Number.{pick}
-use Rattle.rowread.specs.Marks.{little, mark, marks, isQuote, isDelimiter, AreMarks, none, more, Marks, firstMark, cleared, digits}
+use Rattle.base.specs.Little.{little}
+use Rattle.rowread.specs.Marks.{mark, marks, isQuote, isDelimiter, AreMarks, none, more, Marks, firstMark, cleared, digits}
 
 -- ---- a number of bytes that a function gives
 

@@ -1,24 +1,13 @@
 -- Marks on eight bytes: which of them are delimiters, as one number.
-use Prim.Native.Nat.{ℕ, zero, suc, _+_, _*_, _/_, _%_, _<_}
+use Prim.Native.Nat.{ℕ, zero, suc, _/_, _<_}
 use mathlib.Core.Bool.{Bool, _||_}
 use mathlib.Core.Path.{_≡_}
 use mathlib.Core.List.{List, [], _∷_}
 use lib.Dec.{eqb}
 use lib.ListN.{length, getD}
+use Rattle.base.specs.Little.{little, longBytes}
 use Rattle.base.specs.Number.{pick, byteValues, longBits}
 use Rattle.csv.specs.Csv.{quote, comma, lineFeed}
-
--- the bytes of a 64-bit number, and of half of one
-abbrev pub longBytes : ℕ
-longBytes = 8
-
-abbrev pub halfBytes : ℕ
-halfBytes = 4
-
--- bytes as one little-endian number
-unfoldable pub little : List ℕ → ℕ
-little [] = 0
-little (b ∷ bs) = little bs * byteValues + b % byteValues
 
 abbrev pub isQuote : ℕ → Bool
 isQuote b = eqb b quote

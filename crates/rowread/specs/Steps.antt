@@ -6,6 +6,7 @@ use mathlib.Core.List.{List, [], _∷_, _++_}
 use lib.Dec.{eqb}
 use lib.ListN.{length, take, drop, getD}
 use lib.Seq.{sets}
+use Rattle.base.specs.Little.{little, longBytes}
 use Rattle.base.specs.Number.{pick}
 use Rattle.csv.specs.Csv.{Record, quote, comma, lineFeed}
 use Rattle.csv.specs.Read.{Got, got, bad, Row, row, malformed, values, inner, fieldAt}
@@ -19,7 +20,7 @@ use Rattle.rowread.specs.declared.line.Found.{Found}
 use Rattle.rowread.specs.declared.line.Found.the-variants.{Stop, Commas}
 use Rattle.rowread.specs.declared.unquote.Turn.{Turn}
 use Rattle.rowread.specs.declared.unquote.ByMarks.{ByMarks}
-use Rattle.rowread.specs.Marks.{longBytes, little, marks, isQuote, since}
+use Rattle.rowread.specs.Marks.{marks, isQuote, since}
 use Rattle.rowread.specs.Stored.{joined, endsOf, valuesOf}
 
 -- how many bytes are copied at once

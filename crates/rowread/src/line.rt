@@ -5,7 +5,7 @@ ghost use mathlib.Core.Path.{_≡_};
 ghost use Prim.Native.Nat.{_+_, _-_, _≤_, _<_};
 ghost use lib.ListN.{length, take, drop};
 ghost use lib.Seq.{sets};
-ghost use Rattle.rowread.specs.Marks.{longBytes};
+ghost use Rattle.base.specs.Little.{longBytes};
 ghost use Rattle.rowread.specs.Steps.{commasIn, textIn, cutsIn, marksIn, blockSize, Ahead, WordSearched, LineFound, Quickly};
 use crate::marks::LONG;
 use crate::marks::clear_first;

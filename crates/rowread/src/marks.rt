@@ -3,8 +3,9 @@
 ghost use mathlib.Core.Path.{_≡_};
 ghost use Prim.Native.Nat.{_+_, _*_, _<_, _≤_};
 ghost use lib.ListN.{length, take, drop};
+ghost use Rattle.base.specs.Little.{little, longBytes, halfBytes};
 ghost use Rattle.base.specs.Number.{wordValues};
-ghost use Rattle.rowread.specs.Marks.{little, Bytes, isQuote, isDelimiter, HasMarks, MarksOf, FirstOf, ClearedOf, longBytes, halfBytes, bitsOf};
+ghost use Rattle.rowread.specs.Marks.{Bytes, isQuote, isDelimiter, HasMarks, MarksOf, FirstOf, ClearedOf, bitsOf};
 use base::number::FOURTH_BYTE_64;
 use base::number::SECOND_BYTE_64;
 use base::number::THIRD_BYTE_64;

@@ -1,4 +1,4 @@
-use Rattle.checksum.proofs.Little.{eight-bytes}
+use Rattle.base.proofs.Little.{eight-bytes}
 use borrow.Author.Needs.{needs}
 use Rattle.checksum.proofs.register.load.Statement.{statement}
 use Rattle.checksum.proofs.register.load.Tie as tie

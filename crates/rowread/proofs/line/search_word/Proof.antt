@@ -9,7 +9,8 @@ use mathlib.Core.Logic.{⊎-elim}
 use Rattle.csv.specs.Csv.{comma}
 use borrow.Author.Needs.{needs}
 use Rattle.rowread.specs.Marks as M
-use Rattle.rowread.specs.Marks.{little, isDelimiter, since}
+use Rattle.base.specs.Little.{little}
+use Rattle.rowread.specs.Marks.{isDelimiter, since}
 use Rattle.rowread.specs.Steps.{At}
 use Rattle.rowread.proofs.Search.{since-zero, since-marks, word-eight, word-bytes, word-done, word-cleared, word-found, stop-of, at-comma}
 use Rattle.rowread.proofs.line.search_word.Statement.{statement}

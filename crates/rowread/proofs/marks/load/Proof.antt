@@ -1,4 +1,4 @@
-use Rattle.rowread.proofs.Little.{eight-bytes}
+use Rattle.base.proofs.Little.{eight-bytes}
 use borrow.Author.Needs.{needs}
 use Rattle.rowread.proofs.marks.load.Statement.{statement}
 use Rattle.rowread.proofs.marks.load.Tie as tie

@@ -7,7 +7,7 @@ use native.Mathlib.Omega.{arith}
 use lib.Pow.{pow-pos, pow-add, pow-mono}
 use lib.ListN.{length, take, drop, getD, length-take, length-drop}
 use lib.Seq.{drop-cons, drop-drop, take-add, length-take-le}
-use Rattle.checksum.specs.Register.{little}
+use Rattle.base.specs.Little.{little}
 
 pub little-append : (s t : List ℕ) → little (s ++ t) ≡ little t * 2 ^ (8 * length s) + little s
 unfolding little
