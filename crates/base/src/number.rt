@@ -16,6 +16,11 @@ pub const BYTE_BITS_32: u32 = BYTE_BITS as u32;
 
 pub const WORD_BITS: u32 = 32;
 
+// The bytes of a 64-bit number, and of half of one.
+pub const LONG_BYTES: usize = 8;
+
+pub const HALF_BYTES: usize = 4;
+
 // What each byte of a 32-bit number but the first counts.
 pub const SECOND_BYTE: u32 = BYTE_VALUES_32;
 

@@ -14,6 +14,8 @@ ghost use Rattle.checksum.specs.Pending.{nibbles, nibbleBits};
 ghost use Rattle.checksum.specs.Pending.{digits, digitValues, rows, rowSteps, packed};
 use base::number::BYTE_BITS_32;
 use base::number::FOURTH_BYTE_64;
+use base::number::HALF_BYTES;
+use base::number::LONG_BYTES;
 use base::number::SECOND_BYTE_64;
 use base::number::THIRD_BYTE_64;
 use base::number::WORD_VALUES;
@@ -37,15 +39,11 @@ const ROWS: u32 = 6;
 const LONG_BITS: u32 = 64;
 
 // The bytes of 64-bit words.
-const HALF_WORD: usize = 4;
+const TWO_WORDS: usize = 2 * LONG_BYTES;
 
-const ONE_WORD: usize = 8;
+const FIVE_WORDS: usize = 5 * LONG_BYTES;
 
-const TWO_WORDS: usize = 2 * ONE_WORD;
-
-const FIVE_WORDS: usize = 5 * ONE_WORD;
-
-const SEVEN_WORDS: usize = 7 * ONE_WORD;
+const SEVEN_WORDS: usize = 7 * LONG_BYTES;
 
 // Pending words: what folds have added to the next two, three or five words of the input.
 struct Two {
@@ -83,7 +81,7 @@ fn load(s: &[u8], i: usize) -> u64
     requires { ⌜ i + longBytes ≤ length (now s) ⌝ }
     ensures { λ r. ⌜ r ≡ little (take longBytes (drop i (now (s .entry)))) ⌝ }
 {
-    half(s, i) + half(s, i + HALF_WORD) * WORD_VALUES
+    half(s, i) + half(s, i + HALF_BYTES) * WORD_VALUES
 }
 
 // Two entries of the table: of the digit k % 64 in row k / 64, times 2^32, and in the row 6 after it. The match becomes a table in read-only
@@ -647,7 +645,7 @@ fn begin(crc: u32, s: &[u8]) -> Begun
     requires { ⌜ longBytes ≤ length (now s) ⌝ }
     ensures { λ r. ⌜ (r .at ≤ longBytes) × ((length (now (s .entry)) - r .at) % longBytes ≡ 0) × (r .added < wordValues) × (run (after (r .word) (r .added)) (drop (r .at) (now (s .entry))) ≡ run crc (now (s .entry))) ⌝ }
 {
-    let at = (s.len() - 1) % ONE_WORD + 1;
+    let at = (s.len() - 1) % LONG_BYTES + 1;
     let bits = BYTE_BITS_32 * (at as u32);
     let half_bits = bits / 2;
     let c = u32_to_u64(crc);
@@ -685,7 +683,7 @@ fn fold_all(b: Begun, s: &[u8]) -> FiveAt
     let mut i = b.at;
     while SEVEN_WORDS <= s.len() - i {
         let q = fold_into_five(p, load(s, i));
-        p = fold_into_five(q, load(s, i + ONE_WORD));
+        p = fold_into_five(q, load(s, i + LONG_BYTES));
         i += TWO_WORDS;
     }
     FiveAt {
@@ -718,7 +716,7 @@ fn five_to_three(p: FiveAt, s: &[u8]) -> ThreeAt
             b: q.b,
             c: q.c ^ p.d,
         },
-        load(s, at + ONE_WORD),
+        load(s, at + LONG_BYTES),
     );
     ThreeAt {
         a: r.a,
@@ -743,7 +741,7 @@ fn three_to_two(p: ThreeAt, s: &[u8]) -> Begun
         load(s, at),
     );
     Begun {
-        word: q.a ^ load(s, at + ONE_WORD),
+        word: q.a ^ load(s, at + LONG_BYTES),
         added: q.b,
         at: at + TWO_WORDS,
     }
@@ -780,7 +778,7 @@ fn finish(b: Begun, s: &[u8]) -> u32
         }
         word = load(s, i) ^ added;
         added = 0;
-        i += ONE_WORD;
+        i += LONG_BYTES;
     }
 }
 
@@ -788,7 +786,7 @@ fn finish(b: Begun, s: &[u8]) -> u32
 pub fn feed(crc: u32, bytes: &[u8]) -> u32
     ensures { λ r. ⌜ r ≡ run crc (now (bytes .entry)) ⌝ }
 {
-    if bytes.len() < ONE_WORD {
+    if bytes.len() < LONG_BYTES {
         return feed_bytes(crc, bytes);
     }
     finish(fold_long(begin(crc, bytes), bytes), bytes)

@@ -12,11 +12,11 @@ use crate::line::BLOCK;
 use crate::line::copy_block;
 use crate::line::copy_part;
 use crate::line::copy_value;
-use crate::marks::LONG;
 use crate::marks::delimiters_of;
 use crate::marks::first;
 use crate::marks::load;
 use crate::unquote::unquote;
+use base::number::LONG_BYTES;
 use csv::COMMA;
 use csv::LF;
 use csv::QUOTE;
@@ -61,12 +61,12 @@ fn text_end(t: &[u8], from: usize) -> usize
     ensures { λ r. ⌜ r ≡ from + length (plainValue (drop from (now (t .entry)))) ⌝ }
 {
     let mut i = from;
-    while LONG <= t.len() - i {
+    while LONG_BYTES <= t.len() - i {
         let m = delimiters_of(load(t, i));
         if m != 0 {
             return i + first(m);
         }
-        i += LONG;
+        i += LONG_BYTES;
     }
     while i < t.len() {
         if !is_text(t[i]) {

@@ -7,11 +7,11 @@ ghost use lib.ListN.{length, take, drop};
 ghost use lib.Seq.{sets};
 ghost use Rattle.base.specs.Little.{longBytes};
 ghost use Rattle.rowread.specs.Steps.{commasIn, textIn, cutsIn, marksIn, blockSize, Ahead, WordSearched, LineFound, Quickly};
-use crate::marks::LONG;
 use crate::marks::clear_first;
 use crate::marks::delimiters_of;
 use crate::marks::first;
 use crate::marks::load;
+use base::number::LONG_BYTES;
 use csv::COMMA;
 use csv::LF;
 use csv::MAX_COLUMNS;
@@ -59,13 +59,13 @@ fn search_line(t: &[u8], marks: &mut [usize]) -> Found
 {
     let mut k: usize = 0;
     let mut i: usize = 0;
-    while LONG <= t.len() - i {
+    while LONG_BYTES <= t.len() - i {
         let found = search_word(t, i, k, marks);
         let Found::Commas(n) = found else {
             return found;
         };
         k = n;
-        i += LONG;
+        i += LONG_BYTES;
     }
     Found::Commas(k)
 }

@@ -6,7 +6,9 @@ ghost use lib.ListN.{length, take, drop};
 ghost use Rattle.base.specs.Little.{little, longBytes, halfBytes};
 ghost use Rattle.base.specs.Number.{wordValues};
 ghost use Rattle.rowread.specs.Marks.{Bytes, isQuote, isDelimiter, HasMarks, MarksOf, FirstOf, ClearedOf, bitsOf};
+use base::number::BYTE_BITS;
 use base::number::FOURTH_BYTE_64;
+use base::number::HALF_BYTES;
 use base::number::SECOND_BYTE_64;
 use base::number::THIRD_BYTE_64;
 use base::number::WORD_VALUES;
@@ -14,13 +16,6 @@ use base::number::u8_to_u64;
 use csv::COMMA;
 use csv::LF;
 use csv::QUOTE;
-
-// The bytes of a 64-bit number, and of half of one.
-pub(crate) const LONG: usize = 8;
-
-const HALF: usize = 4;
-
-const BYTE_BITS: usize = 8;
 
 // A byte in each of the eight places.
 const EACH: u64 = 0x0101010101010101;
@@ -51,7 +46,7 @@ pub(crate) fn load(s: &[u8], i: usize) -> u64
     requires { ⌜ i + longBytes ≤ length (now s) ⌝ }
     ensures { λ r. ⌜ (r ≡ little (take longBytes (drop i (now (s .entry))))) × Bytes (now (s .entry)) ⌝ }
 {
-    half(s, i) + half(s, i + HALF) * WORD_VALUES
+    half(s, i) + half(s, i + HALF_BYTES) * WORD_VALUES
 }
 
 // Marks on the bytes of w that are quotes.

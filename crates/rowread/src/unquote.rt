@@ -9,15 +9,15 @@ use crate::exact::Piece;
 use crate::exact::byte_at;
 use crate::line::BLOCK;
 use crate::line::copy_block;
-use crate::marks::LONG;
 use crate::marks::clear_first;
 use crate::marks::first;
 use crate::marks::load;
 use crate::marks::quotes_of;
+use base::number::LONG_BYTES;
 use csv::QUOTE;
 
 // How many bytes a turn by marks may read.
-const SEARCHED: usize = LONG + BLOCK;
+const SEARCHED: usize = LONG_BYTES + BLOCK;
 
 // What a turn gives: how many bytes are copied, and either the offset that follows, the word that is searched next and its marks, or the offset
 // of the quote that closes the value.
@@ -41,7 +41,7 @@ fn search_on(t: &[u8], i: usize, p: usize, m: u64) -> Turn
     requires { ⌜ Grid (now t) i p m × (i + searchedBytes ≤ length (now t)) ⌝ }
     ensures { λ r. ⌜ Turned (now (t .entry)) i p r ⌝ }
 {
-    let following = i + LONG;
+    let following = i + LONG_BYTES;
     if m == 0 {
         let marks = quotes_of(load(t, following));
         return Turn {
