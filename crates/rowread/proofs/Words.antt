@@ -13,7 +13,7 @@ use lib.Bits.{bitAnd, bitOr, bitXor, and-block, or-block, xor-block, and-le-r, o
 use lib.ListN.{length, getD}
 use Rattle.base.specs.Number.{pick}
 use Rattle.base.specs.Little.{little}
-use Rattle.rowread.specs.Marks.{mark, marks, isQuote, isDelimiter, AreMarks, none, more, Marks, firstMark, cleared, digits}
+use Rattle.rowread.specs.Marks.{highBit, mark, marks, isQuote, isDelimiter, AreMarks, none, more, Marks, firstMark, cleared, digits}
 
 -- ---- a number of bytes that a function gives
 
@@ -112,13 +112,13 @@ below-holds (suc n) p h k l = go (eqb k n) refl (below-holds n p (both-right (p 
 abbrev unlike : ℕ → ℕ → ℕ
 unlike p x = bitXor (bitAnd x 127) p + 127
 
-low-lt : (x : ℕ) → bitAnd x 127 < 128
+low-lt : (x : ℕ) → bitAnd x 127 < highBit
 low-lt x = omega (arith, and-le-r x 127)
 
-xor-low : (p x : ℕ) → p < 128 → bitXor (bitAnd x 127) p < 128
+xor-low : (p x : ℕ) → p < highBit → bitXor (bitAnd x 127) p < highBit
 xor-low p x h = xor-lt 7 (bitAnd x 127) p (low-lt x) h
 
-unlike-small : (p x : ℕ) → p < 128 → unlike p x < 256
+unlike-small : (p x : ℕ) → p < highBit → unlike p x < 256
 unlike-small p x h = omega (arith, xor-low p x h)
 
 byte-small : Small (λ b. b % 256)
@@ -130,7 +130,7 @@ module _ (bs : List ℕ) (eight : length bs ≡ 8) where
   each c = sym (word-const c bs ∙ ap (λ (n : ℕ). c * ones n) eight)
 
   -- no byte of the sum overflows
-  unlike-word : (p : ℕ) → p < 128 → bitXor (bitAnd (little bs) 9187201950435737471) (p * 72340172838076673) + 9187201950435737471 ≡ word (λ b. unlike p (b % 256)) bs
+  unlike-word : (p : ℕ) → p < highBit → bitXor (bitAnd (little bs) 9187201950435737471) (p * 72340172838076673) + 9187201950435737471 ≡ word (λ b. unlike p (b % 256)) bs
   unlike-word p h =
       let a : bitAnd (little bs) 9187201950435737471 ≡ word (λ b. bitAnd (b % 256) 127) bs = ap₂ bitAnd (little-word bs) (each 127) ∙ word-and (λ b. b % 256) (λ b. 127) byte-small (λ b. omega arith) bs in
       let x : bitXor (bitAnd (little bs) 9187201950435737471) (p * 72340172838076673) ≡ word (λ b. bitXor (bitAnd (b % 256) 127) p) bs =
@@ -144,19 +144,19 @@ module _ (bs : List ℕ) (eight : length bs ≡ 8) where
       omega (arith, s, e)
 
   -- the bytes at which a test of seven bits fails
-  marked : (f : ℕ → ℕ) → Small f → bitAnd (18446744073709551615 - bitOr (word f bs) (little bs)) 9259542123273814144 ≡ word (λ b. bitAnd (255 - bitOr (f b) (b % 256)) 128) bs
+  marked : (f : ℕ → ℕ) → Small f → bitAnd (18446744073709551615 - bitOr (word f bs) (little bs)) 9259542123273814144 ≡ word (λ b. bitAnd (255 - bitOr (f b) (b % 256)) highBit) bs
   marked f h =
       let s : Small (λ b. bitOr (f b) (b % 256)) = λ b. or-lt 8 (f b) (b % 256) (h b) (byte-small b) in
       let o : bitOr (word f bs) (little bs) ≡ word (λ b. bitOr (f b) (b % 256)) bs = ap (bitOr (word f bs)) (little-word bs) ∙ word-or f (λ b. b % 256) h byte-small bs in
       let n : 18446744073709551615 - bitOr (word f bs) (little bs) ≡ word (λ b. 255 - bitOr (f b) (b % 256)) bs = ap (λ (z : ℕ). 18446744073709551615 - z) o ∙ word-not (λ b. bitOr (f b) (b % 256)) s in
-      ap₂ bitAnd n (each 128) ∙ word-and (λ b. 255 - bitOr (f b) (b % 256)) (λ b. 128) (λ b. omega arith) (λ b. omega arith) bs
+      ap₂ bitAnd n (each highBit) ∙ word-and (λ b. 255 - bitOr (f b) (b % 256)) (λ b. highBit) (λ b. omega arith) (λ b. omega arith) bs
 
   module _ (bytes : (k : ℕ) → getD bs k 0 < 256) where
     -- the expression on a byte x gives its mark
-    told : (q : ℕ → Bool) (f : ℕ → ℕ) → T (below 256 (λ x. eqb (bitAnd (255 - bitOr (f x) x) 128) (mark (q x)))) → word (λ b. bitAnd (255 - bitOr (f (b % 256)) (b % 256)) 128) bs ≡ little (marks q bs)
+    told : (q : ℕ → Bool) (f : ℕ → ℕ) → T (below 256 (λ x. eqb (bitAnd (255 - bitOr (f x) x) highBit) (mark (q x)))) → word (λ b. bitAnd (255 - bitOr (f (b % 256)) (b % 256)) highBit) bs ≡ little (marks q bs)
     told q f t =
-        let e : (b : ℕ) → b < 256 → bitAnd (255 - bitOr (f (b % 256)) (b % 256)) 128 ≡ mark (q b) = λ b l. ap (λ (z : ℕ). bitAnd (255 - bitOr (f z) z) 128) (mod-eq-of-lt l) ∙ eqb→eq (bitAnd (255 - bitOr (f b) b) 128) (mark (q b)) (below-holds 256 (λ x. eqb (bitAnd (255 - bitOr (f x) x) 128) (mark (q x))) t b l) in
-        word-bytes (λ b. bitAnd (255 - bitOr (f (b % 256)) (b % 256)) 128) (λ b. mark (q b)) e bs bytes ∙ sym (little-marks q bs)
+        let e : (b : ℕ) → b < 256 → bitAnd (255 - bitOr (f (b % 256)) (b % 256)) highBit ≡ mark (q b) = λ b l. ap (λ (z : ℕ). bitAnd (255 - bitOr (f z) z) highBit) (mod-eq-of-lt l) ∙ eqb→eq (bitAnd (255 - bitOr (f b) b) highBit) (mark (q b)) (below-holds 256 (λ x. eqb (bitAnd (255 - bitOr (f x) x) highBit) (mark (q x))) t b l) in
+        word-bytes (λ b. bitAnd (255 - bitOr (f (b % 256)) (b % 256)) highBit) (λ b. mark (q b)) e bs bytes ∙ sym (little-marks q bs)
 
     pub quotes-told : bitAnd (18446744073709551615 - bitOr (bitXor (bitAnd (little bs) 9187201950435737471) 2459565876494606882 + 9187201950435737471) (little bs)) 9259542123273814144 ≡ little (marks isQuote bs)
     unfolding below

@@ -15,9 +15,13 @@ isQuote b = eqb b quote
 abbrev pub isDelimiter : ℕ → Bool
 isDelimiter b = eqb b quote || (eqb b comma || eqb b lineFeed)
 
+-- the highest bit of a byte, by which it is marked
+abbrev pub highBit : ℕ
+highBit = 128
+
 -- the mark of a byte
 abbrev pub mark : Bool → ℕ
-mark q = pick q 128 0
+mark q = pick q highBit 0
 
 -- the marks of some bytes
 unfoldable pub marks : (ℕ → Bool) → List ℕ → List ℕ

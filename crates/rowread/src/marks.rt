@@ -1,5 +1,5 @@
-// Which of eight bytes are delimiters, told by marks: a number whose byte k is 128 if byte k of the eight is one, else 0. Eight bytes are tested
-// at once, in a 64-bit number.
+// Which of eight bytes are delimiters, told by marks: a number whose byte k is a mark, its highest bit, if byte k of the eight is one, else 0. Eight
+// bytes are tested at once, in a 64-bit number.
 ghost use mathlib.Core.Path.{_≡_};
 ghost use Prim.Native.Nat.{_+_, _*_, _<_, _≤_};
 ghost use lib.ListN.{length, take, drop};
@@ -17,12 +17,15 @@ use csv::COMMA;
 use csv::LF;
 use csv::QUOTE;
 
+// The highest bit of a byte, by which it is marked.
+const HIGH_BIT: u64 = 128;
+
 // A byte in each of the eight places.
 const EACH: u64 = 0x0101010101010101;
 
-const LOW_BITS: u64 = 127 * EACH;
+const HIGH_BITS: u64 = HIGH_BIT * EACH;
 
-const HIGH_BITS: u64 = 128 * EACH;
+const LOW_BITS: u64 = (HIGH_BIT - 1) * EACH;
 
 const QUOTES: u64 = (QUOTE as u64) * EACH;
 
