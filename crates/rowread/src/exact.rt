@@ -2,12 +2,12 @@
 // unchanged; the second writes the values of a row that is known to fit.
 ghost use mathlib.Core.Path.{_≡_};
 ghost use Prim.Native.Nat.{_+_, _-_, _≤_};
-ghost use lib.ListN.{length, take, drop, getD};
+ghost use lib.ListN.{length, drop, getD};
 ghost use lib.Seq.{sets};
 ghost use Rattle.csv.specs.Csv.{isText};
-ghost use Rattle.csv.specs.Read.{plainValue, fieldAt, rowEnd, values};
+ghost use Rattle.csv.specs.Read.{plainValue, fieldAt, values};
 ghost use Rattle.rowread.specs.Stored.{valuesOf, joined, endsOf};
-ghost use Rattle.rowread.specs.Steps.{pieceOf, valueOf, scanOf, IsRow, slackOf, Ahead, Written, FieldRoom, RowRoom, RowWritten};
+ghost use Rattle.rowread.specs.Steps.{pieceOf, valueOf, scanOf, IsRow, slackOf, Written, FieldRoom, RowRoom, RowWritten};
 use crate::line::BLOCK;
 use crate::line::copy_block;
 use crate::line::copy_part;
@@ -47,14 +47,6 @@ fn is_text(b: u8) -> bool
     !((b == QUOTE) | ((b == COMMA) | (b == LF)))
 }
 
-// How many bytes the row end at an offset has, 0 if there is none.
-fn row_end(t: &[u8], i: usize) -> usize
-    requires { ⌜ i ≤ length (now t) ⌝ }
-    ensures { λ r. ⌜ r ≡ rowEnd (drop i (now (t .entry))) ⌝ }
-{
-    if byte_at(t, i) == LF { 1 } else { 0 }
-}
-
 // The end of the value without quotes at an offset.
 fn text_end(t: &[u8], from: usize) -> usize
     requires { ⌜ from ≤ length (now t) ⌝ }
@@ -77,20 +69,6 @@ fn text_end(t: &[u8], from: usize) -> usize
     i
 }
 
-// Copies the bytes of t from one offset to another to out. If `ahead`, a block after them may be overwritten.
-fn put_text(t: &[u8], from: usize, end: usize, out: &mut [u8], to: usize, ahead: bool)
-    requires { ⌜ (from ≤ end) × (end ≤ length (now t)) × (to + (end - from) + slackOf ahead ≤ length (now out)) ⌝ }
-    ensures { λ _. ⌜ Ahead (slackOf ahead) (now (out .entry)) to (take (end - from) (drop from (now (t .entry)))) (now (out .exit)) ⌝ }
-{
-    if ahead {
-        if BLOCK <= t.len() - end {
-            copy_value(t, from, end - from, out, to);
-            return;
-        }
-    }
-    copy_part(t, from, end, out, to);
-}
-
 // The value at an offset, unquoted; if `write`, it goes to out. If `ahead`, a block after it may be overwritten.
 fn value(t: &[u8], from: usize, out: &mut [u8], to: usize, write: bool, ahead: bool) -> Piece
     requires { ⌜ (from ≤ length (now t)) × (to ≤ from) ⌝ }
@@ -100,14 +78,16 @@ fn value(t: &[u8], from: usize, out: &mut [u8], to: usize, write: bool, ahead: b
     if byte_at(t, from) == QUOTE {
         return unquote(t, from + 1, out, to, write, ahead);
     }
-    let e = text_end(t, from);
+    let end = text_end(t, from);
+    let size = end - from;
     if write {
-        put_text(t, from, e, out, to, ahead);
+        if ahead & (BLOCK <= t.len() - end) {
+            copy_value(t, from, size, out, to);
+        } else {
+            copy_part(t, from, end, out, to);
+        }
     }
-    Piece::Value {
-        next: e,
-        size: e - from,
-    }
+    Piece::Value { next: end, size }
 }
 
 // The row of `width` values at the start of t; if `write`, the values go to out and their ends to ends. If `ahead`, a block after the values may be
@@ -136,12 +116,11 @@ pub(crate) fn row(
         }
         k += 1;
         if k == width {
-            let e = row_end(t, next);
-            if e == 0 {
+            if byte_at(t, next) != LF {
                 return Scan::Broken;
             }
             return Scan::Whole {
-                next: next + e,
+                next: next + 1,
                 size: to,
             };
         }

@@ -68,7 +68,7 @@ pub(crate) fn delimiters_of(w: u64) -> u64
         & HIGH_BITS
 }
 
-// How many binary digits x has.
+// How many binary digits x has. LLVM makes one instruction of the loop, as long as it is a function of its own.
 fn bits(x: u64) -> usize
     ensures { λ r. ⌜ r ≡ bitsOf x ⌝ }
 {
