@@ -107,12 +107,14 @@ pub(crate) fn copy_value(t: &[u8], from: usize, n: usize, out: &mut [u8], to: us
     }
 }
 
-// Copies the values of the first e bytes, which have n commas, and their ends; up to a block after the values is overwritten too.
-fn copy_values(t: &[u8], e: usize, n: usize, marks: &[usize], out: &mut [u8], ends: &mut [usize])
+// Copies the values of the first e bytes, which have n commas, and their ends. What a block may overwrite after them is saved before, and put back.
+fn copy_line(t: &[u8], e: usize, n: usize, marks: &[usize], out: &mut [u8], ends: &mut [usize])
     requires { ⌜ (e + blockSize ≤ length (now t)) × (n ≡ commasIn (take e (now t))) × (take n (now marks) ≡ cutsIn 0 (take e (now t))) ⌝ }
     requires { ⌜ (n ≤ length (now marks)) × (e - n + blockSize ≤ length (now out)) × (n < length (now ends)) ⌝ }
-    ensures { λ _. ⌜ Ahead blockSize (now (out .entry)) 0 (textIn (take e (now (t .entry)))) (now (out .exit)) × (now (ends .exit) ≡ sets (now (ends .entry)) 0 (marksIn 0 (take e (now (t .entry))))) ⌝ }
+    ensures { λ _. ⌜ (now (out .exit) ≡ sets (now (out .entry)) 0 (textIn (take e (now (t .entry))))) × (now (ends .exit) ≡ sets (now (ends .entry)) 0 (marksIn 0 (take e (now (t .entry))))) ⌝ }
 {
+    let mut saved: [u8; BLOCK] = [0; BLOCK];
+    copy_block(out, e - n, &mut saved, 0);
     let mut from: usize = 0;
     let mut to: usize = 0;
     let mut k: usize = 0;
@@ -126,17 +128,6 @@ fn copy_values(t: &[u8], e: usize, n: usize, marks: &[usize], out: &mut [u8], en
     }
     copy_value(t, from, e - from, out, to);
     ends[n] = e - n;
-}
-
-// Copies the values of the first e bytes, which have n commas, and their ends.
-fn copy_line(t: &[u8], e: usize, n: usize, marks: &[usize], out: &mut [u8], ends: &mut [usize])
-    requires { ⌜ (e + blockSize ≤ length (now t)) × (n ≡ commasIn (take e (now t))) × (take n (now marks) ≡ cutsIn 0 (take e (now t))) ⌝ }
-    requires { ⌜ (n ≤ length (now marks)) × (e - n + blockSize ≤ length (now out)) × (n < length (now ends)) ⌝ }
-    ensures { λ _. ⌜ (now (out .exit) ≡ sets (now (out .entry)) 0 (textIn (take e (now (t .entry))))) × (now (ends .exit) ≡ sets (now (ends .entry)) 0 (marksIn 0 (take e (now (t .entry))))) ⌝ }
-{
-    let mut saved: [u8; BLOCK] = [0; BLOCK];
-    copy_block(out, e - n, &mut saved, 0);
-    copy_values(t, e, n, marks, out, ends);
     copy_block(&saved, 0, out, e - n);
 }
 
