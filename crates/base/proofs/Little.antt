@@ -1,12 +1,12 @@
--- Bytes as one number, the first byte the lowest: joined parts, bounds, and the sums by which the code loads 4 and 8 bytes.
-use mathlib.Core.Path.{_≡_, refl, sym, ap, ap₂, _∙_}
+-- Bytes as one number, the first byte the lowest: joined parts, bounds, and eight bytes.
+use mathlib.Core.Path.{_≡_, refl, sym, ap, _∙_}
 use mathlib.Core.List.{List, [], _∷_, _++_}
 use Prim.Native.Nat.{ℕ, zero, suc, _+_, _*_, _%_, _^_, _<_, _≤_}
-use native.Mathlib.Nat.{add-zero, add-suc, mod-eq-of-lt, mod-lt, mul-suc, mul-assoc, lt-of-lt-of-le, min-le-left}
+use native.Mathlib.Nat.{add-zero, add-suc, mod-lt, mul-suc, mul-assoc, lt-of-lt-of-le, min-le-left}
 use native.Mathlib.Omega.{arith}
 use lib.Pow.{pow-pos, pow-add, pow-mono}
-use lib.ListN.{length, take, drop, getD, length-take, length-drop}
-use lib.Seq.{drop-cons, drop-drop, take-add, length-take-le}
+use lib.ListN.{length, take, drop, getD, length-take}
+use lib.Seq.{drop-cons, take-add, length-take-le}
 use Rattle.base.specs.Little.{little}
 
 pub little-append : (s t : List ℕ) → little (s ++ t) ≡ little t * 2 ^ (8 * length s) + little s
@@ -38,7 +38,7 @@ part-lt n s =
     lt-of-lt-of-le (little-lt (take n s))
     (pow-mono {i = 8 * length (take n s)} {j = 8 * n} (omega (arith, length-take n s, min-le-left n (length s))))
 
--- ---- four bytes
+-- ---- eight bytes
 
 gets : ℕ → List ℕ → ℕ → ℕ → List ℕ
 gets zero s i k = []
@@ -51,27 +51,8 @@ part (suc n) s i k h =
     ap (take (suc n)) (drop-cons s (i + k) 0 (omega arith))
     ∙ ap (λ (l : List ℕ). getD s (i + k) 0 ∷ l) (ap (λ (j : ℕ). take n (drop j s)) (sym (add-suc i k)) ∙ part n s i (suc k) (omega arith))
 
-sum-of : (a b c d : ℕ) → (((0 * 256 + d) * 256 + c) * 256 + b) * 256 + a ≡ a + b * 256 + c * 65536 + d * 16777216
-sum-of a b c d = omega arith
-
-digits-of : (a b c d : ℕ) → a < 256 → b < 256 → c < 256 → d < 256
-    → (((0 * 256 + d % 256) * 256 + c % 256) * 256 + b % 256) * 256 + a % 256 ≡ a + b * 256 + c * 65536 + d * 16777216
-digits-of a b c d ha hb hc hd =
-    ap₂ (λ (x y : ℕ). (((0 * 256 + y) * 256 + x) * 256 + b % 256) * 256 + a % 256) (mod-eq-of-lt hc) (mod-eq-of-lt hd)
-    ∙ ap₂ (λ (x y : ℕ). (((0 * 256 + d) * 256 + c) * 256 + y) * 256 + x) (mod-eq-of-lt ha) (mod-eq-of-lt hb)
-    ∙ sum-of a b c d
-
-pub four-bytes : (s : List ℕ) (i : ℕ) → i + 4 ≤ length s → ((k : ℕ) → getD s k 0 < 256)
-    → getD s i 0 + getD s (i + 1) 0 * 256 + getD s (i + 2) 0 * 65536 + getD s (i + 3) 0 * 16777216 ≡ little (take 4 (drop i s))
-unfolding gets little
-four-bytes s i h l =
-    sym (digits-of (getD s i 0) (getD s (i + 1) 0) (getD s (i + 2) 0) (getD s (i + 3) 0) (l i) (l (i + 1)) (l (i + 2)) (l (i + 3)))
-    ∙ ap (λ (j : ℕ). (((0 * 256 + getD s (i + 3) 0 % 256) * 256 + getD s (i + 2) 0 % 256) * 256 + getD s (i + 1) 0 % 256) * 256 + getD s j 0 % 256) (sym (add-zero i))
-    ∙ sym (ap (λ (j : ℕ). little (take 4 (drop j s))) (sym (add-zero i)) ∙ ap little (part 4 s i 0 (omega arith)))
-
+-- eight bytes of a list, one by one
 pub eight-bytes : (s : List ℕ) (i : ℕ) → i + 8 ≤ length s
-    → little (take 4 (drop i s)) + little (take 4 (drop (i + 4) s)) * 4294967296 ≡ little (take 8 (drop i s))
-eight-bytes s i h =
-    let e : little (take 8 (drop i s)) ≡ little (take 4 (drop 4 (drop i s))) * 4294967296 + little (take 4 (drop i s)) = little-two 4 4 (drop i s) (omega (arith, length-drop i s)) in
-    let d : little (take 4 (drop 4 (drop i s))) ≡ little (take 4 (drop (i + 4) s)) = ap (λ (l : List ℕ). little (take 4 l)) (drop-drop 4 i s) in
-    omega arith
+    → getD s i 0 ∷ getD s (i + 1) 0 ∷ getD s (i + 2) 0 ∷ getD s (i + 3) 0 ∷ getD s (i + 4) 0 ∷ getD s (i + 5) 0 ∷ getD s (i + 6) 0 ∷ getD s (i + 7) 0 ∷ [] ≡ take 8 (drop i s)
+unfolding gets
+eight-bytes s i h = sym (rw (add-zero i) at (part 8 s i 0 (omega arith)))

@@ -3,12 +3,9 @@ use mathlib.Core.List.{List, [], _∷_}
 use Prim.Native.Nat.{ℕ, _+_, _*_, _%_}
 use Rattle.base.specs.Number.{byteValues}
 
--- the bytes of a 64-bit number, and of half of one
+-- the bytes of a 64-bit number
 abbrev pub longBytes : ℕ
 longBytes = 8
-
-abbrev pub halfBytes : ℕ
-halfBytes = 4
 
 -- bytes as one little-endian number
 unfoldable pub little : List ℕ → ℕ

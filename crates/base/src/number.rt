@@ -1,7 +1,9 @@
 // Operations on numbers that the language lacks, or whose contract saves callers a proof.
 ghost use mathlib.Core.Path.{_≡_};
+ghost use mathlib.Core.List.{[], _∷_};
 ghost use Prim.Native.Nat.{_<_};
 ghost use lib.Signed.{leZ, ltZ};
+ghost use Rattle.base.specs.Little.{little};
 ghost use Rattle.base.specs.Number.{byteValues, wordValues, rotation, rotateLeft32};
 
 // How many values a byte has.
@@ -16,10 +18,8 @@ pub const BYTE_BITS_32: u32 = BYTE_BITS as u32;
 
 pub const WORD_BITS: u32 = 32;
 
-// The bytes of a 64-bit number, and of half of one.
+// The bytes of a 64-bit number.
 pub const LONG_BYTES: usize = 8;
-
-pub const HALF_BYTES: usize = 4;
 
 // What each byte of a 32-bit number but the first counts.
 pub const SECOND_BYTE: u32 = BYTE_VALUES_32;
@@ -28,11 +28,11 @@ pub const THIRD_BYTE: u32 = SECOND_BYTE * BYTE_VALUES_32;
 
 pub const FOURTH_BYTE: u32 = THIRD_BYTE * BYTE_VALUES_32;
 
-pub const SECOND_BYTE_64: u64 = SECOND_BYTE as u64;
+const SECOND_BYTE_64: u64 = SECOND_BYTE as u64;
 
-pub const THIRD_BYTE_64: u64 = THIRD_BYTE as u64;
+const THIRD_BYTE_64: u64 = THIRD_BYTE as u64;
 
-pub const FOURTH_BYTE_64: u64 = FOURTH_BYTE as u64;
+const FOURTH_BYTE_64: u64 = FOURTH_BYTE as u64;
 
 // How many values a 32-bit number has: what the upper half of a 64-bit one counts.
 pub const WORD_VALUES: u64 = 4294967296;
@@ -57,6 +57,21 @@ pub fn u8_to_u64(x: u8) -> u64
     ensures { λ r. ⌜ (r ≡ x) × (r < byteValues) ⌝ }
 {
     x as u64
+}
+
+// Eight bytes as one little-endian number. The sum is compiled to one load where they are next to each other.
+pub fn bytes_to_u64(a: u8, b: u8, c: u8, d: u8, e: u8, f: u8, g: u8, h: u8) -> u64
+    ensures { λ r. ⌜ r ≡ little (a ∷ b ∷ c ∷ d ∷ e ∷ f ∷ g ∷ h ∷ []) ⌝ }
+{
+    let low = (a as u64)
+        + (b as u64) * SECOND_BYTE_64
+        + (c as u64) * THIRD_BYTE_64
+        + (d as u64) * FOURTH_BYTE_64;
+    let high = (e as u64)
+        + (f as u64) * SECOND_BYTE_64
+        + (g as u64) * THIRD_BYTE_64
+        + (h as u64) * FOURTH_BYTE_64;
+    low + high * WORD_VALUES
 }
 
 // A 32-bit number as a 64-bit one.

@@ -6,20 +6,16 @@ ghost use mathlib.Core.Path.{_≡_};
 ghost use Prim.Native.Nat.{_+_, _-_, _*_, _%_, _^_, _≤_, _<_};
 ghost use lib.Bits.{bitXor};
 ghost use lib.ListN.{length, take, drop};
-ghost use Rattle.base.specs.Little.{little, longBytes, halfBytes};
+ghost use Rattle.base.specs.Little.{little, longBytes};
 ghost use Rattle.base.specs.Number.{byteValues, byteBits, wordValues, longBits};
 ghost use Rattle.checksum.specs.Register.{steps, run};
 ghost use Rattle.checksum.specs.Pending.{three, five, two, after};
 ghost use Rattle.checksum.specs.Pending.{nibbles, nibbleBits};
 ghost use Rattle.checksum.specs.Pending.{digits, digitValues, rows, rowSteps, packed};
 use base::number::BYTE_BITS_32;
-use base::number::FOURTH_BYTE_64;
-use base::number::HALF_BYTES;
 use base::number::LONG_BYTES;
-use base::number::SECOND_BYTE_64;
-use base::number::THIRD_BYTE_64;
 use base::number::WORD_VALUES;
-use base::number::u8_to_u64;
+use base::number::bytes_to_u64;
 use base::number::u32_to_u64;
 
 // The values of a nibble.
@@ -65,23 +61,21 @@ struct Five {
     e: u64,
 }
 
-// The four bytes at offset i as a little-endian number.
-fn half(s: &[u8], i: usize) -> u64
-    requires { ⌜ i + halfBytes ≤ length (now s) ⌝ }
-    ensures { λ r. ⌜ (r ≡ little (take halfBytes (drop i (now (s .entry))))) × (r < wordValues) ⌝ }
-{
-    u8_to_u64(s[i])
-        + u8_to_u64(s[i + 1]) * SECOND_BYTE_64
-        + u8_to_u64(s[i + 2]) * THIRD_BYTE_64
-        + u8_to_u64(s[i + 3]) * FOURTH_BYTE_64
-}
-
 // The eight bytes at offset i as a little-endian number.
 fn load(s: &[u8], i: usize) -> u64
     requires { ⌜ i + longBytes ≤ length (now s) ⌝ }
     ensures { λ r. ⌜ r ≡ little (take longBytes (drop i (now (s .entry)))) ⌝ }
 {
-    half(s, i) + half(s, i + HALF_BYTES) * WORD_VALUES
+    bytes_to_u64(
+        s[i],
+        s[i + 1],
+        s[i + 2],
+        s[i + 3],
+        s[i + 4],
+        s[i + 5],
+        s[i + 6],
+        s[i + 7],
+    )
 }
 
 // Two entries of the table: of the digit k % 64 in row k / 64, times 2^32, and in the row 6 after it. The match becomes a table in read-only

@@ -1,18 +1,12 @@
 // Which of eight bytes are delimiters, told by marks: a number whose byte k is a mark, its highest bit, if byte k of the eight is one, else 0. Eight
 // bytes are tested at once, in a 64-bit number.
 ghost use mathlib.Core.Path.{_≡_};
-ghost use Prim.Native.Nat.{_+_, _*_, _<_, _≤_};
+ghost use Prim.Native.Nat.{_+_, _<_, _≤_};
 ghost use lib.ListN.{length, take, drop};
-ghost use Rattle.base.specs.Little.{little, longBytes, halfBytes};
-ghost use Rattle.base.specs.Number.{wordValues};
+ghost use Rattle.base.specs.Little.{little, longBytes};
 ghost use Rattle.rowread.specs.Marks.{Bytes, isQuote, isDelimiter, HasMarks, MarksOf, FirstOf, ClearedOf, bitsOf};
 use base::number::BYTE_BITS;
-use base::number::FOURTH_BYTE_64;
-use base::number::HALF_BYTES;
-use base::number::SECOND_BYTE_64;
-use base::number::THIRD_BYTE_64;
-use base::number::WORD_VALUES;
-use base::number::u8_to_u64;
+use base::number::bytes_to_u64;
 use csv::COMMA;
 use csv::LF;
 use csv::QUOTE;
@@ -33,23 +27,21 @@ const COMMAS: u64 = (COMMA as u64) * EACH;
 
 const LFS: u64 = (LF as u64) * EACH;
 
-// The four bytes at offset i as a little-endian number.
-fn half(s: &[u8], i: usize) -> u64
-    requires { ⌜ i + halfBytes ≤ length (now s) ⌝ }
-    ensures { λ r. ⌜ (r ≡ little (take halfBytes (drop i (now (s .entry))))) × (r < wordValues) × Bytes (now (s .entry)) ⌝ }
-{
-    u8_to_u64(s[i])
-        + u8_to_u64(s[i + 1]) * SECOND_BYTE_64
-        + u8_to_u64(s[i + 2]) * THIRD_BYTE_64
-        + u8_to_u64(s[i + 3]) * FOURTH_BYTE_64
-}
-
 // The eight bytes at offset i as a little-endian number.
 pub(crate) fn load(s: &[u8], i: usize) -> u64
     requires { ⌜ i + longBytes ≤ length (now s) ⌝ }
     ensures { λ r. ⌜ (r ≡ little (take longBytes (drop i (now (s .entry))))) × Bytes (now (s .entry)) ⌝ }
 {
-    half(s, i) + half(s, i + HALF_BYTES) * WORD_VALUES
+    bytes_to_u64(
+        s[i],
+        s[i + 1],
+        s[i + 2],
+        s[i + 3],
+        s[i + 4],
+        s[i + 5],
+        s[i + 6],
+        s[i + 7],
+    )
 }
 
 // Marks on the bytes of w that are quotes.
