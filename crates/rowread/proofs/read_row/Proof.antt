@@ -15,33 +15,27 @@ use borrow.Author.Needs.{needs}
 use Rattle.rowread.proofs.read_row.Statement.{statement}
 use Rattle.rowread.proofs.read_row.Tie as tie
 
--- src/lib.rt:40:9
 returns : tie.Need-returns
 returns c =
     let a = c .before .before .before .before .args in
     let w = read-past (a .table .now) (a .width) (a .offset) (a .out .now) (a .ends .now) (c .if1 .taken) in
     (w .is, w .bytes, w .marks)
 
--- src/lib.rt:43:9
 returns-2 : tie.Need-returns-2
 returns-2 c =
     let a = c .before .before .before .before .before .args in
     let w = read-end (a .table .now) (a .width) (a .offset) (a .out .now) (a .ends .now) (c .before .if1 .left) (c .if2 .taken) in
     (w .is, w .bytes, w .marks)
 
--- src/lib.rt:45:9
 part-requires : tie.Need-part-requires
 part-requires c κs = search needs
 
--- src/lib.rt:46:9
 fast-row-requires : tie.Need-fast-row-requires
 fast-row-requires c κs = search needs
 
--- src/lib.rt:47:25
 enum-known-quick : tie.Need-enum-known-quick
 enum-known-quick c = search needs
 
--- src/lib.rt:49:19
 add-t20 : tie.Need-add-t20
 add-t20 c =
     let s = c .before .before .before .before .before .before .before .before .before .before .before .before .before .before .before .before in
@@ -53,15 +47,12 @@ add-t20 c =
     let x = rw (g .1) at (c .before .before .before .before .before .before .before .fast-row .ensures) in
     omega (arith, x .inside, ap length e, length-take maxRow (drop (a .offset) (a .table .now)), length-drop (a .offset) (a .table .now), h)
 
--- src/lib.rt:48:9
 same-length : tie.Need-same-length
 same-length c = search needs
 
--- src/lib.rt:48:9
 same-length-2 : tie.Need-same-length-2
 same-length-2 c = search needs
 
--- src/lib.rt:48:9
 returns-3 : tie.Need-returns-3
 returns-3 c =
     let s = c .before .before .before .before .before .before .before .before .before .before .before .before .before .before .before .before in
@@ -77,28 +68,22 @@ returns-3 c =
 enum-told : tie.Need-enum-told
 enum-told c = search needs
 
--- src/lib.rt:53:9
 row-requires : tie.Need-row-requires
 row-requires c κs =
     λ w. absurd (both-ways true refl (sym w))
 
--- src/lib.rt:54:23
 enum-known-scan : tie.Need-enum-known-scan
 enum-known-scan c = search needs
 
--- src/lib.rt:55:36
 enum-told-2 : tie.Need-enum-told-2
 enum-told-2 c = search needs
 
--- src/lib.rt:55:9
 same-length-3 : tie.Need-same-length-3
 same-length-3 c = search needs
 
--- src/lib.rt:55:9
 same-length-4 : tie.Need-same-length-4
 same-length-4 c = search needs
 
--- src/lib.rt:55:9
 returns-4 : tie.Need-returns-4
 returns-4 c =
     let s = c .before .before .before .before .before .before .before .before .before .before .before .before .before .before .before .before .before .before .before .before .before .before .before .before in
@@ -112,15 +97,12 @@ returns-4 c =
     let w = since (m .0 ∙ k .0) (m .1 ∙ k .1) (read-broken (a .table .now) (a .width) (a .offset) _ _ h n (sym (c .enum-told2 .given .1) ∙ d .0 ∙ ap (scanOf (a .width)) e)) in
     (w .is, w .bytes, w .marks)
 
--- src/lib.rt:58:9
 same-length-5 : tie.Need-same-length-5
 same-length-5 c = search needs
 
--- src/lib.rt:58:9
 same-length-6 : tie.Need-same-length-6
 same-length-6 c = search needs
 
--- src/lib.rt:58:9
 returns-5 : tie.Need-returns-5
 returns-5 c =
     let s = c .before .before .before .before .before .before .before .before .before .before .before .before .before .before .before .before .before .before .before .before .before .before .before .before .before .before in
@@ -136,15 +118,12 @@ returns-5 c =
     let w = since (m .0 ∙ k .0) (m .1 ∙ k .1) (read-short (a .table .now) (a .width) (a .offset) _ _ h n (g .0 .0) (g .0 .1 .0) q (c .if3 .taken)) in
     (w .is, w .bytes, w .marks)
 
--- src/lib.rt:61:9
 same-length-7 : tie.Need-same-length-7
 same-length-7 c = search needs
 
--- src/lib.rt:61:9
 same-length-8 : tie.Need-same-length-8
 same-length-8 c = search needs
 
--- src/lib.rt:61:9
 returns-6 : tie.Need-returns-6
 returns-6 c =
     let s = c .before .before .before .before .before .before .before .before .before .before .before .before .before .before .before .before .before .before .before .before .before .before .before .before .before .before .before in
@@ -160,7 +139,6 @@ returns-6 c =
     let w = since (m .0 ∙ k .0) (m .1 ∙ k .1) (read-few (a .table .now) (a .width) (a .offset) _ _ h n (g .0 .0) (g .0 .1 .0) q (c .before .if3 .left) (c .if4 .taken)) in
     (w .is, w .bytes, w .marks)
 
--- src/lib.rt:63:5
 write-row-requires : tie.Need-write-row-requires
 write-row-requires c κs =
     let s = c .before .before .before .before .before .before .before .before .before .before .before .before .before .before .before .before .before .before .before .before .before .before .before .before .before .before .before .before .before in
@@ -176,7 +154,6 @@ write-row-requires c κs =
     let y = row-bytes (a .table .now) (a .width) (a .offset) (a .out .now) (a .ends .now) h n (g .0 .0) (g .0 .1 .0) q in
     rw e (is-row (a .table .now) (a .width) (a .offset) (a .out .now) (a .ends .now) h n (g .0 .0) (g .0 .1 .0) q, omega (arith, y), c .before .before .before .if3 .left, c .before .before .if4 .left)
 
--- src/lib.rt:65:15
 add-t13 : tie.Need-add-t13
 add-t13 c =
     let s = c .before .before .before .before .before .before .before .before .before .before .before .before .before .before .before .before .before .before .before .before .before .before .before .before .before .before .before .before .before .before .before .before .before .before in
@@ -191,15 +168,12 @@ add-t13 c =
     let x = scan-inside (a .width) _ (g .0 .0) (g .0 .1 .0) (sym (g .1) ∙ d .0) in
     omega (arith, x, ap length e, length-take maxRow (drop (a .offset) (a .table .now)), length-drop (a .offset) (a .table .now), h)
 
--- src/lib.rt:30:1
 same-length-9 : tie.Need-same-length-9
 same-length-9 c = search needs
 
--- src/lib.rt:30:1
 same-length-10 : tie.Need-same-length-10
 same-length-10 c = search needs
 
--- src/lib.rt:30:1
 returns-7 : tie.Need-returns-7
 returns-7 c =
     let s = c .before .before .before .before .before .before .before .before .before .before .before .before .before .before .before .before .before .before .before .before .before .before .before .before .before .before .before .before .before .before .before .before .before .before in

@@ -25,23 +25,18 @@ Inv-loop2 t from i₀ i = (i ≤ length t) × (from + length (plainValue (drop f
 abbrev μ-loop2 : tie.MeasureT-loop2
 μ-loop2 t from i₀ i = length t - i
 
--- src/exact.rt:64:5
 loop-holds : tie.Need-loop-holds Inv-loop μ-loop Inv-loop2 μ-loop2
 loop-holds c = (c .before .pre, refl)
 
--- src/exact.rt:64:19
 sub-loop : tie.Need-sub-loop Inv-loop μ-loop Inv-loop2 μ-loop2
 sub-loop c = c .loop .inv .0
 
--- src/exact.rt:65:31
 load-requires : tie.Need-load-requires Inv-loop μ-loop Inv-loop2 μ-loop2
 load-requires c κs = omega (arith, c .loop-test .taken, c .before .loop .inv .0)
 
--- src/exact.rt:65:13
 delimiters-of-requires : tie.Need-delimiters-of-requires Inv-loop μ-loop Inv-loop2 μ-loop2
 delimiters-of-requires c κs = search needs
 
--- src/exact.rt:67:24
 first-requires : tie.Need-first-requires Inv-loop μ-loop Inv-loop2 μ-loop2
 first-requires c κs =
     let t = c .before .before .before .before .before .before .args .t .now in
@@ -52,7 +47,6 @@ first-requires c κs =
     let n = c .if1 .taken in
     ((M.marks M.isDelimiter (take 8 (drop (l .i) t)), marks-all (take 8 (drop (l .i) t)) (word-eight t (l .i) h), e), omega (arith, n))
 
--- src/exact.rt:67:20
 add-result : tie.Need-add-result Inv-loop μ-loop Inv-loop2 μ-loop2
 add-result c =
     let t = c .before .before .before .before .before .before .before .args .t .now in
@@ -63,7 +57,6 @@ add-result c =
     let w = word-first t (l .i) (c .before .before .delimiters-of .result) (c .first .result) h e (c .before .if1 .taken) (c .first .ensures) in
     omega (arith, w .0, h)
 
--- src/exact.rt:67:13
 returns : tie.Need-returns Inv-loop μ-loop Inv-loop2 μ-loop2
 returns c =
     let t = c .before .before .before .before .before .before .before .args .t .now in
@@ -75,7 +68,6 @@ returns c =
     let w = word-first t (l .i) (c .before .before .delimiters-of .result) j h e (c .before .if1 .taken) (c .first .ensures) in
     plain-stop t (l .i + j) (omega (arith, w .0, h)) (text-not (getD t (l .i + j) 0) true (w .1)) ∙ sym (l .inv .1 ∙ plain-skip j t (l .i) (omega (arith, w .0, h)) (w .2))
 
--- src/exact.rt:69:9
 add-i : tie.Need-add-i Inv-loop μ-loop Inv-loop2 μ-loop2
 add-i c =
     let t = c .before .before .before .before .before .before .args .t .now in
@@ -85,7 +77,6 @@ add-i c =
     let e = c .before .delimiters-of .ensures (take 8 (drop (l .i) t)) (word-eight t (l .i) h) (word-bytes t (l .i) (b .1)) (b .0) in
     omega (arith, h)
 
--- src/exact.rt:64:5
 loop-less : tie.Need-loop-less Inv-loop μ-loop Inv-loop2 μ-loop2
 loop-less c =
     let t = c .before .before .before .before .before .before .args .t .now in
@@ -95,7 +86,6 @@ loop-less c =
     let e = c .before .delimiters-of .ensures (take 8 (drop (l .i) t)) (word-eight t (l .i) h) (word-bytes t (l .i) (b .1)) (b .0) in
     omega (arith, h)
 
--- src/exact.rt:64:5
 loop-again : tie.Need-loop-again Inv-loop μ-loop Inv-loop2 μ-loop2
 loop-again c =
     let t = c .before .before .before .before .before .before .args .t .now in
@@ -105,36 +95,29 @@ loop-again c =
     let e = c .before .delimiters-of .ensures (take 8 (drop (l .i) t)) (word-eight t (l .i) h) (word-bytes t (l .i) (b .1)) (b .0) in
     (h, l .inv .1 ∙ plain-skip 8 t (l .i) h (word-plain t (l .i) (c .before .delimiters-of .result) h e (c .if1 .left)))
 
--- src/exact.rt:71:5
 loop2-holds : tie.Need-loop2-holds Inv-loop μ-loop Inv-loop2 μ-loop2
 loop2-holds c = c .before .loop .inv
 
--- src/exact.rt:72:21
 shared-slice-read-is-text : tie.Need-shared-slice-read-is-text Inv-loop μ-loop Inv-loop2 μ-loop2
 shared-slice-read-is-text c = omega (arith, c .before .loop2-test .taken)
 
--- src/exact.rt:72:13
 is-text-requires : tie.Need-is-text-requires Inv-loop μ-loop Inv-loop2 μ-loop2
 is-text-requires c κs = search needs
 
--- src/exact.rt:73:13
 returns-2 : tie.Need-returns-2 Inv-loop μ-loop Inv-loop2 μ-loop2
 returns-2 c =
     let l = c .before .before .before .before .loop2 in
     let t = c .before .before .before .before .before .before .before .before .args .t .now in
     plain-stop t (l .i) (omega (arith, c .before .before .before .loop2-test .taken)) (sym (c .before .is-text .ensures) ∙ not-true _ (c .if2 .taken)) ∙ sym (l .inv .1)
 
--- src/exact.rt:75:9
 add-i-2 : tie.Need-add-i-2 Inv-loop μ-loop Inv-loop2 μ-loop2
 add-i-2 c =
     omega (arith, c .before .before .before .loop2-test .taken)
 
--- src/exact.rt:71:5
 loop2-less : tie.Need-loop2-less Inv-loop μ-loop Inv-loop2 μ-loop2
 loop2-less c =
     omega (arith, c .before .before .before .loop2-test .taken)
 
--- src/exact.rt:71:5
 loop2-again : tie.Need-loop2-again Inv-loop μ-loop Inv-loop2 μ-loop2
 loop2-again c =
     let l = c .before .before .before .before .loop2 in
@@ -142,7 +125,6 @@ loop2-again c =
     let h : l .i < length t = c .before .before .before .loop2-test .taken in
     (omega (arith, h), l .inv .1 ∙ plain-turn t (l .i) h (sym (c .before .is-text .ensures) ∙ not-false _ (c .if2 .left)))
 
--- src/exact.rt:59:1
 returns-3 : tie.Need-returns-3 Inv-loop μ-loop Inv-loop2 μ-loop2
 returns-3 c =
     let l = c .before .loop2 in

@@ -8,25 +8,20 @@ use borrow.Author.Needs.{needs}
 use Rattle.rowread.proofs.exact.write_row.Statement.{statement}
 use Rattle.rowread.proofs.exact.write_row.Tie as tie
 
--- src/exact.rt:161:8
 sub-if1 : tie.Need-sub-if1
 sub-if1 c = search needs
 
--- src/exact.rt:162:9
 row-requires : tie.Need-row-requires
 row-requires c κs =
     let s = c .before .before .before .before .before .before in
     λ w. (s .pre .0, omega (arith, s .pre .1, s .pre .2), s .pre .3)
 
--- src/exact.rt:163:9
 same-length : tie.Need-same-length
 same-length c = search needs
 
--- src/exact.rt:163:9
 same-length-2 : tie.Need-same-length-2
 same-length-2 c = search needs
 
--- src/exact.rt:163:9
 returns : tie.Need-returns
 returns c =
     let s = c .before .before .before .before .before .before .before .before .before .before .before in
@@ -34,37 +29,29 @@ returns c =
     let w = c .before .before .before .before .row .ensures .1 .ahead refl in
     (ahead-is (a .out .now) 0 (joined (valuesOf (values (a .width) (a .t .now)))) _ (w .0), w .1)
 
--- src/exact.rt:166:27
 slice-aggregate-copy-block : tie.Need-slice-aggregate-copy-block
 slice-aggregate-copy-block c = search needs
 
--- src/exact.rt:166:5
 copy-block-requires : tie.Need-copy-block-requires
 copy-block-requires c κs = search needs
 
--- src/exact.rt:167:5
 row-requires-2 : tie.Need-row-requires-2
 row-requires-2 c κs =
     let s = c .before .before .before .before .before .before .before .before .before .before in
     λ w. (s .pre .0, omega (arith, s .pre .1, s .pre .2, c .before .before .before .before .before .before .if1 .left), s .pre .3)
 
--- src/exact.rt:168:16
 slice-aggregate-copy-block-2 : tie.Need-slice-aggregate-copy-block-2
 slice-aggregate-copy-block-2 c = search needs
 
--- src/exact.rt:168:5
 copy-block-requires-2 : tie.Need-copy-block-requires-2
 copy-block-requires-2 c κs = search needs
 
--- src/exact.rt:157:1
 same-length-3 : tie.Need-same-length-3
 same-length-3 c = search needs
 
--- src/exact.rt:157:1
 same-length-4 : tie.Need-same-length-4
 same-length-4 c = search needs
 
--- src/exact.rt:157:1
 returns-2 : tie.Need-returns-2
 returns-2 c =
     let s = c .before .before .before .before .before .before .before .before .before .before .before .before .before .before .before .before .before .before .before .before in

@@ -5,31 +5,24 @@ use borrow.Author.Needs.{needs}
 use Rattle.rowread.proofs.line.copy_block.Statement.{statement}
 use Rattle.rowread.proofs.line.copy_block.Tie as tie
 
--- src/line.rt:80:24
 add-copy-part : tie.Need-add-copy-part
 add-copy-part c = search needs
 
--- src/line.rt:80:38
 slice-aggregate-copy-part : tie.Need-slice-aggregate-copy-part
 slice-aggregate-copy-part c = search needs
 
--- src/line.rt:80:5
 copy-part-requires : tie.Need-copy-part-requires
 copy-part-requires c κs = search needs
 
--- src/line.rt:81:15
 slice-aggregate-copy-part-2 : tie.Need-slice-aggregate-copy-part-2
 slice-aggregate-copy-part-2 c = search needs
 
--- src/line.rt:81:5
 copy-part-requires-2 : tie.Need-copy-part-requires-2
 copy-part-requires-2 c κs = search needs
 
--- src/line.rt:75:1
 same-length : tie.Need-same-length
 same-length c = search needs
 
--- src/line.rt:75:1
 returns : tie.Need-returns
 returns c =
     let s = c .before .before .before .before .before .before .before .before .before .before in

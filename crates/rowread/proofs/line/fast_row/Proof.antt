@@ -11,27 +11,21 @@ use borrow.Author.Needs.{needs}
 use Rattle.rowread.proofs.line.fast_row.Statement.{statement}
 use Rattle.rowread.proofs.line.fast_row.Tie as tie
 
--- src/line.rt:134:32
 slice-aggregate-search-line : tie.Need-slice-aggregate-search-line
 slice-aggregate-search-line c = search needs
 
--- src/line.rt:134:9
 search-line-requires : tie.Need-search-line-requires
 search-line-requires c κs = search needs
 
--- src/line.rt:135:23
 enum-known-found : tie.Need-enum-known-found
 enum-known-found c = search needs
 
--- src/line.rt:136:9
 enum-told : tie.Need-enum-told
 enum-told c = search needs
 
--- src/line.rt:136:9
 returns : tie.Need-returns
 returns c = search needs
 
--- src/line.rt:138:8
 shared-slice-read-if1 : tie.Need-shared-slice-read-if1
 shared-slice-read-if1 c =
     let s = c .before .before .before .before .before .before .before .before .before .before in
@@ -42,11 +36,9 @@ shared-slice-read-if1 c =
     let n = g .0 .1 .0 in
     x .1 .0
 
--- src/line.rt:139:9
 returns-2 : tie.Need-returns-2
 returns-2 c = search needs
 
--- src/line.rt:141:8
 add-if2 : tie.Need-add-if2
 add-if2 c =
     let s = c .before .before .before .before .before .before .before .before .before .before .before in
@@ -58,19 +50,15 @@ add-if2 c =
     let f : n ≤ e = omega (arith, x .0 .many, text-size (take e t), length-take e t) in
     omega (arith, f, x .1 .0)
 
--- src/line.rt:142:9
 returns-3 : tie.Need-returns-3
 returns-3 c = search needs
 
--- src/line.rt:145:9
 returns-4 : tie.Need-returns-4
 returns-4 c = search needs
 
--- src/line.rt:148:9
 returns-5 : tie.Need-returns-5
 returns-5 c = search needs
 
--- src/line.rt:150:8
 sub-if5 : tie.Need-sub-if5
 sub-if5 c =
     let s = c .before .before .before .before .before .before .before .before .before .before .before .before .before .before in
@@ -81,11 +69,9 @@ sub-if5 c =
     let n = g .0 .1 .0 in
     x .0 .inside
 
--- src/line.rt:151:9
 returns-6 : tie.Need-returns-6
 returns-6 c = search needs
 
--- src/line.rt:153:16
 sub-size : tie.Need-sub-size
 sub-size c =
     let s = c .before .before .before .before .before .before .before .before .before .before .before .before .before .before .before in
@@ -96,19 +82,15 @@ sub-size c =
     let n = g .0 .1 .0 in
     omega (arith, x .0 .many, text-size (take e t), length-take e t)
 
--- src/line.rt:154:20
 add-if6 : tie.Need-add-if6
 add-if6 c = search needs
 
--- src/line.rt:155:9
 returns-7 : tie.Need-returns-7
 returns-7 c = search needs
 
--- src/line.rt:157:31
 slice-aggregate-copy-line : tie.Need-slice-aggregate-copy-line
 slice-aggregate-copy-line c = search needs
 
--- src/line.rt:157:5
 copy-line-requires : tie.Need-copy-line-requires
 copy-line-requires c κs =
     let s = c .before .before .before .before .before .before .before .before .before .before .before .before .before .before .before .before .before .before .before in
@@ -124,19 +106,15 @@ copy-line-requires c κs =
     let k = ap (take n) (x .0 .ends (omega (arith, w, m))) ∙ take-sets _ c' n z (omega (arith, w, m)) in
     ((omega (arith, c .before .before .before .before .if5 .left, x .0 .inside), x .0 .many, k), (omega (arith, w, m, x .0 .same), c .before .before .before .if6 .left, omega (arith, w, c .before .before .before .before .before .if4 .left)))
 
--- src/line.rt:159:15
 add-t15 : tie.Need-add-t15
 add-t15 c = search needs
 
--- src/line.rt:130:1
 same-length : tie.Need-same-length
 same-length c = search needs
 
--- src/line.rt:130:1
 same-length-2 : tie.Need-same-length-2
 same-length-2 c = search needs
 
--- src/line.rt:130:1
 returns-8 : tie.Need-returns-8
 returns-8 c =
     let s = c .before .before .before .before .before .before .before .before .before .before .before .before .before .before .before .before .before .before .before .before .before .before .before .before in

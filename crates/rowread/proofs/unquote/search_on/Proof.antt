@@ -12,23 +12,18 @@ use borrow.Author.Needs.{needs}
 use Rattle.rowread.proofs.unquote.search_on.Statement.{statement}
 use Rattle.rowread.proofs.unquote.search_on.Tie as tie
 
--- src/unquote.rt:44:21
 add-following : tie.Need-add-following
 add-following c = search needs
 
--- src/unquote.rt:46:31
 load-requires : tie.Need-load-requires
 load-requires c κs = search needs
 
--- src/unquote.rt:46:13
 quotes-of-requires : tie.Need-quotes-of-requires
 quotes-of-requires c κs = search needs
 
--- src/unquote.rt:48:21
 sub-t12 : tie.Need-sub-t12
 sub-t12 c = search needs
 
--- src/unquote.rt:47:9
 returns : tie.Need-returns
 returns c =
     let s = c .before .before .before .before in
@@ -40,7 +35,6 @@ returns c =
     let e = c .quotes-of .ensures (take 8 (drop i t)) (word-eight t i (omega (arith, s .pre .1))) (word-bytes t i (b .1)) (b .0) in
     turn-none t (a .i) (a .p) (a .m) g (s .pre .1) (c .quotes-of .result) (c .before .before .if1 .taken) e
 
--- src/unquote.rt:55:17
 first-requires : tie.Need-first-requires
 first-requires c κs =
     let s = c .before .before in
@@ -50,7 +44,6 @@ first-requires c κs =
     let n = c .if1 .left in
     ((since (a .p - a .i) (M.marks M.isQuote (take 8 (drop (a .i) t))), grid-marks t (a .i) (a .p) (a .m) g, g .quotes), omega (arith, n))
 
--- src/unquote.rt:55:13
 add-q : tie.Need-add-q
 add-q c =
     let s = c .before .before .before in
@@ -64,7 +57,6 @@ add-q c =
     let w = grid-quote t (a .i) (a .p) (a .m) g n j f in
     omega (arith, l, g .inside)
 
--- src/unquote.rt:56:10
 add-if2 : tie.Need-add-if2
 add-if2 c =
     let s = c .before .before .before in
@@ -77,7 +69,6 @@ add-if2 c =
     let l = grid-in t (a .i) (a .p) (a .m) g n j f in
     omega (arith, l, g .inside)
 
--- src/unquote.rt:56:8
 shared-slice-read-if2 : tie.Need-shared-slice-read-if2
 shared-slice-read-if2 c =
     let s = c .before .before .before .before in
@@ -91,7 +82,6 @@ shared-slice-read-if2 c =
     let w = grid-quote t (a .i) (a .p) (a .m) g n j f in
     omega (arith, l, s .pre .1)
 
--- src/unquote.rt:58:21
 sub-t16 : tie.Need-sub-t16
 sub-t16 c =
     let s = c .before .before .before .before .before in
@@ -105,7 +95,6 @@ sub-t16 c =
     let w = grid-quote t (a .i) (a .p) (a .m) g n j f in
     w .from
 
--- src/unquote.rt:57:9
 returns-2 : tie.Need-returns-2
 returns-2 c =
     let s = c .before .before .before .before .before in
@@ -119,7 +108,6 @@ returns-2 c =
     let w = grid-quote t (a .i) (a .p) (a .m) g n j f in
     turn-close t (a .i) (a .p) (a .m) g (s .pre .1) (a .i + j) w (omega (arith, l)) (c .if2 .taken)
 
--- src/unquote.rt:65:8
 add-if3 : tie.Need-add-if3
 add-if3 c =
     let s = c .before .before .before .before .before in
@@ -133,7 +121,6 @@ add-if3 c =
     let w = grid-quote t (a .i) (a .p) (a .m) g n j f in
     omega (arith, l, g .inside)
 
--- src/unquote.rt:66:13
 clear-first-requires : tie.Need-clear-first-requires
 clear-first-requires c κs =
     let s = c .before .before .before .before .before .before in
@@ -147,7 +134,6 @@ clear-first-requires c κs =
     let w = grid-quote t (a .i) (a .p) (a .m) g n j f in
     omega (arith, n)
 
--- src/unquote.rt:68:21
 add-t17 : tie.Need-add-t17
 add-t17 c =
     let s = c .before .before .before .before .before .before .before in
@@ -161,7 +147,6 @@ add-t17 c =
     let w = grid-quote t (a .i) (a .p) (a .m) g n j f in
     omega (arith, l, g .inside)
 
--- src/unquote.rt:68:21
 sub-t18 : tie.Need-sub-t18
 sub-t18 c =
     let s = c .before .before .before .before .before .before .before in
@@ -175,7 +160,6 @@ sub-t18 c =
     let w = grid-quote t (a .i) (a .p) (a .m) g n j f in
     omega (arith, w .from)
 
--- src/unquote.rt:69:16
 add-t19 : tie.Need-add-t19
 add-t19 c =
     let s = c .before .before .before .before .before .before .before in
@@ -189,7 +173,6 @@ add-t19 c =
     let w = grid-quote t (a .i) (a .p) (a .m) g n j f in
     omega (arith, l, g .inside)
 
--- src/unquote.rt:71:16
 clear-first-requires-2 : tie.Need-clear-first-requires-2
 clear-first-requires-2 c κs =
     let s = c .before .before .before .before .before .before .before in
@@ -210,7 +193,6 @@ clear-first-requires-2 c κs =
     let x : c .clear-first .result ≡ 0 → ⊥ = λ q. y (sym e ∙ q) in
     omega (arith, x)
 
--- src/unquote.rt:67:9
 returns-3 : tie.Need-returns-3
 returns-3 c =
     let s = c .before .before .before .before .before .before .before .before in
@@ -231,15 +213,12 @@ returns-3 c =
     let y : a .i + j + 2 - a .i ≡ j + 1 + 1 = omega arith in
     turn-twice t (a .i) (a .p) (a .m) g (s .pre .1) (a .i + j) w (omega (arith, l)) (a .i) (c .clear-first2 .result) d (omega arith) (record { low = omega arith; high = omega (arith, k); inside = g .inside; quotes = rw y r })
 
--- src/unquote.rt:75:27
 load-requires-2 : tie.Need-load-requires-2
 load-requires-2 c κs = search needs
 
--- src/unquote.rt:75:9
 quotes-of-requires-2 : tie.Need-quotes-of-requires-2
 quotes-of-requires-2 c κs = search needs
 
--- src/unquote.rt:77:17
 add-t13 : tie.Need-add-t13
 add-t13 c =
     let s = c .before .before .before .before .before .before .before .before in
@@ -253,7 +232,6 @@ add-t13 c =
     let w = grid-quote t (a .i) (a .p) (a .m) g n j f in
     omega (arith, l, g .inside)
 
--- src/unquote.rt:77:17
 sub-t22 : tie.Need-sub-t22
 sub-t22 c =
     let s = c .before .before .before .before .before .before .before .before in
@@ -267,7 +245,6 @@ sub-t22 c =
     let w = grid-quote t (a .i) (a .p) (a .m) g n j f in
     omega (arith, w .from)
 
--- src/unquote.rt:78:12
 add-t23 : tie.Need-add-t23
 add-t23 c =
     let s = c .before .before .before .before .before .before .before .before in
@@ -281,7 +258,6 @@ add-t23 c =
     let w = grid-quote t (a .i) (a .p) (a .m) g n j f in
     omega (arith, l, g .inside)
 
--- src/unquote.rt:80:12
 clear-first-requires-3 : tie.Need-clear-first-requires-3
 clear-first-requires-3 c κs =
     let s = c .before .before .before .before .before .before .before .before in
@@ -305,7 +281,6 @@ clear-first-requires-3 c κs =
     let x : c .quotes-of2 .result ≡ 0 → ⊥ = λ q. y (sym e ∙ q) in
     omega (arith, x)
 
--- src/unquote.rt:40:1
 returns-4 : tie.Need-returns-4
 returns-4 c =
     let s = c .before .before .before .before .before .before .before .before .before in

@@ -8,7 +8,6 @@ use borrow.Author.Needs.{needs}
 use Rattle.rowread.proofs.unquote.unquote.Statement.{statement}
 use Rattle.rowread.proofs.unquote.unquote.Tie as tie
 
--- src/unquote.rt:161:9
 unquote-bytes-requires : tie.Need-unquote-bytes-requires
 unquote-bytes-requires c κs =
     let s = c .before .before .before .before in
@@ -16,11 +15,9 @@ unquote-bytes-requires c κs =
     let t = a .t .now in
     ((s .pre .0 .0, s .pre .0 .1), room-weaker (slackOf (a .ahead)) (a .write) t (a .from) (a .out .now) (a .to) (s .pre .1))
 
--- src/unquote.rt:161:9
 same-length : tie.Need-same-length
 same-length c = search needs
 
--- src/unquote.rt:161:9
 returns : tie.Need-returns
 returns c =
     let s = c .before .before .before .before .before .before .before in
@@ -29,11 +26,9 @@ returns c =
     let e = c .before .before .unquote-bytes .ensures in
     (e .0, written-weaker (slackOf (a .ahead)) (e .1))
 
--- src/unquote.rt:163:8
 sub-if2 : tie.Need-sub-if2
 sub-if2 c = search needs
 
--- src/unquote.rt:164:9
 unquote-bytes-requires-2 : tie.Need-unquote-bytes-requires-2
 unquote-bytes-requires-2 c κs =
     let s = c .before .before .before .before .before in
@@ -41,11 +36,9 @@ unquote-bytes-requires-2 c κs =
     let t = a .t .now in
     ((s .pre .0 .0, s .pre .0 .1), room-weaker (slackOf (a .ahead)) (a .write) t (a .from) (a .out .now) (a .to) (s .pre .1))
 
--- src/unquote.rt:164:9
 same-length-2 : tie.Need-same-length-2
 same-length-2 c = search needs
 
--- src/unquote.rt:164:9
 returns-2 : tie.Need-returns-2
 returns-2 c =
     let s = c .before .before .before .before .before .before .before .before in
@@ -54,7 +47,6 @@ returns-2 c =
     let e = c .before .before .unquote-bytes2 .ensures in
     (e .0, written-weaker (slackOf (a .ahead)) (e .1))
 
--- src/unquote.rt:166:9
 unquote-by-marks-requires : tie.Need-unquote-by-marks-requires
 unquote-by-marks-requires c κs =
     let s = c .before .before .before .before .before in
@@ -64,11 +56,9 @@ unquote-by-marks-requires c κs =
     let r : Room 16 (a .write) t (a .from) (a .out .now) (a .to) = rw z at (s .pre .1) in
     ((omega (arith, c .before .if2 .left, s .pre .0 .0), s .pre .0 .1), r)
 
--- src/unquote.rt:168:9
 same-length-3 : tie.Need-same-length-3
 same-length-3 c = search needs
 
--- src/unquote.rt:168:9
 returns-3 : tie.Need-returns-3
 returns-3 c =
     let s = c .before .before .before .before .before .before .before .before .before in
@@ -79,7 +69,6 @@ returns-3 c =
     let e = c .before .before .before .unquote-by-marks .ensures .0 (c .if3 .taken) in
     (e .0, rw z (e .1))
 
--- src/unquote.rt:173:46
 add-unquote-bytes : tie.Need-add-unquote-bytes
 add-unquote-bytes c =
     let s = c .before .before .before .before .before .before .before .before .before .before .before in
@@ -88,7 +77,6 @@ add-unquote-bytes c =
     let u = c .before .before .before .before .before .unquote-by-marks .ensures .1 (c .before .before .if3 .left) in
     omega (arith, u .upto, u .grows, u .inside, s .pre .0 .1)
 
--- src/unquote.rt:173:9
 unquote-bytes-requires-3 : tie.Need-unquote-bytes-requires-3
 unquote-bytes-requires-3 c κs =
     let s = c .before .before .before .before .before .before .before .before .before .before .before in
@@ -99,19 +87,15 @@ unquote-bytes-requires-3 c κs =
     let u = c .before .before .before .before .before .unquote-by-marks .ensures .1 (c .before .before .if3 .left) in
     ((u .inside, omega (arith, u .upto, u .grows, s .pre .0 .1)), λ w. let x = un-room u r w in (x .0, omega (arith, x .1)))
 
--- src/unquote.rt:174:24
 enum-known-rest : tie.Need-enum-known-rest
 enum-known-rest c = search needs
 
--- src/unquote.rt:175:9
 enum-told : tie.Need-enum-told
 enum-told c = search needs
 
--- src/unquote.rt:175:9
 same-length-4 : tie.Need-same-length-4
 same-length-4 c = search needs
 
--- src/unquote.rt:175:9
 returns-4 : tie.Need-returns-4
 returns-4 c =
     let s = c .before .before .before .before .before .before .before .before .before .before .before .before .before .before .before .before in
@@ -124,7 +108,6 @@ returns-4 c =
     let w = rest-bad u r _ (e .1) (sym (c .enum-told .given .1) ∙ e .0) in
     (w .0, rw z (w .1))
 
--- src/unquote.rt:179:15
 add-t15 : tie.Need-add-t15
 add-t15 c =
     let s = c .before .before .before .before .before .before .before .before .before .before .before .before .before .before .before .before .before .before in
@@ -135,11 +118,9 @@ add-t15 c =
     let i = rw (g .1) at (c .before .before .before .before .before .before .unquote-bytes3 .ensures .2) in
     omega (arith, u .upto, u .grows, i .0, i .1)
 
--- src/unquote.rt:148:1
 same-length-5 : tie.Need-same-length-5
 same-length-5 c = search needs
 
--- src/unquote.rt:148:1
 returns-5 : tie.Need-returns-5
 returns-5 c =
     let s = c .before .before .before .before .before .before .before .before .before .before .before .before .before .before .before .before .before .before in

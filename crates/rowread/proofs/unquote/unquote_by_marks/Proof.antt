@@ -21,16 +21,13 @@ Inv-loop t from out₀ to write p₀ n₀ i₀ m₀ out p n i m = (i ≤ length 
 abbrev μ-loop : tie.MeasureT-loop
 μ-loop t from out₀ to write p₀ n₀ i₀ m₀ out p n i m = length t + length t - (i + p)
 
--- src/unquote.rt:94:27
 load-requires : tie.Need-load-requires Inv-loop μ-loop
 load-requires c κs =
     omega (arith, c .before .before .pre .0 .0)
 
--- src/unquote.rt:94:9
 quotes-of-requires : tie.Need-quotes-of-requires Inv-loop μ-loop
 quotes-of-requires c κs = search needs
 
--- src/unquote.rt:95:5
 loop-holds : tie.Need-loop-holds Inv-loop μ-loop
 loop-holds c =
     let s = c .before .before .before .before in
@@ -42,17 +39,14 @@ loop-holds c =
     let z : a .from - a .from ≡ 0 = omega arith in
     (omega (arith, h), record { low = omega arith; high = omega arith; inside = h; quotes = rw z e }, un-start 16 (a .write) t (a .from) (a .out .now) (a .to) (omega (arith, h)))
 
--- src/unquote.rt:95:23
 sub-loop : tie.Need-sub-loop Inv-loop μ-loop
 sub-loop c = c .loop .inv .0
 
--- src/unquote.rt:96:13
 search-on-requires : tie.Need-search-on-requires Inv-loop μ-loop
 search-on-requires c κs =
     let l = c .before .loop in
     (l .inv .1, omega (arith, c .loop-test .taken, l .inv .0))
 
--- src/unquote.rt:98:13
 copy-block-requires : tie.Need-copy-block-requires Inv-loop μ-loop
 copy-block-requires c κs =
     let s = c .before .before .before .before .before .before .before .before .before in
@@ -61,7 +55,6 @@ copy-block-requires c κs =
     let r = un-room (l .inv .2) (s .pre .1) (c .before .if1 .taken) in
     (omega (arith, h, l .inv .1 .high, l .inv .0), omega (arith, r .1))
 
--- src/unquote.rt:100:9
 add-n : tie.Need-add-n Inv-loop μ-loop
 add-n c =
     let s = c .before .before .before .before .before .before .before .before .before in
@@ -74,7 +67,6 @@ add-n c =
     let u = l .inv .2 in
     omega (arith, e .few, u .grows, u .upto, u .inside, s .pre .0 .1, h, l .inv .1 .high)
 
--- src/unquote.rt:104:23
 add-t18 : tie.Need-add-t18 Inv-loop μ-loop
 add-t18 c =
     let s = c .before .before .before .before .before .before .before .before .before .before in
@@ -87,7 +79,6 @@ add-t18 c =
     let u = l .inv .2 in
     omega (arith, e .ends (c .if2 .taken) .2)
 
--- src/unquote.rt:105:23
 sub-t19 : tie.Need-sub-t19 Inv-loop μ-loop
 sub-t19 c =
     let s = c .before .before .before .before .before .before .before .before .before .before in
@@ -100,7 +91,6 @@ sub-t19 c =
     let u = l .inv .2 in
     omega (arith, u .upto)
 
--- src/unquote.rt:103:13
 same-length : tie.Need-same-length Inv-loop μ-loop
 same-length c =
     let s = c .before .before .before .before .before .before .before .before .before .before in
@@ -118,7 +108,6 @@ same-length c =
     let k : length (take (x .copied) (drop (l .p) t)) ≡ x .copied = omega (arith, length-take (x .copied) (drop (l .p) t), length-drop (l .p) t, e .few, h, l .inv .1 .high, l .inv .0) in
     written-length w ∙ un-length u
 
--- src/unquote.rt:103:13
 returns : tie.Need-returns Inv-loop μ-loop
 returns c =
     let s = c .before .before .before .before .before .before .before .before .before .before in
@@ -138,7 +127,6 @@ returns c =
     let v = un-whole u (take (x .copied) (drop (l .p) t)) (x .p + 1) (l .n + x .copied - a .to) o (d .0) (omega (arith, d .2)) (omega (arith, k, u .upto)) w in
     (λ f. v, λ f. absurd (both-ways true refl f))
 
--- src/unquote.rt:95:5
 loop-less : tie.Need-loop-less Inv-loop μ-loop
 loop-less c =
     let s = c .before .before .before .before .before .before .before .before .before .before in
@@ -152,7 +140,6 @@ loop-less c =
     let d = e .on (c .if2 .left) in
     omega (arith, d .3, d .2, d .4 .inside)
 
--- src/unquote.rt:95:5
 loop-again : tie.Need-loop-again Inv-loop μ-loop
 loop-again c =
     let s = c .before .before .before .before .before .before .before .before .before .before in
@@ -171,17 +158,14 @@ loop-again c =
     let d = e .on (c .if2 .left) in
     (omega (arith, d .4 .inside), d .4, un-more u (take (x .copied) (drop (l .p) t)) (x .p) (l .n + x .copied) o (d .0) (omega (arith, d .1, k)) (d .2) (omega (arith, k)) w)
 
--- src/unquote.rt:114:15
 sub-t20 : tie.Need-sub-t20 Inv-loop μ-loop
 sub-t20 c =
     let u = c .before .loop .inv .2 in
     omega (arith, u .upto)
 
--- src/unquote.rt:86:1
 same-length-2 : tie.Need-same-length-2 Inv-loop μ-loop
 same-length-2 c = un-length (c .before .loop .inv .2)
 
--- src/unquote.rt:86:1
 returns-2 : tie.Need-returns-2 Inv-loop μ-loop
 returns-2 c =
     let l = c .before .loop in

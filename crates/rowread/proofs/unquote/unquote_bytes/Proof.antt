@@ -20,26 +20,21 @@ Inv-loop t from out₀ to write p₀ n₀ out p n = Unquoting 0 write t from out
 abbrev μ-loop : tie.MeasureT-loop
 μ-loop t from out₀ to write p₀ n₀ out p n = length t - p
 
--- src/unquote.rt:127:5
 loop-holds : tie.Need-loop-holds Inv-loop μ-loop
 loop-holds c =
     let s = c .before .before in
     let a = s .args in
     un-start 0 (a .write) (a .t .now) (a .from) (a .out .now) (a .to) (s .pre .0 .0)
 
--- src/unquote.rt:128:20
 shared-slice-read-byte : tie.Need-shared-slice-read-byte Inv-loop μ-loop
 shared-slice-read-byte c = omega (arith, c .before .loop-test .taken)
 
--- src/unquote.rt:129:9
 add-p : tie.Need-add-p Inv-loop μ-loop
 add-p c = omega (arith, c .before .loop-test .taken)
 
--- src/unquote.rt:131:16
 byte-at-requires : tie.Need-byte-at-requires Inv-loop μ-loop
 byte-at-requires c κs = search needs
 
--- src/unquote.rt:134:27
 sub-t15 : tie.Need-sub-t15 Inv-loop μ-loop
 sub-t15 c =
     let s = c .before .before .before .before .before .before .before .before in
@@ -50,7 +45,6 @@ sub-t15 c =
     let u = l .inv in
     omega (arith, u .upto)
 
--- src/unquote.rt:132:17
 same-length : tie.Need-same-length Inv-loop μ-loop
 same-length c =
     let s = c .before .before .before .before .before .before .before .before in
@@ -61,7 +55,6 @@ same-length c =
     let u = l .inv in
     un-length u
 
--- src/unquote.rt:132:17
 returns : tie.Need-returns Inv-loop μ-loop
 returns c =
     let s = c .before .before .before .before .before .before .before .before in
@@ -74,7 +67,6 @@ returns c =
     let w = un-whole u [] (l .p + 1) (l .n - a .to) (l .out) (inner-close t (l .p) h q (λ e. c .if2 .taken (c .before .byte-at .ensures ∙ e))) (omega (arith, h)) (omega (arith, u .upto)) (written-none 0 (a .write) (l .out) (l .n)) in
     (w .0, w .1, (omega (arith, u .grows, u .upto), omega (arith, h)))
 
--- src/unquote.rt:137:13
 add-p-2 : tie.Need-add-p-2 Inv-loop μ-loop
 add-p-2 c =
     let s = c .before .before .before .before .before .before .before .before in
@@ -85,7 +77,6 @@ add-p-2 c =
     let u = l .inv in
     omega (arith, past t (l .p + 1) 33 (sym (c .before .byte-at .ensures) ∙ c .if2 .left))
 
--- src/unquote.rt:140:13
 slice-write-out : tie.Need-slice-write-out Inv-loop μ-loop
 slice-write-out c =
     let s = c .before .before .before .before .before .before .before in
@@ -99,7 +90,6 @@ slice-write-out c =
     ⊎-elim (λ y. byte-twice t (l .p) q h (y .0 .taken) (sym (y .1 .ensures) ∙ y .2 .left) (y .3)) (λ y. byte-plain t (l .p) q h (y .0 .left) (y .1)) (c .before .if1 .came) in
     byte-fits 0 (a .write) (l .out) (l .n) b (un-room u (s .pre .1)) (c .if3 .taken)
 
--- src/unquote.rt:142:9
 add-n : tie.Need-add-n Inv-loop μ-loop
 add-n c =
     let s = c .before .before .before .before .before .before .before in
@@ -110,7 +100,6 @@ add-n c =
     let u = l .inv in
     omega (arith, u .grows, u .upto, s .pre .0 .1, h)
 
--- src/unquote.rt:127:5
 loop-less : tie.Need-loop-less Inv-loop μ-loop
 loop-less c =
     let s = c .before .before .before .before .before .before .before in
@@ -124,7 +113,6 @@ loop-less c =
     ⊎-elim (λ y. byte-twice t (l .p) q h (y .0 .taken) (sym (y .1 .ensures) ∙ y .2 .left) (y .3)) (λ y. byte-plain t (l .p) q h (y .0 .left) (y .1)) (c .before .if1 .came) in
     omega (arith, b .grows, h)
 
--- src/unquote.rt:127:5
 loop-again : tie.Need-loop-again Inv-loop μ-loop
 loop-again c =
     let s = c .before .before .before .before .before .before .before in
@@ -141,11 +129,9 @@ loop-again c =
     ⊎-elim (λ y. (λ f. absurd (both-ways (a .write) (y .0 .taken) f), λ f. y .1)) (λ y. (λ f. y .1, λ f. absurd (both-ways (a .write) f (y .0 .left)))) (c .if3 .came) in
     un-byte u q o b (written-byte (a .write) (l .out) o (l .n) (getD t (l .p) 0) (put .0) (put .1))
 
--- src/unquote.rt:120:1
 same-length-2 : tie.Need-same-length-2 Inv-loop μ-loop
 same-length-2 c = un-length (c .before .loop .inv)
 
--- src/unquote.rt:120:1
 returns-2 : tie.Need-returns-2 Inv-loop μ-loop
 returns-2 c =
     let s = c .before .before .before .before in
