@@ -4,5 +4,5 @@ pub mod Steps
 pub mod Multiple
 pub mod First
 pub mod Fold
-pub mod Table
+pub mod TableLaws
 pub mod PairTable

@@ -13,7 +13,7 @@ use lib.Seq.{getD-append-add}
 use Rattle.checksum.specs.Register.{step, steps, run}
 use Rattle.checksum.proofs.Xor.{digit-ind, xor-four}
 use Rattle.checksum.proofs.Steps.{steps-add, steps-split, steps-xor, run-zero}
-use Rattle.checksum.proofs.Table.{follows, followed}
+use Rattle.checksum.proofs.TableLaws.{follows, followed}
 use Rattle.checksum.specs.Shift.{Shifts}
 
 -- ---- two registers

@@ -1,5 +1,5 @@
--- The table's laws. A number is digits of 6 bits; the steps of each, once the digits before it are shifted out, add up to the steps of
--- the number, since the register is linear. Bytes are read by two nibbles in the same way.
+-- The table's laws. A number is digits of 7 bits; the steps of each, once the digits before it are shifted out, add up to the steps of the
+-- number, since the register is linear. A single byte is read by two nibbles in the same way.
 use mathlib.Core.Path.{_≡_, refl, sym, ap, ap₂, subst, _∙_}
 use mathlib.Core.Bool.{Bool, true, false}
 use mathlib.Core.List.{List, [], _∷_}
@@ -40,46 +40,41 @@ followed [] (x ∷ t) h k l = absurd h
 followed (a ∷ p) (x ∷ t) h zero l = eqb→eq x (steps 4 a) (both-left (eqb x (steps 4 a)) (follows p t) h)
 followed (a ∷ p) (x ∷ t) h (suc k) l = followed p t (both-right (eqb x (steps 4 a)) (follows p t) h) k (le-of-suc-le-suc l)
 
--- ---- lookups
-
--- ---- a digit of 6 bits
+-- ---- a digit of 7 bits
 
 -- the lowest digit, and the others, of a number of m bits; the highest digit may have fewer bits
-pub digit-split : (m y : ℕ) → y < 2 ^ m → bitXor (steps m (y % 64)) (steps (m - 6) (y / 64)) ≡ steps m y
+pub digit-split : (m y : ℕ) → y < 2 ^ m → bitXor (steps m (y % 128)) (steps (m - 7) (y / 128)) ≡ steps m y
 unfolding steps
-digit-split m y h = cases (leb 6 m) refl
+digit-split m y h = cases (leb 7 m) refl
   where
-    cases : (b : Bool) → leb 6 m ≡ b → bitXor (steps m (y % 64)) (steps (m - 6) (y / 64)) ≡ steps m y
+    cases : (b : Bool) → leb 7 m ≡ b → bitXor (steps m (y % 128)) (steps (m - 7) (y / 128)) ≡ steps m y
     cases true e =
-        let l : 6 ≤ m = leb→le 6 m (subst T (sym e) tt) in
-        let k : 6 + (m - 6) ≡ m = omega arith in
-        ap (λ (i : ℕ). bitXor (steps i (y % 64)) (steps (m - 6) (y / 64))) (sym k)
-        ∙ sym (steps-split 6 (m - 6) y)
+        let l : 7 ≤ m = leb→le 7 m (subst T (sym e) tt) in
+        let k : 7 + (m - 7) ≡ m = omega arith in
+        ap (λ (i : ℕ). bitXor (steps i (y % 128)) (steps (m - 7) (y / 128))) (sym k)
+        ∙ sym (steps-split 7 (m - 7) y)
         ∙ ap (λ (i : ℕ). steps i y) k
     cases false e =
-        let l : m < 6 = leb-false 6 m e in
-        let z : m - 6 ≡ 0 = omega arith in
-        let s : y < 64 = lt-of-lt-of-le h (pow-mono {i = m} {j = 6} (omega arith)) in
+        let l : m < 7 = leb-false 7 m e in
+        let z : m - 7 ≡ 0 = omega arith in
+        let s : y < 128 = lt-of-lt-of-le h (pow-mono {i = m} {j = 7} (omega arith)) in
         ap₂ (λ (i d : ℕ). bitXor (steps m i) d) (mod-eq-of-lt s) (ap₂ steps z (div-eq-of-lt s))
         ∙ xor-zero-r (steps m y)
 
 -- two entries of the table, taken apart
-entry-lt : (n k : ℕ) → steps n (k % 64) < 2 ^ 32
-entry-lt n k = steps-lt n (k % 64) (omega (arith, mod-lt k (pow-pos 6)))
+entry-lt : (n d : ℕ) → d < 128 → steps n d < 2 ^ 32
+entry-lt n d h = steps-lt n d (omega arith)
 
-pub first-entry : (row d : ℕ) → row < 6 → d < 64 → packed (64 * (row % 6) + d) / 2 ^ 32 ≡ steps (64 - 6 * row) d
+pub first-entry : (row d : ℕ) → row < 5 → d < 128 → packed (row % 5) d / 2 ^ 32 ≡ steps (64 - 7 * row) d
 first-entry row d h l =
-    let r : (64 * (row % 6) + d) / 64 ≡ row = omega arith in
-    let n : (64 * (row % 6) + d) % 64 ≡ d = omega arith in
-    high (steps (64 - 6 * ((64 * (row % 6) + d) / 64)) ((64 * (row % 6) + d) % 64)) 32 (entry-lt (64 - 6 * (6 + (64 * (row % 6) + d) / 64)) (64 * (row % 6) + d))
-    ∙ ap₂ (λ (i j : ℕ). steps (64 - 6 * i) j) r n
+    high (steps (64 - 7 * (row % 5)) d) 32 (entry-lt (64 - 7 * (5 + row % 5)) d l)
+    ∙ ap (λ (i : ℕ). steps (64 - 7 * i) d) (mod-eq-of-lt h)
 
-pub second-entry : (row d : ℕ) → 6 ≤ row → row < 11 → d < 64 → packed (64 * (row % 6) + d) % 2 ^ 32 ≡ steps (64 - 6 * row) d
+pub second-entry : (row d : ℕ) → 5 ≤ row → row < 10 → d < 128 → packed (row % 5) d % 2 ^ 32 ≡ steps (64 - 7 * row) d
 second-entry row d h g l =
-    let r : 6 + (64 * (row % 6) + d) / 64 ≡ row = omega arith in
-    let n : (64 * (row % 6) + d) % 64 ≡ d = omega arith in
-    low (steps (64 - 6 * ((64 * (row % 6) + d) / 64)) ((64 * (row % 6) + d) % 64)) 32 (entry-lt (64 - 6 * (6 + (64 * (row % 6) + d) / 64)) (64 * (row % 6) + d))
-    ∙ ap₂ (λ (i j : ℕ). steps (64 - 6 * i) j) r n
+    let r : 5 + row % 5 ≡ row = omega arith in
+    low (steps (64 - 7 * (row % 5)) d) 32 (entry-lt (64 - 7 * (5 + row % 5)) d l)
+    ∙ ap (λ (i : ℕ). steps (64 - 7 * i) d) r
 
 -- ---- a byte, by nibbles
 
@@ -93,7 +88,7 @@ byte-steps crc b h =
     ∙ ap (bitXor (steps 8 (bitXor crc b % 16)))
     (steps-split 4 0 (bitXor crc b / 2 ^ 4) ∙ ap (bitXor (steps 4 (bitXor crc b / 2 ^ 4 % 16))) (shr-shr (bitXor crc b) 4 4)))
 
--- a number below 16 that is none of 0 to 14: what the last arm of a match on a nibble has
+-- n is none of 0 to k - 1: what the last arm of a match has
 abbrev Except : ℕ → ℕ → Type 0
 Except n zero = Unit
 Except n (suc k) = Except n k × (n ≡ k → ⊥)
@@ -102,11 +97,9 @@ from-there : (k n : ℕ) → Except n k → k ≤ n
 from-there zero n r = zero-le
 from-there (suc k) n r = lt-of-le-ne (from-there k n (r .0)) (λ e. r .1 (sym e))
 
-pub fifteen : (n : ℕ) → n < 16 → Except n 15 → n ≡ 15
-fifteen n h r =
-    let l : 15 ≤ n = from-there 15 n r in
-    omega arith
+-- the last of n + 1 numbers
+pub last : (n k : ℕ) → k < suc n → Except k n → k ≡ n
+last n k h r = let l : n ≤ k = from-there n k r in omega arith
 
--- a number below n that is none of 0 to n - 1
 pub nothing : (n k : ℕ) → k < n → Except k n → ⊥
 nothing n k h r = lt-irrefl k (lt-of-lt-of-le h (from-there n k r))

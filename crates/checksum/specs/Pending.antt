@@ -1,5 +1,5 @@
 -- Used by the private functions that `feed` calls; no public promise needs it.
-use Prim.Native.Nat.{ℕ, _+_, _-_, _*_, _/_, _%_, _^_}
+use Prim.Native.Nat.{ℕ, _+_, _-_, _*_, _^_}
 use lib.Bits.{bitXor}
 use Rattle.base.specs.Number.{wordValues, longBits}
 use Rattle.checksum.specs.Register.{steps}
@@ -11,27 +11,27 @@ nibbles = 16
 abbrev pub nibbleBits : ℕ
 nibbleBits = 4
 
--- a 64-bit number has 11 digits of 6 bits, the lowest first
+-- a 64-bit number has 10 digits of 7 bits, the lowest first
 abbrev pub digitBits : ℕ
-digitBits = 6
+digitBits = 7
 
 abbrev pub digitValues : ℕ
-digitValues = 64
+digitValues = 128
 
 abbrev pub digits : ℕ
-digits = 11
+digits = 10
 
--- how many rows the table has, each of them two in one
+-- the table has a row for each digit, two rows in one
 abbrev pub rows : ℕ
-rows = 6
+rows = 5
 
 -- the steps of a digit: those of 64 that are left once the digits before it are shifted out
 abbrev pub rowSteps : ℕ → ℕ
 rowSteps j = longBits - digitBits * j
 
--- two entries of the table: of the digit k % 64 in row k / 64, and in the row 6 after it
-abbrev pub packed : ℕ → ℕ
-packed k = steps (rowSteps (k / digitValues)) (k % digitValues) * wordValues + steps (rowSteps (rows + k / digitValues)) (k % digitValues)
+-- two entries of the table: of the digit d in a row, and in the row 5 after it
+abbrev pub packed : ℕ → ℕ → ℕ
+packed row d = steps (rowSteps row) d * wordValues + steps (rowSteps (rows + row)) d
 
 -- pending 64-bit words as one number, the first word lowest
 abbrev pub two : ℕ → ℕ → ℕ

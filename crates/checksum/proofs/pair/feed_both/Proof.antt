@@ -5,7 +5,7 @@ use Prim.Native.Nat.{ℕ}
 use native.Mathlib.Omega.{arith}
 use lib.Bits.{bitXor}
 use Rattle.checksum.specs.Register.{step, steps, run}
-use Rattle.checksum.proofs.Table.{follows}
+use Rattle.checksum.proofs.TableLaws.{follows}
 use Rattle.checksum.proofs.PairTable.{shifted, ahead, table, second}
 use borrow.Author.Needs.{needs}
 use Rattle.checksum.proofs.pair.feed_both.Statement.{statement}

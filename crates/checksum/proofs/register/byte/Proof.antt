@@ -1,4 +1,4 @@
-use Rattle.checksum.proofs.Table.{byte-steps}
+use Rattle.checksum.proofs.TableLaws.{byte-steps}
 use borrow.Author.Needs.{needs}
 use Rattle.checksum.proofs.register.byte.Statement.{statement}
 use Rattle.checksum.proofs.register.byte.Tie as tie

@@ -8,12 +8,12 @@ use borrow.Author.Needs.{needs}
 use lib.Pow.{pow-mono, shr-lt, shr-shr}
 use lib.Bits.{bitXor, xor-comm}
 use Rattle.checksum.specs.Register.{steps}
-use Rattle.checksum.proofs.Table.{digit-split}
+use Rattle.checksum.proofs.TableLaws.{digit-split}
 use Rattle.checksum.proofs.register.steps64.Statement.{statement}
 use Rattle.checksum.proofs.register.steps64.Tie as tie
 
 abbrev Inv-loop : tie.InvT-loop
-Inv-loop x r₀ row₀ r row = (row ≤ 11) × (r ≡ steps (64 - 6 * row) (x / 2 ^ (6 * row)))
+Inv-loop x r₀ row₀ r row = (row ≤ 10) × (r ≡ steps (64 - 7 * row) (x / 2 ^ (7 * row)))
 
 abbrev μ-loop : tie.MeasureT-loop
 μ-loop x r₀ row₀ r row = row
@@ -21,7 +21,7 @@ abbrev μ-loop : tie.MeasureT-loop
 loop-holds : tie.Need-loop-holds Inv-loop μ-loop
 unfolding steps
 loop-holds c =
-    (omega arith, sym (div-eq-of-lt (lt-of-lt-of-le (c .fits .x .fits) (pow-mono {i = 64} {j = 66} (omega arith)))))
+    (omega arith, sym (div-eq-of-lt (lt-of-lt-of-le (c .fits .x .fits) (pow-mono {i = 64} {j = 70} (omega arith)))))
 
 sub-row : tie.Need-sub-row Inv-loop μ-loop
 sub-row c = search needs
@@ -51,13 +51,13 @@ loop-again c =
     let x = start .args .x in
     let d = c .digit-steps in
     let j = l .row - 1 in
-    let up : 64 - 6 * (l .row - 1) - 6 ≡ 64 - 6 * l .row = omega arith in
-    let down : 6 * (l .row - 1) + 6 ≡ 6 * l .row = omega arith in
-    let all : 64 ≡ 64 - 6 * (l .row - 1) + 6 * (l .row - 1) = omega arith in (
+    let up : 64 - 7 * (l .row - 1) - 7 ≡ 64 - 7 * l .row = omega arith in
+    let down : 7 * (l .row - 1) + 7 ≡ 7 * l .row = omega arith in
+    let all : 64 ≡ 64 - 7 * (l .row - 1) + 7 * (l .row - 1) = omega arith in (
       omega arith,
       xor-comm (l .r) (d .result)
-          ∙ ap₂ bitXor (d .ensures) (l .inv .1 ∙ sym (ap₂ steps up (shr-shr x (6 * j) 6 ∙ ap (λ (i : ℕ). x / 2 ^ i) down)))
-          ∙ digit-split (64 - 6 * j) (x / 2 ^ (6 * j)) (shr-lt (64 - 6 * j) (6 * j) (subst (λ (i : ℕ). x < 2 ^ i) all (start .fits .x .fits))),
+          ∙ ap₂ bitXor (d .ensures) (l .inv .1 ∙ sym (ap₂ steps up (shr-shr x (7 * j) 7 ∙ ap (λ (i : ℕ). x / 2 ^ i) down)))
+          ∙ digit-split (64 - 7 * j) (x / 2 ^ (7 * j)) (shr-lt (64 - 7 * j) (7 * j) (subst (λ (i : ℕ). x < 2 ^ i) all (start .fits .x .fits))),
     )
 
 returns : tie.Need-returns Inv-loop μ-loop
@@ -65,7 +65,7 @@ returns c =
     let l = c .before .loop in
     let x = c .before .before .args .x in
     let z : l .row ≡ 0 = omega arith in
-    l .inv .1 ∙ ap (λ (i : ℕ). steps (64 - 6 * i) (x / 2 ^ (6 * i))) z ∙ ap (steps 64) (div-one x)
+    l .inv .1 ∙ ap (λ (i : ℕ). steps (64 - 7 * i) (x / 2 ^ (7 * i))) z ∙ ap (steps 64) (div-one x)
 
 pub steps64-spec : {M : Type 1} → statement M
 steps64-spec =
