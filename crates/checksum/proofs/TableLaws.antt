@@ -4,12 +4,12 @@ use mathlib.Core.Path.{_≡_, refl, sym, ap, ap₂, subst, _∙_}
 use mathlib.Core.Bool.{Bool, true, false}
 use mathlib.Core.List.{List, [], _∷_}
 use Prim.Native.Nat.{ℕ, zero, suc, _+_, _-_, _*_, _/_, _%_, _^_, _<_, _≤_, zero-le}
-use native.Mathlib.Nat.{mod-eq-of-lt, div-eq-of-lt, le-of-suc-le-suc, not-suc-le-zero, lt-of-lt-of-le, lt-irrefl, mod-lt}
+use native.Mathlib.Nat.{mod-eq-of-lt, div-eq-of-lt, le-of-suc-le-suc, not-suc-le-zero, lt-of-lt-of-le, lt-irrefl}
 use native.Mathlib.Omega.{arith}
 use borrow.Author.Tests.{leb-false}
 use lib.Arith.{lt-of-le-ne}
 use lib.Dec.{T, eqb, eqb→eq, leb, leb→le}
-use lib.Pow.{pow-pos, pow-mono, shr-shr, high, low}
+use lib.Pow.{pow-mono, shr-shr, high, low}
 use lib.Bits.{bitXor, xor-zero-r}
 use lib.ListN.{length, getD}
 use Rattle.checksum.specs.Register.{steps}
