@@ -11,7 +11,7 @@ use mathlib.Core.List.{List, [], _∷_, _++_}
 use lib.Dec.{eqb}
 use lib.ListN.{length, take, drop, getD, drop-of-length-le, length-drop, length-append, List·getD-eq-default}
 use lib.Seq.{drop-cons, getD-drop, drop-drop, take-at}
-use borrow.Author.Tests.{eq-eqb, ne-eqb}
+use borrow.Author.Tests.{eq-eqb, ne-eqb, eqb-true}
 use Rattle.base.specs.Number.{pick}
 use Rattle.csv.specs.Csv.{isText, quote, comma, lineFeed}
 use Rattle.csv.specs.Read.{Got, got, bad, push, plainValue, plainRest, inner, closing, fieldAt, Row, row, malformed, front, rowEnd, ended, parted, values}
@@ -77,13 +77,22 @@ past t i b e = go (decLt i (length t))
 
 -- ---- a row end
 
-end-yes : (t : List ℕ) (i : ℕ) → getD t i 0 ≡ lineFeed → rowEnd (drop i t) ≡ 1
+pub end-yes : (t : List ℕ) (i : ℕ) → getD t i 0 ≡ lineFeed → 1 ≡ rowEnd (drop i t)
 unfolding rowEnd
 end-yes t i e = rw (first t i) (simp (eq-eqb (getD t i 0) lineFeed e))
 
-end-no : (t : List ℕ) (i : ℕ) → (getD t i 0 ≡ lineFeed → ⊥) → rowEnd (drop i t) ≡ 0
+pub end-no : (t : List ℕ) (i : ℕ) → (getD t i 0 ≡ lineFeed → ⊥) → 0 ≡ rowEnd (drop i t)
 unfolding rowEnd
 end-no t i e = rw (first t i) (simp (ne-eqb (getD t i 0) lineFeed e))
+
+-- a row end is one LF
+pub end-is : (t : List ℕ) (i : ℕ) {e : ℕ} → e ≡ rowEnd (drop i t) → (e ≡ 0 → ⊥) → (getD t i 0 ≡ lineFeed) × (e ≡ 1)
+unfolding rowEnd
+end-is t i {e} q h = go (eqb (getD t i 0) lineFeed) refl (q ∙ rw (first t i))
+  where
+    go : (b : Bool) → eqb (getD t i 0) lineFeed ≡ b → e ≡ pick b 1 0 → (getD t i 0 ≡ lineFeed) × (e ≡ 1)
+    go true f z = (eqb-true (getD t i 0) lineFeed f, z)
+    go false f z = absurd (h z)
 
 -- ---- a field
 
@@ -197,18 +206,26 @@ module _ (t : List ℕ) (s from m n : ℕ) (left : m ≡ suc (suc n)) where
 pub scan-bad : (t : List ℕ) (s from m n : ℕ) → m ≡ suc n → fieldAt (drop from t) ≡ bad → Broken ≡ scanFrom (length t) s (values m (drop from t))
 scan-bad t s from m n left e = rw (left, values-bad n (drop from t) e)
 
+pub end-inside : (t : List ℕ) (to : ℕ) → (rowEnd (drop to t) ≡ 0 → ⊥) → to + rowEnd (drop to t) ≤ length t
+unfolding rowEnd
+end-inside t to h = rw (first t to) (go (eqb (getD t to 0) lineFeed) refl (λ q. h (rw (first t to) q)))
+  where
+    go : (q : Bool) → eqb (getD t to 0) lineFeed ≡ q → (_≡_ {A = ℕ} (pick q 1 0) 0 → ⊥) → to + pick q 1 0 ≤ length t
+    go true e n = let p : to < length t = past t to 9 (eqb-true (getD t to 0) lineFeed e) in omega arith
+    go false e n = absurd (n refl)
+
 -- one value is left to read
 module _ (t : List ℕ) (s from to size : ℕ) (p : IsValue t from to size) where
-  pub scan-last : getD t to 0 ≡ lineFeed → Whole (to + 1) (s + size) ≡ scanFrom (length t) s (values 1 (drop from t))
+  pub scan-last : (e : ℕ) → e ≡ rowEnd (drop to t) → (e ≡ 0 → ⊥) → Whole (to + e) (s + size) ≡ scanFrom (length t) s (values 1 (drop from t))
   unfolding values ended joined
-  scan-last h =
-      let e : rowEnd (drop to t) ≡ 1 = end-yes t to h in
-      let i : to < length t = past t to 9 h in
-      let d : drop 1 (drop to t) ≡ drop (to + 1) t = drop-drop 1 to t in
-      let m : length t - length (drop (to + 1) t) ≡ to + 1 = rw (length-drop (to + 1) t) (omega arith) in
+  scan-last e q h =
+      let n : rowEnd (drop to t) ≡ 0 → ⊥ = λ z. h (q ∙ z) in
+      let i : to + rowEnd (drop to t) ≤ length t = end-inside t to n in
+      let d : drop (rowEnd (drop to t)) (drop to t) ≡ drop (to + e) t = drop-drop (rowEnd (drop to t)) to t ∙ rw (← q) in
+      let m : length t - length (drop (to + e) t) ≡ to + e = rw (length-drop (to + e) t) (omega arith) in
       let z : s + length (p .value ++ []) ≡ s + size = simp length-append (omega (arith, p .sized)) in
-      simp (p .read) (rw (e, d, m, z))
+      simp (p .read) (rw (ne-eqb (rowEnd (drop to t)) 0 n, d, m, z))
 
-  pub scan-no-end : (getD t to 0 ≡ lineFeed → ⊥) → Broken ≡ scanFrom (length t) s (values 1 (drop from t))
+  pub scan-no-end : rowEnd (drop to t) ≡ 0 → Broken ≡ scanFrom (length t) s (values 1 (drop from t))
   unfolding values ended
-  scan-no-end h = simp (p .read) (rw (end-no t to h))
+  scan-no-end h = simp (p .read) (rw (eq-eqb (rowEnd (drop to t)) 0 h))

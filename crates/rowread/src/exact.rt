@@ -5,7 +5,7 @@ ghost use Prim.Native.Nat.{_+_, _-_, _≤_};
 ghost use lib.ListN.{length, drop, getD};
 ghost use lib.Seq.{sets};
 ghost use Rattle.csv.specs.Csv.{isText};
-ghost use Rattle.csv.specs.Read.{plainValue, fieldAt, values};
+ghost use Rattle.csv.specs.Read.{plainValue, fieldAt, rowEnd, values};
 ghost use Rattle.rowread.specs.Stored.{valuesOf, joined, endsOf};
 ghost use Rattle.rowread.specs.Steps.{pieceOf, valueOf, scanOf, IsRow, slackOf, Written, FieldRoom, RowRoom, RowWritten};
 use crate::line::BLOCK;
@@ -20,6 +20,7 @@ use base::number::LONG_BYTES;
 use csv::COMMA;
 use csv::LF;
 use csv::QUOTE;
+use leaf::bytes::get8;
 
 // A value of size bytes; next is the offset after it.
 pub(crate) enum Piece {
@@ -33,18 +34,18 @@ pub(crate) enum Scan {
     Broken,
 }
 
-// The byte at an index, 0 past the end.
-pub(crate) fn byte_at(s: &[u8], i: usize) -> u8
-    ensures { λ r. ⌜ r ≡ getD (now (s .entry)) i 0 ⌝ }
-{
-    if i < s.len() { s[i] } else { 0 }
-}
-
 // Whether a byte may be in a field without quotes.
 fn is_text(b: u8) -> bool
     ensures { λ r. ⌜ r ≡ isText b ⌝ }
 {
     !((b == QUOTE) | ((b == COMMA) | (b == LF)))
+}
+
+// How many bytes the row end at an offset has, 0 if there is none.
+pub(crate) fn row_end(t: &[u8], i: usize) -> usize
+    ensures { λ r. ⌜ r ≡ rowEnd (drop i (now (t .entry))) ⌝ }
+{
+    if get8(t, i) == LF { 1 } else { 0 }
 }
 
 // The end of the value without quotes at an offset.
@@ -75,7 +76,7 @@ fn value(t: &[u8], from: usize, out: &mut [u8], to: usize, write: bool, ahead: b
     requires { ⌜ FieldRoom (slackOf ahead) write (now t) from (now out) to ⌝ }
     ensures { λ r. ⌜ (r ≡ pieceOf (length (now (t .entry))) (fieldAt (drop from (now (t .entry))))) × Written (slackOf ahead) write (now (out .entry)) to (valueOf (fieldAt (drop from (now (t .entry))))) (now (out .exit)) ⌝ }
 {
-    if byte_at(t, from) == QUOTE {
+    if get8(t, from) == QUOTE {
         return unquote(t, from + 1, out, to, write, ahead);
     }
     let end = text_end(t, from);
@@ -116,15 +117,16 @@ pub(crate) fn row(
         }
         k += 1;
         if k == width {
-            if byte_at(t, next) != LF {
+            let e = row_end(t, next);
+            if e == 0 {
                 return Scan::Broken;
             }
             return Scan::Whole {
-                next: next + 1,
+                next: next + e,
                 size: to,
             };
         }
-        if byte_at(t, next) != COMMA {
+        if get8(t, next) != COMMA {
             return Scan::Broken;
         }
         from = next + 1;

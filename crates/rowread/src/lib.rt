@@ -3,8 +3,7 @@
 // The fast path (`line`) reads a row without quotes in one search, and says nothing of any other: too near the table's end, too wide, an output without a
 // block to spare, or malformed. The exact path (`exact`) reads any row and gives every refusal. It goes through the row twice by the same functions, first
 // without writing. Both find delimiters by `marks`, eight bytes at a time; `unquote` is the exact path's quoted value.
-// A delimiter is known in four places: its mark (`marks::delimiters_of`), a byte of text (`exact::is_text`), and the row end (`exact::row`,
-// `line::fast_row`).
+// What a delimiter is, is known to `marks::delimiters_of` for eight bytes and to `exact::is_text` for one; what a row end is, to `exact::row_end`.
 mod exact;
 mod line;
 mod marks;

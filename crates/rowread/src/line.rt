@@ -7,13 +7,13 @@ ghost use lib.ListN.{length, take, drop};
 ghost use lib.Seq.{sets};
 ghost use Rattle.base.specs.Little.{longBytes};
 ghost use Rattle.rowread.specs.Steps.{commasIn, textIn, cutsIn, marksIn, blockSize, Ahead, WordSearched, LineFound, Quickly};
+use crate::exact::row_end;
 use crate::marks::clear_first;
 use crate::marks::delimiters_of;
 use crate::marks::first;
 use crate::marks::load;
 use base::number::LONG_BYTES;
 use csv::COMMA;
-use csv::LF;
 use csv::MAX_COLUMNS;
 
 // How many bytes are copied at once.
@@ -140,7 +140,8 @@ pub(crate) fn fast_row(t: &[u8], width: usize, out: &mut [u8], ends: &mut [usize
     let Found::Stop { end, commas } = found else {
         return Fast::Not;
     };
-    if t[end] != LF {
+    let e = row_end(t, end);
+    if e == 0 {
         return Fast::Not;
     }
     if commas + 1 != width {
@@ -161,7 +162,7 @@ pub(crate) fn fast_row(t: &[u8], width: usize, out: &mut [u8], ends: &mut [usize
     }
     copy_line(t, end, commas, &marks, out, ends);
     Fast::Read {
-        next: end + 1,
+        next: end + e,
         size,
     }
 }

@@ -6,7 +6,6 @@ ghost use lib.ListN.{length, drop};
 ghost use Rattle.csv.specs.Read.{inner};
 ghost use Rattle.rowread.specs.Steps.{pieceOf, valueOf, blockSize, searchedBytes, Grid, Turned, Written, Room, Inside, ReadByMarks, slackOf};
 use crate::exact::Piece;
-use crate::exact::byte_at;
 use crate::line::BLOCK;
 use crate::line::copy_block;
 use crate::marks::clear_first;
@@ -15,6 +14,7 @@ use crate::marks::load;
 use crate::marks::quotes_of;
 use base::number::LONG_BYTES;
 use csv::QUOTE;
+use leaf::bytes::get8;
 
 // How many bytes a turn by marks may read.
 const SEARCHED: usize = LONG_BYTES + BLOCK;
@@ -128,7 +128,7 @@ fn unquote_bytes(t: &[u8], from: usize, out: &mut [u8], to: usize, write: bool) 
         let byte = t[p];
         p += 1;
         if byte == QUOTE {
-            if byte_at(t, p) != QUOTE {
+            if get8(t, p) != QUOTE {
                 return Piece::Value {
                     next: p,
                     size: n - to,

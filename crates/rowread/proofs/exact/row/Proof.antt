@@ -1,5 +1,5 @@
 -- The invariant: the scan is that of the width - k values from `from` on, with `to` bytes so far, and what is written so far is `RowState`. A value
--- followed by a comma is a turn (`scan-turn`, `state-next`); after the last one an LF must follow (`scan-last`, `state-whole`).
+-- followed by a comma is a turn (`scan-turn`, `state-next`); after the last one a row end must follow (`scan-last`, `state-whole`).
 use Prim.Native.Nat.{ℕ, suc, _+_, _-_, _≤_, _<_}
 use native.Mathlib.Omega.{arith}
 use mathlib.Core.Logic.{⊎-elim}
@@ -12,7 +12,7 @@ use Rattle.csv.specs.Csv.{comma}
 use Rattle.csv.specs.Read.{values}
 use Rattle.rowread.specs.declared.exact.Scan.the-variants.{Broken}
 use Rattle.rowread.specs.Steps.{scanOf, scanFrom, slackOf}
-use Rattle.rowread.proofs.Laws.{IsValue, is-value, is-bad, scan-start, scan-zero, scan-turn, scan-no-comma, scan-bad, scan-last, scan-no-end, past}
+use Rattle.rowread.proofs.Laws.{IsValue, is-value, is-bad, scan-start, scan-zero, scan-turn, scan-no-comma, scan-bad, scan-last, scan-no-end, end-inside, past}
 use Rattle.rowread.proofs.Quoted.{both-ways, written-length}
 use Rattle.rowread.proofs.Copies.{RowState, state-start, state-same, state-room, state-next, state-whole, state-broken, broken-row}
 use Rattle.rowread.proofs.exact.row.Statement.{statement}
@@ -124,8 +124,8 @@ state c =
 one-left : (c : tie.Then2 Inv-loop μ-loop) → start (c .before .before) .args .width - turn (c .before .before) .loop .k ≡ 1
 one-left c = omega (arith, c .if2 .taken)
 
-byte-at-requires : tie.Need-byte-at-requires Inv-loop μ-loop
-byte-at-requires c κs = search needs
+row-end-requires : tie.Need-row-end-requires Inv-loop μ-loop
+row-end-requires c κs = search needs
 
 same-length-3 : tie.Need-same-length-3 Inv-loop μ-loop
 same-length-3 c = state-same (state (c .before .before .before)) .0
@@ -138,13 +138,13 @@ returns-2 c =
     let j = c .before .before .before in
     let x = j .before in
     let l = turn x .loop in
-    let b = scan-no-end (t x) (l .to) (l .from) (next x) (size x) (is-read x) (λ z. c .if3 .taken (c .before .byte-at .ensures ∙ z)) ∙ sym (l .inv .3 ∙ rw (one-left (c .before .before))) in
+    let b = scan-no-end (t x) (l .to) (l .from) (next x) (size x) (is-read x) (sym (c .before .row-end .ensures) ∙ c .if3 .taken) ∙ sym (l .inv .3 ∙ rw (one-left (c .before .before))) in
     (b, state-broken (state j) (start x .pre) b)
 
 add-t20 : tie.Need-add-t20 Inv-loop μ-loop
 add-t20 c =
     let x = c .before .before .before .before in
-    omega (arith, past (t x) (next x) 9 (sym (c .before .byte-at .ensures) ∙ c .if3 .left))
+    omega (arith, end-inside (t x) (next x) (λ q. c .if3 .left (c .before .row-end .ensures ∙ q)), c .before .row-end .ensures)
 
 same-length-5 : tie.Need-same-length-5 Inv-loop μ-loop
 same-length-5 c = state-same (state (c .before .before .before)) .0
@@ -157,13 +157,13 @@ returns-3 c =
     let j = c .before .before .before in
     let x = j .before in
     let l = turn x .loop in
-    let b = scan-last (t x) (l .to) (l .from) (next x) (size x) (is-read x) (sym (c .before .byte-at .ensures) ∙ c .if3 .left) ∙ sym (l .inv .3 ∙ rw (one-left (c .before .before))) in
+    let b = scan-last (t x) (l .to) (l .from) (next x) (size x) (is-read x) (c .before .row-end .result) (c .before .row-end .ensures) (c .if3 .left) ∙ sym (l .inv .3 ∙ rw (one-left (c .before .before))) in
     (b, state-whole (state j) (omega (arith, c .before .before .if2 .taken)) _ b)
 
 -- ---- a value that others follow
 
-byte-at-requires-2 : tie.Need-byte-at-requires-2 Inv-loop μ-loop
-byte-at-requires-2 c κs = search needs
+get8-requires : tie.Need-get8-requires Inv-loop μ-loop
+get8-requires c κs = search needs
 
 module _ (c : tie.Else2 Inv-loop μ-loop) where
   abbrev told : tie.After-known-told Inv-loop μ-loop
@@ -187,11 +187,11 @@ returns-4 c =
     let o = c .before .before in
     let x = told o in
     let l = turn x .loop in
-    let b = scan-no-comma (t x) (l .to) (l .from) (start x .args .width - l .k) (others o) (two-left o) (is-read x) (λ z. c .if4 .taken (c .before .byte-at2 .ensures ∙ z)) ∙ sym (l .inv .3) in
+    let b = scan-no-comma (t x) (l .to) (l .from) (start x .args .width - l .k) (others o) (two-left o) (is-read x) (λ z. c .if4 .taken (c .before .get8 .ensures ∙ z)) ∙ sym (l .inv .3) in
     (b, state-broken (state (o .before)) (start x .pre) b)
 
 is-comma : (c : tie.Else4 Inv-loop μ-loop) → getD (t (told (c .before .before))) (next (told (c .before .before))) 0 ≡ comma
-is-comma c = sym (c .before .byte-at2 .ensures) ∙ c .if4 .left
+is-comma c = sym (c .before .get8 .ensures) ∙ c .if4 .left
 
 add-from : tie.Need-add-from Inv-loop μ-loop
 add-from c = omega (arith, past (t (told (c .before .before))) (next (told (c .before .before))) 43 (is-comma c))
@@ -242,7 +242,7 @@ row-spec =
     mul-ends
     slice-write-ends
     add-k
-    byte-at-requires
+    row-end-requires
     same-length-3
     same-length-4
     returns-2
@@ -250,7 +250,7 @@ row-spec =
     same-length-5
     same-length-6
     returns-3
-    byte-at-requires-2
+    get8-requires
     same-length-7
     same-length-8
     returns-4

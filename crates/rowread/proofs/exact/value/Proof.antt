@@ -20,8 +20,8 @@ use borrow.Author.Tests.{leb-true}
 use Rattle.rowread.proofs.exact.value.Statement.{statement}
 use Rattle.rowread.proofs.exact.value.Tie as tie
 
-byte-at-requires : tie.Need-byte-at-requires
-byte-at-requires c κs = search needs
+get8-requires : tie.Need-get8-requires
+get8-requires c κs = search needs
 
 add-unquote : tie.Need-add-unquote
 add-unquote c = search needs
@@ -29,7 +29,7 @@ add-unquote c = search needs
 -- ---- a quoted value
 
 is-quote : (c : tie.Then1) → getD (c .before .before .before .before .args .t .now) (c .before .before .before .before .args .from) 0 ≡ quote
-is-quote c = sym (c .before .byte-at .ensures) ∙ c .if1 .taken
+is-quote c = sym (c .before .get8 .ensures) ∙ c .if1 .taken
 
 unquote-requires : tie.Need-unquote-requires
 unquote-requires c κs =
@@ -63,7 +63,7 @@ module _ (c : tie.After-text-end) where
   t = start .args .t .now
 
   plain : getD t (start .args .from) 0 ≡ quote → ⊥
-  plain z = c .before .if1 .left (c .before .before .byte-at .ensures ∙ z)
+  plain z = c .before .if1 .left (c .before .before .get8 .ensures ∙ z)
 
   value-is : valueOf (fieldAt (drop (start .args .from) t)) ≡ plainValue (drop (start .args .from) t)
   value-is = ap valueOf (field-plain t (start .args .from) plain)
@@ -141,7 +141,7 @@ pub value-spec : {M : Type 1} → statement M
 value-spec =
     tie.close
     (tie.spec
-    byte-at-requires
+    get8-requires
     add-unquote
     unquote-requires
     same-length

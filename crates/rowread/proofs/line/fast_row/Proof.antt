@@ -1,4 +1,4 @@
--- The search found an LF before any quote, and one comma fewer than values: the values between the commas are the row's (`line-holds`). On every
+-- The search found a row end before any quote, and one comma fewer than values: the values between the commas are the row's (`line-holds`). On every
 -- other path nothing was written.
 use Prim.Native.Nat.{_+_, _≤_}
 use native.Mathlib.Omega.{arith}
@@ -6,6 +6,7 @@ use mathlib.Core.Path.{_≡_, sym, ap, _∙_}
 use lib.ListN.{length, take, length-take}
 use Rattle.rowread.specs.Steps.{lineOf, cutsIn}
 use Rattle.rowread.proofs.Lines.{line-stop, line-holds, text-size, cuts-size}
+use Rattle.rowread.proofs.Laws.{end-is}
 use Rattle.rowread.proofs.Blocks.{take-sets}
 use borrow.Author.Needs.{needs}
 use Rattle.rowread.proofs.line.fast_row.Statement.{statement}
@@ -26,15 +27,8 @@ enum-told c = search needs
 returns : tie.Need-returns
 returns c = search needs
 
-shared-slice-read-if1 : tie.Need-shared-slice-read-if1
-shared-slice-read-if1 c =
-    let s = c .before .before .before .before .before .before .before .before .before .before in
-    let t = s .args .t .now in
-    let g = c .before .before .found .given in
-    let x = rw (g .1) at (c .before .before .before .before .before .search-line .ensures) in
-    let e = g .0 .0 in
-    let n = g .0 .1 .0 in
-    x .1 .0
+row-end-requires : tie.Need-row-end-requires
+row-end-requires c κs = search needs
 
 returns-2 : tie.Need-returns-2
 returns-2 c = search needs
@@ -106,8 +100,11 @@ copy-line-requires c κs =
     let k = ap (take n) (x .0 .ends (omega (arith, w, m))) ∙ take-sets _ c' n z (omega (arith, w, m)) in
     ((omega (arith, c .before .before .before .before .if5 .left, x .0 .inside), x .0 .many, k), (omega (arith, w, m, x .0 .same), c .before .before .before .if6 .left, omega (arith, w, c .before .before .before .before .before .if4 .left)))
 
-add-t15 : tie.Need-add-t15
-add-t15 c = search needs
+add-t14 : tie.Need-add-t14
+add-t14 c =
+    let t = c .before .before .before .before .before .before .before .before .before .before .before .before .before .before .before .before .before .before .before .before .before .before .before .before .args .t .now in
+    let e = c .before .before .before .before .before .before .before .before .before .before .before .before .before .before .before .before .found .given .0 .0 in
+    omega (arith, end-is t e (c .before .before .before .before .before .before .before .before .before .before .before .before .before .before .row-end .ensures) (c .before .before .before .before .before .before .before .before .before .before .before .before .before .if1 .left) .1)
 
 same-length : tie.Need-same-length
 same-length c = search needs
@@ -124,8 +121,10 @@ returns-8 c =
     let e = g .0 .0 in
     let n = g .0 .1 .0 in
     let w = c .before .before .before .before .copy-line .ensures in
+    let r = c .before .before .before .before .before .before .before .before .before .before .before .before .before .before .row-end in
+    let k = end-is t e (r .ensures) (c .before .before .before .before .before .before .before .before .before .before .before .before .before .if1 .left) in
     let l : e ≡ length (lineOf t) = line-stop t e (x .1 .0) (x .1 .1) ∙ sym (x .0 .line) in
-    line-holds t e n (s .args .width) (s .args .out .now) (s .args .ends .now) _ _ l (c .before .before .before .before .before .before .before .before .before .before .before .before .before .if1 .left) (x .0 .many) (c .before .before .before .before .before .before .before .before .before .before .before .before .if2 .left) (omega (arith, c .before .before .before .before .before .before .before .before .if6 .left)) (c .before .before .before .before .before .before .before .before .before .before .if4 .left) (w .0) (w .1)
+    rw (k .1) (line-holds t e n (s .args .width) (s .args .out .now) (s .args .ends .now) _ _ l (k .0) (x .0 .many) (c .before .before .before .before .before .before .before .before .before .before .before .before .if2 .left) (omega (arith, c .before .before .before .before .before .before .before .before .if6 .left)) (c .before .before .before .before .before .before .before .before .before .before .if4 .left) (w .0) (w .1))
 
 pub fast-row-spec : {M : Type 1} → statement M
 fast-row-spec =
@@ -136,7 +135,7 @@ fast-row-spec =
     enum-known-found
     enum-told
     returns
-    shared-slice-read-if1
+    row-end-requires
     returns-2
     add-if2
     returns-3
@@ -149,7 +148,7 @@ fast-row-spec =
     returns-7
     slice-aggregate-copy-line
     copy-line-requires
-    add-t15
+    add-t14
     same-length
     same-length-2
     returns-8)

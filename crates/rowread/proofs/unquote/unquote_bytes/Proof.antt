@@ -32,8 +32,8 @@ shared-slice-read-byte c = omega (arith, c .before .loop-test .taken)
 add-p : tie.Need-add-p Inv-loop μ-loop
 add-p c = omega (arith, c .before .loop-test .taken)
 
-byte-at-requires : tie.Need-byte-at-requires Inv-loop μ-loop
-byte-at-requires c κs = search needs
+get8-requires : tie.Need-get8-requires Inv-loop μ-loop
+get8-requires c κs = search needs
 
 sub-t15 : tie.Need-sub-t15 Inv-loop μ-loop
 sub-t15 c =
@@ -64,7 +64,7 @@ returns c =
     let h : l .p < length t = c .before .before .before .before .loop-test .taken in
     let u = l .inv in
     let q : getD t (l .p) 0 ≡ quote = c .before .before .if1 .taken in
-    let w = un-whole u [] (l .p + 1) (l .n - a .to) (l .out) (inner-close t (l .p) h q (λ e. c .if2 .taken (c .before .byte-at .ensures ∙ e))) (omega (arith, h)) (omega (arith, u .upto)) (written-none 0 (a .write) (l .out) (l .n)) in
+    let w = un-whole u [] (l .p + 1) (l .n - a .to) (l .out) (inner-close t (l .p) h q (λ e. c .if2 .taken (c .before .get8 .ensures ∙ e))) (omega (arith, h)) (omega (arith, u .upto)) (written-none 0 (a .write) (l .out) (l .n)) in
     (w .0, w .1, (omega (arith, u .grows, u .upto), omega (arith, h)))
 
 add-p-2 : tie.Need-add-p-2 Inv-loop μ-loop
@@ -75,7 +75,7 @@ add-p-2 c =
     let l = c .before .before .before .before .before .loop in
     let h : l .p < length t = c .before .before .before .before .loop-test .taken in
     let u = l .inv in
-    omega (arith, past t (l .p + 1) 33 (sym (c .before .byte-at .ensures) ∙ c .if2 .left))
+    omega (arith, past t (l .p + 1) 33 (sym (c .before .get8 .ensures) ∙ c .if2 .left))
 
 slice-write-out : tie.Need-slice-write-out Inv-loop μ-loop
 slice-write-out c =
@@ -147,7 +147,7 @@ unquote-bytes-spec =
     loop-holds
     shared-slice-read-byte
     add-p
-    byte-at-requires
+    get8-requires
     sub-t15
     same-length
     returns
