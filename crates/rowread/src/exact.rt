@@ -2,7 +2,7 @@
 // unchanged; the second writes the values of a row that is known to fit.
 ghost use mathlib.Core.Path.{_≡_};
 ghost use Prim.Native.Nat.{_+_, _-_, _≤_};
-ghost use lib.ListN.{length, drop, getD};
+ghost use lib.ListN.{length, drop};
 ghost use lib.Seq.{sets};
 ghost use Rattle.csv.specs.Csv.{isText};
 ghost use Rattle.csv.specs.Read.{plainValue, fieldAt, rowEnd, values};
