@@ -17,6 +17,8 @@ struct Case {
     number: u32,
     width: usize,
     rows: Vec<Ready>,
+    /// How many bytes each row has in the table.
+    sizes: Vec<usize>,
     table: Vec<u8>,
     out: RefCell<Vec<u8>>,
     ends: RefCell<Vec<usize>>,
@@ -37,6 +39,7 @@ impl Case {
                 .into_iter()
                 .map(|v| (v.concat(), v.iter().map(|v| v.len() as u32).collect(), v))
                 .collect(),
+            sizes: Vec::new(),
             table: Vec::new(),
             out: RefCell::new(vec![0; ROWS * LONGEST]),
             ends: RefCell::new(vec![0; 16]),
@@ -45,6 +48,10 @@ impl Case {
         };
         let length = core::write(&case) as usize;
         case.table = case.out.borrow()[..length].to_vec();
+        let size = |(texts, lengths, _): &Ready| {
+            rows::row(number, Values { texts, lengths }, &mut vec![0; LONGEST]).length
+        };
+        case.sizes = case.rows.iter().map(size).collect();
         case
     }
 }
@@ -58,6 +65,16 @@ mod core {
         let mut at = 0;
         for (texts, lengths, _) in &case.rows {
             let answer = rows::row(case.number, Values { texts, lengths }, &mut out[at..]);
+            at += answer.length;
+        }
+        at as u64
+    }
+    /// All rows, each into an output of its size: the exact path.
+    pub fn write_exactly(case: &Case) -> u64 {
+        let out = &mut case.out.borrow_mut()[..];
+        let mut at = 0;
+        for ((texts, lengths, _), size) in case.rows.iter().zip(&case.sizes) {
+            let answer = rows::row(case.number, Values { texts, lengths }, &mut out[at..at + size]);
             at += answer.length;
         }
         at as u64
@@ -137,7 +154,10 @@ fn same(case: &Case) -> bool {
             && out[..size] == texts[..]
             && ends[..count] == others[..count]
     });
-    read && place == case.table.len() && written(core::write) == written(csv::write)
+    let by_csv = written(csv::write);
+    read && place == case.table.len()
+        && written(core::write) == by_csv
+        && written(core::write_exactly) == by_csv
 }
 
 fn texts<const N: usize>(values: [&str; N]) -> Vec<String> {
@@ -218,6 +238,9 @@ type Run = fn(&Case) -> u64;
 const WAYS: [(&str, [Run; 2]); 2] =
     [("written", [core::write, csv::write]), ("read", [core::read, csv::read])];
 
+/// Rows that are also written into outputs of their size, for information.
+const EXACT: [&str; 3] = ["Stops, a third quoted", "Trips", "long values, plain"];
+
 pub fn lines(rounds: usize) -> Vec<Line> {
     let cases = cases();
     let all = WAYS.iter().flat_map(|way| cases.iter().map(move |case| (way, case)));
@@ -226,5 +249,14 @@ pub fn lines(rounds: usize) -> Vec<Line> {
         let line = Line::new(format!("row {way}: {name}"), "csv-core", Some(mark));
         if same(case) { line.timed(*runs, case, rounds, ROWS) } else { line }
     };
-    all.map(line).collect()
+    let exact = |(name, case): &(&str, Case)| {
+        let line = Line::new(format!("row written, no room to spare: {name}"), "csv-core", None);
+        if same(case) {
+            line.timed([core::write_exactly, csv::write], case, rounds, ROWS)
+        } else {
+            line
+        }
+    };
+    let tight = cases.iter().filter(|(name, _)| EXACT.contains(name));
+    all.map(line).chain(tight.map(exact)).collect()
 }
