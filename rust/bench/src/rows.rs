@@ -250,7 +250,7 @@ pub fn lines(rounds: usize) -> Vec<Line> {
         if same(case) { line.timed(*runs, case, rounds, ROWS) } else { line }
     };
     let exact = |(name, case): &(&str, Case)| {
-        let line = Line::new(format!("row written, no room to spare: {name}"), "csv-core", None);
+        let line = Line::new(format!("row written, output of its size: {name}"), "csv-core", None);
         if same(case) {
             line.timed([core::write_exactly, csv::write], case, rounds, ROWS)
         } else {
