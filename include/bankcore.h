@@ -116,7 +116,7 @@ static inline const char *tt_refusal_word(uint32_t refusal)
 #define TT_TABLES 8 /* tables 0 to 7 */
 #define TT_NO_TABLE 8 /* in an update's state: no table is open */
 #define TT_MAX_COLUMNS 10 /* the most columns of a table, and so the fewest `ends` that are enough for any */
-#define TT_MAX_ROW 8192 /* the longest row, with its LF; an `out` of this size is enough for any row */
+#define TT_MAX_ROW 8192 /* the longest row, with its row end; an `out` of this size is enough for any row */
 #define TT_MAX_KEY 67795 /* the longest key */
 #define TT_MAX_IDENTITY 65535 /* the longest identity */
 #define TT_MAX_PICKS 16 /* the most picks */
@@ -646,8 +646,9 @@ uint32_t tt_source(
     uint64_t out_length);
 
 /* Reads the row at an offset of a source's table: its values, joined, to the first bytes of out,
-   and to ends the offset in out where each ends. Offset 0 is the table's names line. At the
-   table's end found is 0, and that is no refusal.
+   and to ends the offset in out where each ends. A row ends in LF or CRLF; a CR outside quotes
+   that no LF follows meets 14. Offset 0 is the table's names line. At the table's end found is
+   0, and that is no refusal.
      region: the region, TT_REGION_SIZE bytes
      bank: 0 or 1
      source: its index, below the bank's count
@@ -699,8 +700,8 @@ TtRowNumbers tt_row(
     uint64_t out_length);
 
 /* Reads the row at an offset of stored rows: its values, joined, to the first bytes of out, and
-   to ends the offset in out where each ends. At the end of the table found is 0, and that is no
-   refusal.
+   to ends the offset in out where each ends. A row ends in LF or CRLF; a CR outside quotes that
+   no LF follows meets 14. At the end of the table found is 0, and that is no refusal.
      table: the rows' bytes; offset 0 of a stored table is its names line
      width: how many values the row must have
      place: the row's offset in the table

@@ -433,7 +433,8 @@ pub extern "C" fn tt_source(region: &[u8], bank: u32, index: u32, out: &mut [u8]
 }
 
 // Reads the row at an offset of a source's table: its values, joined, to the first bytes of out, and to ends the offset in out where each
-// ends. Offset 0 is the table's names line. At the table's end found is 0, and that is no refusal.
+// ends. A row ends in LF or CRLF; a CR outside quotes that no LF follows meets 14. Offset 0 is the table's names line. At the table's end found is
+// 0, and that is no refusal.
 //   region: the region, TT_REGION_SIZE bytes
 //   bank: 0 or 1
 //   source: its index, below the bank's count

@@ -150,7 +150,7 @@ pub extern "C" fn tt_row(table: u32, texts: &[u8], lengths: &[u32], out: &mut [u
 }
 
 // Reads the row at an offset of stored rows: its values, joined, to the first bytes of out, and to ends the offset in out where each ends.
-// At the end of the table found is 0, and that is no refusal.
+// A row ends in LF or CRLF; a CR outside quotes that no LF follows meets 14. At the end of the table found is 0, and that is no refusal.
 //   table: the rows' bytes; offset 0 of a stored table is its names line
 //   width: how many values the row must have
 //   place: the row's offset in the table

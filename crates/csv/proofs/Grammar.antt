@@ -1,16 +1,16 @@
 -- The reader reads exactly the grammar, and the writer writes it. Each is by induction: on the grammar's rules for complete, on the bytes
 -- for sound, on the values for the writer. One reading of each row follows from both.
-use Prim.Native.Nat.{ℕ, zero, suc}
+use Prim.Native.Nat.{ℕ, zero, suc, _≤_}
 use lib.Dec.{eqb}
 use native.Mathlib.Omega.{arith}
-use mathlib.Core.Bool.{Bool, true, false, not, _||_, true≢false}
+use mathlib.Core.Bool.{Bool, true, false, not, _||_, _&&_, true≢false}
 use Rattle.base.specs.Number.{pick}
-use borrow.Author.Tests.{eqb-true}
-use mathlib.Core.Path.{_≡_, refl, sym, ap}
+use borrow.Author.Tests.{eqb-true, eqb-false, ne-eqb}
+use mathlib.Core.Path.{_≡_, refl, sym, ap, ap₂, _∙_}
 use mathlib.Core.List.{List, [], _∷_, _++_, append-assoc}
-use lib.ListN.{length, drop}
-use Rattle.csv.specs.Csv.{isText, NonEscaped, none, text, Inner, close, byte, twice, Field, escaped, nonEscaped, lf, Record, last, more, quote, comma, carriageReturn, lineFeed}
-use Rattle.csv.specs.Write.{special, anySpecial, doubled, fieldOf, rowOf}
+use lib.ListN.{length, drop, getD}
+use Rattle.csv.specs.Csv.{isText, NonEscaped, none, text, Inner, close, byte, twice, Field, escaped, nonEscaped, RowEnd, lf, crlf, Record, last, more, LoneCr, here, later, quote, comma, carriageReturn, lineFeed}
+use Rattle.csv.specs.Write.{special, anySpecial, doubled, fieldOf, rowOf, fieldsThen}
 use Rattle.csv.specs.Read.{Got, got, bad, push, plainValue, plainRest, inner, closing, fieldAt, Row, row, malformed, front, rowEnd, ended, parted, next, values}
 
 -- ---- the reader is complete
@@ -35,7 +35,7 @@ text-no-quote : (b : ℕ) → isText b ≡ true → eqb b quote ≡ false
 unfolding isText
 text-no-quote b h = go (eqb b quote) h
   where
-    go : (t : Bool) → not (t || (eqb b comma || eqb b lineFeed)) ≡ true → t ≡ false
+    go : (t : Bool) → not (t || (eqb b comma || (eqb b carriageReturn || eqb b lineFeed))) ≡ true → t ≡ false
     go true e = sym e
     go false e = refl
 
@@ -53,9 +53,14 @@ pub lf-stops : Stop lineFeed
 unfolding isText
 lf-stops = stop refl refl
 
+pub cr-stops : Stop carriageReturn
+unfolding isText
+cr-stops = stop refl refl
+
 pub complete : {bs r : List ℕ} {vs : List (List ℕ)} → Record bs vs r → values (length vs) bs ≡ row vs r
 unfolding values rowEnd ended parted
 complete (last f lf) = simp (field-complete f lf-stops)
+complete (last f crlf) = simp (field-complete f cr-stops)
 complete (more {v = v} f p) = simp (field-complete f comma-stops) (ap (front v) (complete p))
 
 -- ---- the reader is sound
@@ -121,14 +126,47 @@ abbrev RecordGot : ℕ → List ℕ → Row → Type 0
 RecordGot n bs (row vs r) = Record bs vs r × (length vs ≡ n)
 RecordGot n bs malformed = Unit {0}
 
-ended-sound : (bs v r : List ℕ) → Field bs v r → RecordGot 1 bs (ended v r)
-unfolding ended rowEnd
-ended-sound bs v [] f = tt
-ended-sound bs v (b ∷ r) f = go (eqb b lineFeed) refl
+-- a row end that is counted is one of the grammar
+pub end-sound : (bs : List ℕ) → (rowEnd bs ≡ 0 → ⊥) → RowEnd bs (drop (rowEnd bs) bs)
+unfolding rowEnd
+end-sound [] n = absurd (n refl)
+end-sound (b ∷ r) n = go (eqb b lineFeed) (eqb b carriageReturn) refl refl r n
   where
-    go : (t : Bool) → eqb b lineFeed ≡ t → RecordGot 1 bs (pick (eqb (pick t 1 0) 0) malformed (row (v ∷ []) (drop (pick t 1 0) (b ∷ r))))
-    go true e = (last (rw (eqb-true b lineFeed e) at f) lf, refl)
-    go false e = tt
+    go : (t u : Bool) → eqb b lineFeed ≡ t → eqb b carriageReturn ≡ u → (r : List ℕ) → (_≡_ {A = ℕ} (pick t 1 (pick (u && eqb (getD r 0 0) lineFeed) 2 0)) 0 → ⊥)
+        → RowEnd (b ∷ r) (drop (pick t 1 (pick (u && eqb (getD r 0 0) lineFeed) 2 0)) (b ∷ r))
+    go true u d e r n = rw (eqb-true b lineFeed d) lf
+    go false false d e r n = absurd (n refl)
+    go false true d e [] n = absurd (n refl)
+    go false true d e (c ∷ r) n = go' (eqb c lineFeed) refl n
+      where
+        go' : (t : Bool) → eqb c lineFeed ≡ t → (_≡_ {A = ℕ} (pick t 2 0) 0 → ⊥) → RowEnd (b ∷ c ∷ r) (drop (pick t 2 0) (b ∷ c ∷ r))
+        go' true f n = rw (eqb-true b carriageReturn e, eqb-true c lineFeed f) crlf
+        go' false f n = absurd (n refl)
+
+-- it is no longer than the bytes
+pub end-size : (bs : List ℕ) → rowEnd bs ≤ length bs
+unfolding rowEnd
+end-size [] = omega arith
+end-size (b ∷ []) = go (eqb b lineFeed) (eqb b carriageReturn)
+  where
+    go : (t u : Bool) → pick t 1 (pick (u && false) 2 0) ≤ 1
+    go true u = omega arith
+    go false true = omega arith
+    go false false = omega arith
+end-size (b ∷ c ∷ r) = go (eqb b lineFeed) (eqb b carriageReturn && eqb c lineFeed)
+  where
+    go : (t u : Bool) → pick t 1 (pick u 2 0) ≤ suc (suc (length r))
+    go true u = omega arith
+    go false true = omega arith
+    go false false = omega arith
+
+ended-sound : (bs v r : List ℕ) → Field bs v r → RecordGot 1 bs (ended v r)
+unfolding ended
+ended-sound bs v r f = go (eqb (rowEnd r) 0) refl
+  where
+    go : (t : Bool) → eqb (rowEnd r) 0 ≡ t → RecordGot 1 bs (pick t malformed (row (v ∷ []) (drop (rowEnd r) r)))
+    go true e = tt
+    go false e = (last f (end-sound r (eqb-false (rowEnd r) 0 e)), refl)
 
 front-sound : (n : ℕ) (bs v r : List ℕ) (g : Row) → Field bs v (comma ∷ r) → RecordGot (suc n) r g → RecordGot (suc (suc n)) bs (front v g)
 front-sound n bs v r malformed f p = tt
@@ -160,10 +198,36 @@ sound n bs vs r e = rw e at (values-sound n bs)
 
 -- ---- the grammar is unambiguous
 
+-- what a row ends with: the byte after its last value, which is no comma
+pub record Ends (e : List ℕ) : Type 0 where
+  pub first : ℕ
+  pub others : List ℕ
+  pub is : e ≡ first ∷ others
+  pub stops : Stop first
+  pub no-comma : first ≡ comma → ⊥
+
+pub ends : {e r : List ℕ} → RowEnd e r → Ends e
+ends (lf {r = r}) = record { first = lineFeed; others = r; is = refl; stops = lf-stops; no-comma = λ z. omega arith }
+ends (crlf {r = r}) = record { first = carriageReturn; others = lineFeed ∷ r; is = refl; stops = cr-stops; no-comma = λ z. omega arith }
+
+-- one row end is followed by one rest
+one-end : {e r s : List ℕ} → RowEnd e r → RowEnd e s → r ≡ s
+one-end lf lf = refl
+one-end crlf crlf = refl
+
+pub last-read : {bs v e r : List ℕ} → Field bs v e → RowEnd e r → fieldAt bs ≡ got v e
+last-read {bs} {v} f p = let x = ends p in rw (x .is) (field-complete (rw (x .is) at f) (x .stops))
+
+not-both : {bs v w e r cs : List ℕ} → Field bs v e → RowEnd e r → Field bs w (comma ∷ cs) → ⊥
+not-both f p g = let x = ends p in x .no-comma (cc (last-read f p, field-complete g comma-stops, x .is))
+
 pub unambiguous : {bs r s : List ℕ} {vs ws : List (List ℕ)} → Record bs vs r → Record bs ws s → row vs r ≡ row ws s
-unambiguous (last f lf) (last g lf) = cc (field-complete f lf-stops, field-complete g lf-stops)
-unambiguous (last f lf) (more g q) = absurd (let e : _≡_ {A = ℕ} lineFeed comma = cc (field-complete f lf-stops, field-complete g comma-stops) in omega arith)
-unambiguous (more f p) (last g lf) = absurd (let e : _≡_ {A = ℕ} lineFeed comma = cc (field-complete f comma-stops, field-complete g lf-stops) in omega arith)
+unambiguous (last {v = v} {e = e} f p) (last {v = w} {e = d} g q) =
+    let i : e ≡ d = cc (last-read f p, last-read g q) in
+    let j : v ≡ w = cc (last-read f p, last-read g q) in
+    ap₂ (λ (x y : List ℕ). row (x ∷ []) y) j (one-end p (rw (← i) at q))
+unambiguous (last f p) (more g q) = absurd (not-both f p g)
+unambiguous (more f p) (last g q) = absurd (not-both g q f)
 unambiguous (more {cs = cs} f p) (more {cs = ds} g q) =
     let e : cs ≡ ds = cc (field-complete f comma-stops, field-complete g comma-stops) in
     cc (field-complete f comma-stops, field-complete g comma-stops, unambiguous p (rw (← e) at q))
@@ -173,15 +237,12 @@ one-reading p q = (cc (unambiguous p q), cc (unambiguous p q))
 
 -- ---- the writer writes the grammar
 
-special-text : (b : ℕ) → special b ≡ false → isText b ≡ true
+pub text-unquoted : (b : ℕ) → isText b ≡ not (special b)
 unfolding special isText
-special-text b h = go (eqb b quote) (eqb b comma) (eqb b carriageReturn) (eqb b lineFeed) h
-  where
-    go : (q c r l : Bool) → (q || (c || (r || l))) ≡ false → not (q || (c || l)) ≡ true
-    go true c r l e = sym e
-    go false true r l e = sym e
-    go false false true l e = absurd (true≢false e)
-    go false false false l e = ap not e
+text-unquoted b = refl
+
+special-text : (b : ℕ) → special b ≡ false → isText b ≡ true
+special-text b h = text-unquoted b ∙ ap not h
 
 doubled-inner : (v r : List ℕ) → Inner (doubled v ++ (quote ∷ r)) v r
 unfolding doubled
@@ -217,3 +278,32 @@ writes v (w ∷ ws) r = rw append-assoc (more (field-writes v (comma ∷ rowOf (
 -- reading what was written gives the values back
 pub read-back : (v : List ℕ) (vs : List (List ℕ)) (r : List ℕ) → values (length (v ∷ vs)) (rowOf (v ∷ vs) ++ r) ≡ row (v ∷ vs) r
 read-back v vs r = complete (writes v vs r)
+
+-- ---- rows that end in CRLF
+
+crlf-writes : (v : List ℕ) (vs : List (List ℕ)) (r : List ℕ) → Record (fieldsThen (carriageReturn ∷ lineFeed ∷ r) (v ∷ vs)) (v ∷ vs) r
+unfolding fieldsThen
+crlf-writes v [] r = last (field-writes v (carriageReturn ∷ lineFeed ∷ r)) crlf
+crlf-writes v (w ∷ ws) r = more (field-writes v (comma ∷ fieldsThen (carriageReturn ∷ lineFeed ∷ r) (w ∷ ws))) (crlf-writes w ws r)
+
+pub reads-crlf : (v : List ℕ) (vs : List (List ℕ)) (r : List ℕ) → values (length (v ∷ vs)) (fieldsThen (carriageReturn ∷ lineFeed ∷ r) (v ∷ vs)) ≡ row (v ∷ vs) r
+reads-crlf v vs r = complete (crlf-writes v vs r)
+
+-- ---- a CR without an LF after it
+
+end-lone : (r : List ℕ) → (getD r 0 0 ≡ lineFeed → ⊥) → rowEnd (carriageReturn ∷ r) ≡ 0
+unfolding rowEnd
+end-lone r h = rw (ne-eqb (getD r 0 0) lineFeed h)
+
+pub lone-cr : (n : ℕ) {bs : List ℕ} → LoneCr bs → values n bs ≡ malformed
+unfolding values rowEnd ended parted
+lone-cr zero p = refl
+lone-cr (suc zero) (here {r = r} f h) = simp (field-complete f cr-stops) (rw (end-lone r h))
+lone-cr (suc (suc n)) (here f h) = simp (field-complete f cr-stops)
+lone-cr (suc zero) (later f p) = simp (field-complete f comma-stops)
+lone-cr (suc (suc n)) (later {v = v} f p) = simp (field-complete f comma-stops) (ap (front v) (lone-cr (suc n) p))
+
+pub lone-crs : (v : List ℕ) (vs : List (List ℕ)) (r : List ℕ) → (getD r 0 0 ≡ lineFeed → ⊥) → LoneCr (fieldsThen (carriageReturn ∷ r) (v ∷ vs))
+unfolding fieldsThen
+lone-crs v [] r h = here (field-writes v (carriageReturn ∷ r)) h
+lone-crs v (w ∷ ws) r h = later (field-writes v (comma ∷ fieldsThen (carriageReturn ∷ r) (w ∷ ws))) (lone-crs w ws r h)

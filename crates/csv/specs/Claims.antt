@@ -1,11 +1,12 @@
--- What is proved of the grammar, the writing and the reading (proofs/Grammar.antt, proofs/Frame.antt).
-use Prim.Native.Nat.{ℕ, _-_, _≤_}
+-- What is proved of the grammar, the writing and the reading (proofs/Grammar.antt, proofs/Frame.antt, proofs/Sizes.antt).
+use Prim.Native.Nat.{ℕ, _+_, _-_, _≤_}
 use mathlib.Core.Path.{_≡_}
 use mathlib.Core.List.{List, _∷_, _++_}
-use lib.ListN.{length, take, drop}
-use Rattle.csv.specs.Csv.{Record}
-use Rattle.csv.specs.Write.{rowOf}
-use Rattle.csv.specs.Read.{row, values}
+use lib.ListN.{length, take, drop, getD}
+use mathlib.Core.Bool.{not}
+use Rattle.csv.specs.Csv.{Record, LoneCr, isText, carriageReturn, lineFeed}
+use Rattle.csv.specs.Write.{special, rowOf, fieldsThen}
+use Rattle.csv.specs.Read.{row, malformed, values}
 
 -- bytes, a value, or what follows it
 abbrev Text : Type 0
@@ -25,3 +26,13 @@ pub record Claims : Type 0 where
   -- a row of at most n bytes is a row of the first n bytes; and a row of the first n bytes is a row of them all
   pub inFront : (n : ℕ) (bs r : Text) (vs : List Text) → Record bs vs r → length bs - length r ≤ n → (s : Text) × Record (take n bs) vs s
   pub ofAll : (n : ℕ) (bs s : Text) (vs : List Text) → Record (take n bs) vs s → Record bs vs (s ++ drop n bs)
+  -- 02, E4: a row that ends in CRLF reads as its values, and what follows both bytes is what follows the row
+  pub readsCrlf : (v : Text) (vs : List Text) (rest : Text) → values (length (v ∷ vs)) (fieldsThen (carriageReturn ∷ lineFeed ∷ rest) (v ∷ vs)) ≡ row (v ∷ vs) rest
+  -- 02, E4: "A CR outside quotes without an LF after it is malformed", whatever number of values is asked for
+  pub loneCr : (n : ℕ) (bs : Text) → LoneCr bs → values n bs ≡ malformed
+  -- there are such bytes: whatever the values are, and whatever follows the CR, if it doesn't begin with LF
+  pub loneCrs : (v : Text) (vs : List Text) (rest : Text) → (getD rest 0 0 ≡ lineFeed → ⊥) → LoneCr (fieldsThen (carriageReturn ∷ rest) (v ∷ vs))
+  -- whatever reads as a row, written afresh, has at most as many bytes as it took
+  pub notLonger : (n : ℕ) (bs : Text) (vs : List Text) (rest : Text) → values n bs ≡ row vs rest → length (rowOf vs) + length rest ≤ length bs
+  -- the bytes of a field without quotes are those for which the writer puts none
+  pub textUnquoted : (b : ℕ) → isText b ≡ not (special b)

@@ -4,7 +4,8 @@ use lib.Dec.{eqb}
 use Rattle.base.specs.Number.{pick}
 use mathlib.Core.List.{List, [], _∷_}
 use lib.ListN.{getD, drop}
-use Rattle.csv.specs.Csv.{isText, quote, comma, lineFeed}
+use mathlib.Core.Bool.{_&&_}
+use Rattle.csv.specs.Csv.{isText, quote, comma, carriageReturn, lineFeed}
 
 -- a value and what follows it
 pub data Got : Type 0 where
@@ -50,9 +51,9 @@ abbrev pub front : List ℕ → Row → Row
 front v (row vs r) = row (v ∷ vs) r
 front v malformed = malformed
 
--- how many bytes the row end at the start has, 0 if there is none
+-- how many bytes the row end at the start has: 1, 2, or 0 if there is none. 02, E4: "CRLF outside quotes as one row end, beside LF"
 unfoldable pub rowEnd : List ℕ → ℕ
-rowEnd bs = pick (eqb (getD bs 0 0) lineFeed) 1 0
+rowEnd bs = pick (eqb (getD bs 0 0) lineFeed) 1 (pick (eqb (getD bs 0 0) carriageReturn && eqb (getD bs 1 0) lineFeed) 2 0)
 
 -- after the last value a row end; after another a comma, and `more` reads on
 unfoldable pub ended : List ℕ → List ℕ → Row

@@ -33,3 +33,9 @@ delimiter (v ∷ vs) = comma
 unfoldable pub rowOf : List (List ℕ) → List ℕ
 rowOf [] = []
 rowOf (v ∷ vs) = fieldOf v ++ (delimiter vs ∷ rowOf vs)
+
+-- the same fields with commas between them, and then these bytes: CR and LF make a row as RFC 4180 has it. No call here writes such a row.
+unfoldable pub fieldsThen : List ℕ → List (List ℕ) → List ℕ
+fieldsThen bytes [] = bytes
+fieldsThen bytes (v ∷ []) = fieldOf v ++ bytes
+fieldsThen bytes (v ∷ w ∷ ws) = fieldOf v ++ (comma ∷ fieldsThen bytes (w ∷ ws))

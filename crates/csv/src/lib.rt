@@ -9,7 +9,7 @@ pub const CR: u8 = 13;
 
 pub const LF: u8 = 10;
 
-// The most bytes of a row, with its LF.
+// The most bytes of a row, with its row end.
 pub const MAX_ROW: usize = 8192;
 
 // The most columns of a table.

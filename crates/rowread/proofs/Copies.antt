@@ -7,9 +7,9 @@ use mathlib.Core.Path.{_≡_, refl, sym, ap, _∙_}
 use mathlib.Core.List.{List, [], _∷_, _++_, append-assoc}
 use lib.ListN.{length, drop, set, length-drop, length-append, length-set}
 use lib.Seq.{sets, drop-drop}
-use Rattle.csv.specs.Csv.{Record, last, more, lf, comma, lineFeed}
+use Rattle.csv.specs.Csv.{Record, last, more, comma}
 use Rattle.csv.specs.Read.{Got, got, fieldAt, Row, row, malformed, values}
-use Rattle.csv.proofs.Grammar.{sound, field-complete, lf-stops, comma-stops}
+use Rattle.csv.proofs.Grammar.{sound, field-complete, comma-stops, ends, last-read}
 use Rattle.csv.proofs.Offsets.{field-offset}
 use Rattle.rowread.specs.declared.exact.Scan.the-variants.{Whole, Broken}
 use Rattle.rowread.specs.Stored.{valuesOf, joined, endsOf}
@@ -29,10 +29,11 @@ starts : (t r : List ℕ) (b : ℕ) → b ∷ r ≡ drop (length t - length (b �
 starts t r b e = omega (arith, ap length e, length-drop (length t - length (b ∷ r)) t)
 
 fields-of : (t : List ℕ) {bs r : List ℕ} {vs : List (List ℕ)} → Record bs vs r → (from : ℕ) → bs ≡ drop from t → from ≤ length t → Fields t from vs
-fields-of t (last {v = v} {r = r} f lf) from b h =
-    let q : fieldAt (drop from t) ≡ got v (lineFeed ∷ r) = ap fieldAt (sym b) ∙ field-complete f lf-stops in
-    let p = field-offset t from v (lineFeed ∷ r) h q in
-    one h (starts t r lineFeed (p .0)) (q ∙ ap (got v) (p .0)) none
+fields-of t (last {v = v} f e) from b h =
+    let x = ends e in
+    let q : fieldAt (drop from t) ≡ got v (x .first ∷ x .others) = ap fieldAt (sym b) ∙ last-read f e ∙ ap (got v) (x .is) in
+    let p = field-offset t from v (x .first ∷ x .others) h q in
+    one h (starts t (x .others) (x .first) (p .0)) (q ∙ ap (got v) (p .0)) none
 fields-of t (more {v = v} {w = w} {cs = cs} {ws = ws} f g) from b h =
     let q : fieldAt (drop from t) ≡ got v (comma ∷ cs) = ap fieldAt (sym b) ∙ field-complete f comma-stops in
     let p = field-offset t from v (comma ∷ cs) h q in

@@ -1,5 +1,5 @@
 -- What a turn of each scanning loop does to what is left to read: the size so far and that of the rest add up to the reader's. By cases on
--- the byte: text, quote, comma, LF.
+-- the byte: text, quote, comma, CR, LF.
 use Prim.Native.Nat.{ℕ, zero, suc, _+_, _-_, _≤_, _<_}
 use native.Mathlib.Omega.{arith}
 use native.Mathlib.Decide.{decLt}
@@ -11,10 +11,11 @@ use mathlib.Core.List.{List, [], _∷_, _++_}
 use lib.Dec.{eqb}
 use lib.ListN.{length, take, drop, getD, drop-of-length-le, length-drop, length-append, List·getD-eq-default}
 use lib.Seq.{drop-cons, getD-drop, drop-drop, take-at}
-use borrow.Author.Tests.{eq-eqb, ne-eqb, eqb-true}
+use borrow.Author.Tests.{eq-eqb, ne-eqb}
 use Rattle.base.specs.Number.{pick}
-use Rattle.csv.specs.Csv.{isText, quote, comma, lineFeed}
+use Rattle.csv.specs.Csv.{isText, RowEnd, quote, comma, carriageReturn, lineFeed}
 use Rattle.csv.specs.Read.{Got, got, bad, push, plainValue, plainRest, inner, closing, fieldAt, Row, row, malformed, front, rowEnd, ended, parted, values}
+use Rattle.csv.proofs.Grammar.{end-sound, end-size}
 use Rattle.csv.proofs.Offsets.{field-offset}
 use Rattle.rowread.specs.declared.exact.Piece.the-variants.{Value, Bad}
 use Rattle.rowread.specs.declared.exact.Scan.the-variants.{Whole, Broken}
@@ -77,22 +78,34 @@ past t i b e = go (decLt i (length t))
 
 -- ---- a row end
 
-pub end-yes : (t : List ℕ) (i : ℕ) → getD t i 0 ≡ lineFeed → 1 ≡ rowEnd (drop i t)
-unfolding rowEnd
-end-yes t i e = rw (first t i) (simp (eq-eqb (getD t i 0) lineFeed e))
+second : (t : List ℕ) (i : ℕ) → getD (drop i t) 1 0 ≡ getD t (i + 1) 0
+second t i = getD-drop i t 1 0
 
-pub end-no : (t : List ℕ) (i : ℕ) → (getD t i 0 ≡ lineFeed → ⊥) → 0 ≡ rowEnd (drop i t)
+pub end-lf : (t : List ℕ) (i : ℕ) → getD t i 0 ≡ lineFeed → 1 ≡ rowEnd (drop i t)
 unfolding rowEnd
-end-no t i e = rw (first t i) (simp (ne-eqb (getD t i 0) lineFeed e))
+end-lf t i e = rw (first t i) (simp (eq-eqb (getD t i 0) lineFeed e))
 
--- a row end is one LF
-pub end-is : (t : List ℕ) (i : ℕ) {e : ℕ} → e ≡ rowEnd (drop i t) → (e ≡ 0 → ⊥) → (getD t i 0 ≡ lineFeed) × (e ≡ 1)
+pub end-crlf : (t : List ℕ) (i : ℕ) → getD t i 0 ≡ carriageReturn → getD t (i + 1) 0 ≡ lineFeed → 2 ≡ rowEnd (drop i t)
 unfolding rowEnd
-end-is t i {e} q h = go (eqb (getD t i 0) lineFeed) refl (q ∙ rw (first t i))
-  where
-    go : (b : Bool) → eqb (getD t i 0) lineFeed ≡ b → e ≡ pick b 1 0 → (getD t i 0 ≡ lineFeed) × (e ≡ 1)
-    go true f z = (eqb-true (getD t i 0) lineFeed f, z)
-    go false f z = absurd (h z)
+end-crlf t i e f = rw (first t i, second t i, e, f)
+
+pub end-no : (t : List ℕ) (i : ℕ) → (getD t i 0 ≡ lineFeed → ⊥) → (getD t i 0 ≡ carriageReturn → ⊥) → 0 ≡ rowEnd (drop i t)
+unfolding rowEnd
+end-no t i e f = rw (first t i) (simp (ne-eqb (getD t i 0) lineFeed e, ne-eqb (getD t i 0) carriageReturn f))
+
+pub end-lone : (t : List ℕ) (i : ℕ) → getD t i 0 ≡ carriageReturn → (getD t (i + 1) 0 ≡ lineFeed → ⊥) → 0 ≡ rowEnd (drop i t)
+unfolding rowEnd
+end-lone t i e f = rw (first t i, second t i, e, ne-eqb (getD t (i + 1) 0) lineFeed f)
+
+-- the row end of the grammar, and it is inside
+module _ (t : List ℕ) (i : ℕ) {e : ℕ} (q : e ≡ rowEnd (drop i t)) (h : e ≡ 0 → ⊥) where
+  pub end-row : RowEnd (drop i t) (drop (i + e) t)
+  end-row =
+      let d : drop (rowEnd (drop i t)) (drop i t) ≡ drop (i + e) t = drop-drop (rowEnd (drop i t)) i t ∙ rw (← q) in
+      rw d at (end-sound (drop i t) (λ z. h (q ∙ z)))
+
+  pub end-fits : i + e ≤ length t
+  end-fits = omega (arith, q, h, end-size (drop i t), length-drop i t)
 
 -- ---- a field
 
@@ -206,21 +219,13 @@ module _ (t : List ℕ) (s from m n : ℕ) (left : m ≡ suc (suc n)) where
 pub scan-bad : (t : List ℕ) (s from m n : ℕ) → m ≡ suc n → fieldAt (drop from t) ≡ bad → Broken ≡ scanFrom (length t) s (values m (drop from t))
 scan-bad t s from m n left e = rw (left, values-bad n (drop from t) e)
 
-pub end-inside : (t : List ℕ) (to : ℕ) → (rowEnd (drop to t) ≡ 0 → ⊥) → to + rowEnd (drop to t) ≤ length t
-unfolding rowEnd
-end-inside t to h = rw (first t to) (go (eqb (getD t to 0) lineFeed) refl (λ q. h (rw (first t to) q)))
-  where
-    go : (q : Bool) → eqb (getD t to 0) lineFeed ≡ q → (_≡_ {A = ℕ} (pick q 1 0) 0 → ⊥) → to + pick q 1 0 ≤ length t
-    go true e n = let p : to < length t = past t to 9 (eqb-true (getD t to 0) lineFeed e) in omega arith
-    go false e n = absurd (n refl)
-
 -- one value is left to read
 module _ (t : List ℕ) (s from to size : ℕ) (p : IsValue t from to size) where
   pub scan-last : (e : ℕ) → e ≡ rowEnd (drop to t) → (e ≡ 0 → ⊥) → Whole (to + e) (s + size) ≡ scanFrom (length t) s (values 1 (drop from t))
   unfolding values ended joined
   scan-last e q h =
       let n : rowEnd (drop to t) ≡ 0 → ⊥ = λ z. h (q ∙ z) in
-      let i : to + rowEnd (drop to t) ≤ length t = end-inside t to n in
+      let i : to + e ≤ length t = end-fits t to q h in
       let d : drop (rowEnd (drop to t)) (drop to t) ≡ drop (to + e) t = drop-drop (rowEnd (drop to t)) to t ∙ rw (← q) in
       let m : length t - length (drop (to + e) t) ≡ to + e = rw (length-drop (to + e) t) (omega arith) in
       let z : s + length (p .value ++ []) ≡ s + size = simp length-append (omega (arith, p .sized)) in

@@ -1,6 +1,5 @@
 -- Rows without quotes: what a turn of their loops does to what is left, and why the result is a row of the grammar. The bytes before the
--- first quote or LF are plain values with commas between them: with LF after them they are a row, with a quote after a comma
--- the first values of one.
+-- first quote, CR or LF are plain values with commas between them: with a row end after them they are a row.
 use Prim.Native.Nat.{ℕ, zero, suc, _+_, _-_, _≤_, _<_}
 use native.Mathlib.Omega.{arith}
 use native.Mathlib.Numerals.{add-one}
@@ -13,19 +12,20 @@ use lib.ListN.{length, take, drop, getD, set}
 use lib.Seq.{sets, drop-cons}
 use borrow.Author.Tests.{eqb-true}
 use Rattle.base.specs.Number.{pick}
-use Rattle.csv.specs.Csv.{isText, NonEscaped, none, text, Field, nonEscaped, lf, Record, last, more, quote, comma, lineFeed}
+use Rattle.csv.specs.Csv.{isText, NonEscaped, none, text, Field, nonEscaped, Record, last, more, quote, comma, carriageReturn, lineFeed}
 use Rattle.csv.proofs.Laws.{sets-append}
 use Rattle.rowread.specs.Stored.{joined, endsOf}
-use Rattle.rowread.specs.Steps.{isQuoteOrLf, lineOf, commasIn, textIn, cutsIn, marksIn, anyQuoteOrLf, Holds}
-use Rattle.rowread.proofs.Laws.{past}
+use Rattle.rowread.specs.Steps.{isLineStop, lineOf, commasIn, textIn, cutsIn, marksIn, anyLineStop, Holds}
+use Rattle.csv.specs.Read.{rowEnd}
+use Rattle.rowread.proofs.Laws.{end-row, end-fits}
 
--- ---- the bytes before the first quote or LF
+-- ---- the bytes before the first quote, CR or LF
 
-pub line-stop : (t : List ℕ) (i : ℕ) → i < length t → isQuoteOrLf (getD t i 0) ≡ true → i ≡ i + length (lineOf (drop i t))
+pub line-stop : (t : List ℕ) (i : ℕ) → i < length t → isLineStop (getD t i 0) ≡ true → i ≡ i + length (lineOf (drop i t))
 unfolding lineOf
 line-stop t i h e = rw (drop-cons t i 0 h) (simp e (omega arith))
 
-pub line-turn : (t : List ℕ) (i : ℕ) → i < length t → isQuoteOrLf (getD t i 0) ≡ false → i + length (lineOf (drop i t)) ≡ i + 1 + length (lineOf (drop (i + 1) t))
+pub line-turn : (t : List ℕ) (i : ℕ) → i < length t → isLineStop (getD t i 0) ≡ false → i + length (lineOf (drop i t)) ≡ i + 1 + length (lineOf (drop (i + 1) t))
 unfolding lineOf
 line-turn t i h e = rw (add-one i, drop-cons t i 0 h) (simp e (omega arith))
 
@@ -36,7 +36,7 @@ neither false b e = (refl, e)
 pub line-size : (t : List ℕ) → length (lineOf t) ≤ length t
 unfolding lineOf
 line-size [] = omega arith
-line-size (b ∷ t) = go (isQuoteOrLf b) (line-size t)
+line-size (b ∷ t) = go (isLineStop b) (line-size t)
   where
     go : (q : Bool) → length (lineOf t) ≤ length t → length (pick q [] (b ∷ lineOf t)) ≤ suc (length t)
     go true e = omega arith
@@ -118,15 +118,15 @@ many-in (b ∷ v) = go (eqb b comma) (many-in v)
 
 -- ---- the row
 
--- v is followed by a comma or LF, c: its first field, and the row once that is a field
+-- v is followed by c, which is a comma or starts a row end: its first field, and the row once that is a field
 record Begun (v : List ℕ) (c : ℕ) (r : List ℕ) (ws : List (List ℕ)) (s : List ℕ) : Type 0 where
   rest : List ℕ
   head : NonEscaped (v ++ (c ∷ r)) (firstIn v) rest
   whole : {bs f : List ℕ} → Field bs f rest → Record bs (f ∷ (othersIn v ++ ws)) s
 
-text-of : (b : ℕ) → isQuoteOrLf b ≡ false → eqb b comma ≡ false → isText b ≡ true
-unfolding isQuoteOrLf isText
-text-of b s c = go (eqb b quote) (eqb b lineFeed) s
+text-of : (b : ℕ) → isLineStop b ≡ false → eqb b comma ≡ false → isText b ≡ true
+unfolding isLineStop isText
+text-of b s c = go (eqb b quote) (eqb b carriageReturn || eqb b lineFeed) s
   where
     go : (p q : Bool) → (p || q) ≡ false → not (p || (eqb b comma || q)) ≡ true
     go true q e = absurd (let z : _≡_ {A = ℕ} 0 1 = cc in omega arith)
@@ -135,36 +135,36 @@ text-of b s c = go (eqb b quote) (eqb b lineFeed) s
 
 -- after v: a row of its last value and ws, once that value is a field
 module _ (c : ℕ) (r : List ℕ) (ws : List (List ℕ)) (s : List ℕ) (following : (bs f : List ℕ) → Field bs f (c ∷ r) → Record bs (f ∷ ws) s) where
-  begun : (v : List ℕ) → anyQuoteOrLf v ≡ false → Begun v c r ws s
-  unfolding anyQuoteOrLf firstIn othersIn
+  begun : (v : List ℕ) → anyLineStop v ≡ false → Begun v c r ws s
+  unfolding anyLineStop firstIn othersIn
   begun [] e = record { rest = c ∷ r; head = none; whole = λ {bs} {f} h. following bs f h }
-  begun (b ∷ v) e = go (eqb b comma) refl (begun v (neither (isQuoteOrLf b) (anyQuoteOrLf v) e .1))
+  begun (b ∷ v) e = go (eqb b comma) refl (begun v (neither (isLineStop b) (anyLineStop v) e .1))
     where
       go : (q : Bool) → eqb b comma ≡ q → Begun v c r ws s → Begun (b ∷ v) c r ws s
       go true d w =
           let k : b ≡ comma = eqb-true b comma d in
           rw k (record { rest = comma ∷ (v ++ (c ∷ r)); head = none; whole = λ f. more f (w .whole (nonEscaped (w .head))) })
       go false d w =
-          let n : isText b ≡ true = text-of b (neither (isQuoteOrLf b) (anyQuoteOrLf v) e .0) d in
+          let n : isText b ≡ true = text-of b (neither (isLineStop b) (anyLineStop v) e .0) d in
           let h : NonEscaped (b ∷ (v ++ (c ∷ r))) (b ∷ firstIn v) (w .rest) = text n (w .head) in
           record { rest = w .rest; head = rw d h; whole = rw d (w .whole) }
 
-  plain-row : (v : List ℕ) → anyQuoteOrLf v ≡ false → Record (v ++ (c ∷ r)) (valuesIn v ++ ws) s
+  plain-row : (v : List ℕ) → anyLineStop v ≡ false → Record (v ++ (c ∷ r)) (valuesIn v ++ ws) s
   plain-row v e = let b = begun v e in b .whole (nonEscaped (b .head))
 
-pub line-clean : (t : List ℕ) → anyQuoteOrLf (lineOf t) ≡ false
-unfolding anyQuoteOrLf lineOf
+pub line-clean : (t : List ℕ) → anyLineStop (lineOf t) ≡ false
+unfolding anyLineStop lineOf
 line-clean [] = refl
-line-clean (b ∷ t) = go (isQuoteOrLf b) refl (line-clean t)
+line-clean (b ∷ t) = go (isLineStop b) refl (line-clean t)
   where
-    go : (q : Bool) → isQuoteOrLf b ≡ q → anyQuoteOrLf (lineOf t) ≡ false → anyQuoteOrLf (pick q [] (b ∷ lineOf t)) ≡ false
+    go : (q : Bool) → isLineStop b ≡ q → anyLineStop (lineOf t) ≡ false → anyLineStop (pick q [] (b ∷ lineOf t)) ≡ false
     go true s e = refl
     go false s e = rw s e
 
 line-all : (t : List ℕ) → lineOf t ++ drop (length (lineOf t)) t ≡ t
 unfolding lineOf
 line-all [] = refl
-line-all (b ∷ t) = go (isQuoteOrLf b) (line-all t)
+line-all (b ∷ t) = go (isLineStop b) (line-all t)
   where
     go : (q : Bool) → lineOf t ++ drop (length (lineOf t)) t ≡ t → pick q [] (b ∷ lineOf t) ++ drop (length (pick q [] (b ∷ lineOf t))) (b ∷ t) ≡ b ∷ t
     go true e = refl
@@ -173,26 +173,26 @@ line-all (b ∷ t) = go (isQuoteOrLf b) (line-all t)
 pub line-take : (t : List ℕ) → take (length (lineOf t)) t ≡ lineOf t
 unfolding lineOf
 line-take [] = refl
-line-take (b ∷ t) = go (isQuoteOrLf b) (line-take t)
+line-take (b ∷ t) = go (isLineStop b) (line-take t)
   where
     go : (q : Bool) → take (length (lineOf t)) t ≡ lineOf t → take (length (pick q [] (b ∷ lineOf t))) (b ∷ t) ≡ pick q [] (b ∷ lineOf t)
     go true e = refl
     go false e = ap (λ (l : List ℕ). b ∷ l) e
 
--- ---- a quoted value, from one quote or LF to the next
-
 -- ---- a row without quotes
 
-pub line-holds : (t : List ℕ) (e n width : ℕ) (out ends o s : List ℕ) → e ≡ length (lineOf t) → getD t e 0 ≡ lineFeed → n ≡ commasIn (take e t) → n + 1 ≡ width
-    → e - n ≤ length out → width ≤ length ends → o ≡ sets out 0 (textIn (take e t)) → s ≡ sets ends 0 (marksIn 0 (take e t)) → Holds t 0 0 0 width out ends o s (e + 1) (e - n)
+pub line-holds : (t : List ℕ) (e z n width : ℕ) (out ends o s : List ℕ) → e ≡ length (lineOf t) → z ≡ rowEnd (drop e t) → (z ≡ 0 → ⊥) → n ≡ commasIn (take e t) → n + 1 ≡ width
+    → e - n ≤ length out → width ≤ length ends → o ≡ sets out 0 (textIn (take e t)) → s ≡ sets ends 0 (marksIn 0 (take e t)) → Holds t 0 0 0 width out ends o s (e + z) (e - n)
 unfolding joined endsOf
-line-holds t e n width out ends o s p q c w l m x y =
+line-holds t e z n width out ends o s p q h c w l m x y =
     let v = lineOf t in
     let f : take e t ≡ v = ap (λ (x : ℕ). take x t) p ∙ line-take t in
-    let i : e < length t = past t e 9 q in
-    let d : drop e t ≡ lineFeed ∷ drop (e + 1) t = rw (add-one e) (drop-cons t e 0 i ∙ rw q) in
-    let a : v ++ (lineFeed ∷ drop (e + 1) t) ≡ t = rw (← d, p) (line-all t) in
-    let r : Record t (valuesIn v ++ []) (drop (e + 1) t) = rw a at (plain-row lineFeed (drop (e + 1) t) [] (drop (e + 1) t) (λ bs g f. last f lf) v (line-clean t)) in
+    let u = end-row t e q h in
+    let i : e + z ≤ length t = end-fits t e q h in
+    let j : e < length t = omega (arith, i) in
+    let d : drop e t ≡ getD t e 0 ∷ drop (suc e) t = drop-cons t e 0 j in
+    let a : v ++ (getD t e 0 ∷ drop (suc e) t) ≡ t = rw (← d, p) (line-all t) in
+    let r : Record t (valuesIn v ++ []) (drop (e + z) t) = rw a at (plain-row (getD t e 0) (drop (suc e) t) [] (drop (e + z) t) (λ bs g f. last f (rw d at u)) v (line-clean t)) in
     let k : n ≡ commasIn v = c ∙ rw f in
     record {
       values = valuesIn v;

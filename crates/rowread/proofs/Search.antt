@@ -13,13 +13,13 @@ use lib.ListN.{length, take, drop, getD, set, length-take, length-drop, List·ge
 use lib.Seq.{sets, take-suc, getD-take, getD-drop}
 use borrow.Author.Tests.{eq-eqb, ne-eqb}
 use Rattle.base.specs.Number.{pick}
-use Rattle.csv.specs.Csv.{isText, quote, comma, lineFeed}
+use Rattle.csv.specs.Csv.{isText, quote, comma, carriageReturn, lineFeed}
 use Rattle.csv.specs.Read.{plainValue}
 use Rattle.rowread.proofs.Laws.{plain-turn}
 use Rattle.csv.proofs.Laws.{sets-append}
 use Rattle.base.specs.Little.{little}
 use Rattle.rowread.specs.Marks.{Bytes, mark, marks, AreMarks, none, more, Marks, FirstOf, isDelimiter, firstMark, cleared, since}
-use Rattle.rowread.specs.Steps.{isQuoteOrLf, commasIn, textIn, cutsIn, At}
+use Rattle.rowread.specs.Steps.{isLineStop, commasIn, textIn, cutsIn, At}
 use Rattle.rowread.proofs.Lines.{neither, line-turn, cuts-size, text-size}
 
 -- ---- marks from an index on
@@ -131,11 +131,11 @@ cuts-snoc n (a ∷ v) b = go (eqb a comma) (cuts-snoc n v b) (cuts-snoc (n + 1) 
     go true e f = ap (λ (l : List ℕ). n ∷ l) e
     go false e f = let z : n + suc (length (textIn v)) ≡ n + 1 + length (textIn v) = omega arith in rw z f
 
-no-stop : (b : ℕ) → isDelimiter b ≡ false → (isQuoteOrLf b ≡ false) × (eqb b comma ≡ false)
-unfolding isQuoteOrLf
+no-stop : (b : ℕ) → isDelimiter b ≡ false → (isLineStop b ≡ false) × (eqb b comma ≡ false)
+unfolding isLineStop
 no-stop b e =
-    let p = neither (eqb b quote) (eqb b comma || eqb b lineFeed) e in
-    let q = neither (eqb b comma) (eqb b lineFeed) (p .1) in
+    let p = neither (eqb b quote) (eqb b comma || (eqb b carriageReturn || eqb b lineFeed)) e in
+    let q = neither (eqb b comma) (eqb b carriageReturn || eqb b lineFeed) (p .1) in
     (rw (p .0) (q .1), q .0)
 
 pub at-start : (t slots : List ℕ) → At t slots slots 0 0
@@ -155,10 +155,10 @@ module _ {t slots marks : List ℕ} {p k : ℕ} (a : At t slots marks p k) (h : 
 
   -- the comma's own mark, if there is a slot for it
   pub at-comma : (after : List ℕ) → getD t p 0 ≡ comma → (k < length marks → after ≡ set marks k (p - k)) → length after ≡ length marks → At t slots after (p + 1) (k + 1)
-  unfolding isQuoteOrLf
+  unfolding isLineStop
   at-comma m e f g =
       let q : eqb (getD t p 0) comma ≡ true = eq-eqb (getD t p 0) comma e in
-      let s : isQuoteOrLf (getD t p 0) ≡ false = rw e in
+      let s : isLineStop (getD t p 0) ≡ false = rw e in
       let c : commasIn (take (p + 1) t) ≡ commasIn (take p t) + 1 = ap commasIn after ∙ commas-snoc (take p t) (getD t p 0) ∙ rw q in
       let x : 0 + length (textIn (take p t)) ≡ p - k = omega (arith, text-size (take p t), length-take p t, a .many, a .inside) in
       let d : cutsIn 0 (take (p + 1) t) ≡ cutsIn 0 (take p t) ++ ((p - k) ∷ []) = ap (cutsIn 0) after ∙ cuts-snoc 0 (take p t) (getD t p 0) ∙ rw (q, x) in
@@ -226,8 +226,8 @@ word-done t i d h l e a = skip-to i d 8 l h (λ n p q. rw (byte-of t i n q) at (
 pub word-cleared : (t : List ℕ) (i d j r : ℕ) → j ≡ firstMark (since d (marks isDelimiter (take 8 (drop i t)))) → r ≡ little (cleared (since d (marks isDelimiter (take 8 (drop i t))))) → r ≡ little (since (j + 1) (marks isDelimiter (take 8 (drop i t))))
 word-cleared t i d j r e f = f ∙ ap little (cleared-at isDelimiter (take 8 (drop i t)) d) ∙ rw (add-one j, e)
 
-pub stop-of : (b : ℕ) → isDelimiter b ≡ true → (b ≡ comma → ⊥) → isQuoteOrLf b ≡ true
-unfolding isQuoteOrLf
+pub stop-of : (b : ℕ) → isDelimiter b ≡ true → (b ≡ comma → ⊥) → isLineStop b ≡ true
+unfolding isLineStop
 stop-of b e n = rw (ne-eqb b comma n) at e
 
 pub word-found : (t : List ℕ) (i d m j : ℕ) → i + 8 ≤ length t → m ≡ little (since d (marks isDelimiter (take 8 (drop i t)))) → (m ≡ 0 → ⊥) → FirstOf m j

@@ -166,17 +166,20 @@ module _ (bs : List ℕ) (eight : length bs ≡ 8) where
         ∙ marked (λ b. unlike 34 (b % 256)) (λ b. unlike-small 34 (b % 256) (omega arith))
         ∙ told isQuote (unlike 34) tt
 
-    pub delimiters-told : bitAnd (18446744073709551615 - bitOr (bitAnd (bitXor (bitAnd (little bs) 9187201950435737471) 2459565876494606882 + 9187201950435737471) (bitAnd (bitXor (bitAnd (little bs) 9187201950435737471) 3182967604875373612 + 9187201950435737471) (bitXor (bitAnd (little bs) 9187201950435737471) 723401728380766730 + 9187201950435737471))) (little bs)) 9259542123273814144 ≡ little (marks isDelimiter bs)
+    pub delimiters-told : bitAnd (18446744073709551615 - bitOr (bitAnd (bitXor (bitAnd (little bs) 9187201950435737471) 2459565876494606882 + 9187201950435737471) (bitAnd (bitXor (bitAnd (little bs) 9187201950435737471) 3182967604875373612 + 9187201950435737471) (bitAnd (bitXor (bitAnd (little bs) 9187201950435737471) 940422246894996749 + 9187201950435737471) (bitXor (bitAnd (little bs) 9187201950435737471) 723401728380766730 + 9187201950435737471)))) (little bs)) 9259542123273814144 ≡ little (marks isDelimiter bs)
     unfolding below
     delimiters-told =
-        let f : ℕ → ℕ = λ x. bitAnd (unlike 34 x) (bitAnd (unlike 44 x) (unlike 10 x)) in
+        let f : ℕ → ℕ = λ x. bitAnd (unlike 34 x) (bitAnd (unlike 44 x) (bitAnd (unlike 13 x) (unlike 10 x))) in
         let a : Small (λ b. unlike 34 (b % 256)) = λ b. unlike-small 34 (b % 256) (omega arith) in
         let b : Small (λ b. unlike 44 (b % 256)) = λ b. unlike-small 44 (b % 256) (omega arith) in
-        let c : Small (λ b. unlike 10 (b % 256)) = λ b. unlike-small 10 (b % 256) (omega arith) in
-        let d : Small (λ x. bitAnd (unlike 44 (x % 256)) (unlike 10 (x % 256))) = λ x. and-lt 8 (unlike 44 (x % 256)) (unlike 10 (x % 256)) (b x) (c x) in
-        let e : Small (λ x. f (x % 256)) = λ x. and-lt 8 (unlike 34 (x % 256)) (bitAnd (unlike 44 (x % 256)) (unlike 10 (x % 256))) (a x) (d x) in
-        let i = ap₂ bitAnd (unlike-word 44 (omega arith)) (unlike-word 10 (omega arith)) ∙ word-and (λ x. unlike 44 (x % 256)) (λ x. unlike 10 (x % 256)) b c bs in
-        let j = ap₂ bitAnd (unlike-word 34 (omega arith)) i ∙ word-and (λ x. unlike 34 (x % 256)) (λ x. bitAnd (unlike 44 (x % 256)) (unlike 10 (x % 256))) a d bs in
+        let c : Small (λ b. unlike 13 (b % 256)) = λ b. unlike-small 13 (b % 256) (omega arith) in
+        let d : Small (λ b. unlike 10 (b % 256)) = λ b. unlike-small 10 (b % 256) (omega arith) in
+        let k : Small (λ x. bitAnd (unlike 13 (x % 256)) (unlike 10 (x % 256))) = λ x. and-lt 8 (unlike 13 (x % 256)) (unlike 10 (x % 256)) (c x) (d x) in
+        let l : Small (λ x. bitAnd (unlike 44 (x % 256)) (bitAnd (unlike 13 (x % 256)) (unlike 10 (x % 256)))) = λ x. and-lt 8 (unlike 44 (x % 256)) (bitAnd (unlike 13 (x % 256)) (unlike 10 (x % 256))) (b x) (k x) in
+        let e : Small (λ x. f (x % 256)) = λ x. and-lt 8 (unlike 34 (x % 256)) (bitAnd (unlike 44 (x % 256)) (bitAnd (unlike 13 (x % 256)) (unlike 10 (x % 256)))) (a x) (l x) in
+        let g = ap₂ bitAnd (unlike-word 13 (omega arith)) (unlike-word 10 (omega arith)) ∙ word-and (λ x. unlike 13 (x % 256)) (λ x. unlike 10 (x % 256)) c d bs in
+        let i = ap₂ bitAnd (unlike-word 44 (omega arith)) g ∙ word-and (λ x. unlike 44 (x % 256)) (λ x. bitAnd (unlike 13 (x % 256)) (unlike 10 (x % 256))) b k bs in
+        let j = ap₂ bitAnd (unlike-word 34 (omega arith)) i ∙ word-and (λ x. unlike 34 (x % 256)) (λ x. bitAnd (unlike 44 (x % 256)) (bitAnd (unlike 13 (x % 256)) (unlike 10 (x % 256)))) a l bs in
         ap (λ (z : ℕ). bitAnd (18446744073709551615 - bitOr z (little bs)) 9259542123273814144) j
         ∙ marked (λ x. f (x % 256)) e
         ∙ told isDelimiter f tt

@@ -7,13 +7,13 @@ use lib.Dec.{eqb}
 use lib.ListN.{length, getD}
 use Rattle.base.specs.Little.{little, longBytes}
 use Rattle.base.specs.Number.{pick, byteValues, longBits}
-use Rattle.csv.specs.Csv.{quote, comma, lineFeed}
+use Rattle.csv.specs.Csv.{quote, comma, carriageReturn, lineFeed}
 
 abbrev pub isQuote : ℕ → Bool
 isQuote b = eqb b quote
 
 abbrev pub isDelimiter : ℕ → Bool
-isDelimiter b = eqb b quote || (eqb b comma || eqb b lineFeed)
+isDelimiter b = eqb b quote || (eqb b comma || (eqb b carriageReturn || eqb b lineFeed))
 
 -- the highest bit of a byte, by which it is marked
 abbrev pub highBit : ℕ

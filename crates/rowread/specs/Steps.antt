@@ -8,7 +8,7 @@ use lib.ListN.{length, take, drop, getD}
 use lib.Seq.{sets}
 use Rattle.base.specs.Little.{little, longBytes}
 use Rattle.base.specs.Number.{pick}
-use Rattle.csv.specs.Csv.{Record, quote, comma, lineFeed}
+use Rattle.csv.specs.Csv.{Record, quote, comma, carriageReturn, lineFeed}
 use Rattle.csv.specs.Read.{Got, got, bad, Row, row, malformed, values, inner, fieldAt}
 use Rattle.rowread.specs.declared.exact.Piece.{Piece}
 use Rattle.rowread.specs.declared.exact.Piece.the-variants.{Value, Bad}
@@ -66,14 +66,14 @@ IsRow malformed = ⊥
 
 -- ---- a row without quotes
 
--- a quote or LF, before which a line without quotes ends
-unfoldable pub isQuoteOrLf : ℕ → Bool
-isQuoteOrLf b = eqb b quote || eqb b lineFeed
+-- a quote, CR or LF, at which a line without quotes ends
+unfoldable pub isLineStop : ℕ → Bool
+isLineStop b = eqb b quote || (eqb b carriageReturn || eqb b lineFeed)
 
--- the bytes before the first quote or LF
+-- the bytes before the first quote, CR or LF
 unfoldable pub lineOf : List ℕ → List ℕ
 lineOf [] = []
-lineOf (b ∷ t) = pick (isQuoteOrLf b) [] (b ∷ lineOf t)
+lineOf (b ∷ t) = pick (isLineStop b) [] (b ∷ lineOf t)
 
 -- of bytes without quotes: how many are commas; the others; and where in these the values end, those that a comma follows, and all
 unfoldable pub commasIn : List ℕ → ℕ
@@ -91,11 +91,11 @@ cutsIn n (b ∷ v) = pick (eqb b comma) (n ∷ cutsIn n v) (cutsIn (n + 1) v)
 abbrev pub marksIn : ℕ → List ℕ → List ℕ
 marksIn n v = cutsIn n v ++ ((n + length (textIn v)) ∷ [])
 
-unfoldable pub anyQuoteOrLf : List ℕ → Bool
-anyQuoteOrLf [] = false
-anyQuoteOrLf (b ∷ v) = isQuoteOrLf b || anyQuoteOrLf v
+unfoldable pub anyLineStop : List ℕ → Bool
+anyLineStop [] = false
+anyLineStop (b ∷ v) = isLineStop b || anyLineStop v
 
--- the first p bytes were searched: they have no quote or LF and k commas, and `marks`, which were `slots`, have where the values before these end,
+-- the first p bytes were searched: they have no quote, CR or LF and k commas, and `marks`, which were `slots`, have where the values before these end,
 -- if there are slots for all
 pub record At (t slots marks : List ℕ) (p k : ℕ) : Type 0 where
   pub inside : p ≤ length t
@@ -104,9 +104,9 @@ pub record At (t slots marks : List ℕ) (p k : ℕ) : Type 0 where
   pub same : length marks ≡ length slots
   pub ends : k ≤ length slots → marks ≡ sets slots 0 (cutsIn 0 (take p t))
 
--- a quote or LF is at e
+-- a quote, CR or LF is at e
 abbrev pub StopAt : List ℕ → ℕ → Type 0
-StopAt t e = (e < length t) × (isQuoteOrLf (getD t e 0) ≡ true)
+StopAt t e = (e < length t) × (isLineStop (getD t e 0) ≡ true)
 
 -- eight bytes from i on were searched
 abbrev pub WordSearched : List ℕ → ℕ → ℕ → List ℕ → List ℕ → Found → Type 0

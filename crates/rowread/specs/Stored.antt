@@ -13,7 +13,7 @@ use Rattle.rowread.specs.declared.ReadAnswer.the-variants.{Stored, End, 
 
 -- ---- the row
 
--- the bytes that a row at an offset may have: a row that goes on after them is too long, and has no LF among them
+-- the bytes that a row at an offset may have: a row that goes on after them is too long, and has no row end among them. 02, E4: "both bytes counting in the 8,192"
 abbrev pub partAt : List ℕ → ℕ → List ℕ
 partAt table offset = take maxRow (drop offset table)
 

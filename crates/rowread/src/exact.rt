@@ -18,9 +18,15 @@ use crate::marks::load;
 use crate::unquote::unquote;
 use base::number::LONG_BYTES;
 use csv::COMMA;
+use csv::CR;
 use csv::LF;
 use csv::QUOTE;
 use leaf::bytes::get8;
+
+// How many bytes a row end has.
+const LF_SIZE: usize = 1;
+
+const CRLF_SIZE: usize = 2;
 
 // A value of size bytes; next is the offset after it.
 pub(crate) enum Piece {
@@ -38,14 +44,21 @@ pub(crate) enum Scan {
 fn is_text(b: u8) -> bool
     ensures { λ r. ⌜ r ≡ isText b ⌝ }
 {
-    !((b == QUOTE) | ((b == COMMA) | (b == LF)))
+    !((b == QUOTE) | ((b == COMMA) | ((b == CR) | (b == LF))))
 }
 
-// How many bytes the row end at an offset has, 0 if there is none.
+// How many bytes the row end at an offset has: LF, or CR and LF; 0 if there is none.
 pub(crate) fn row_end(t: &[u8], i: usize) -> usize
     ensures { λ r. ⌜ r ≡ rowEnd (drop i (now (t .entry))) ⌝ }
 {
-    if get8(t, i) == LF { 1 } else { 0 }
+    let b = get8(t, i);
+    if b == LF {
+        return LF_SIZE;
+    }
+    if b != CR {
+        return 0;
+    }
+    if get8(t, i + 1) == LF { CRLF_SIZE } else { 0 }
 }
 
 // The end of the value without quotes at an offset.

@@ -1,5 +1,5 @@
-// The fast path: a row without quotes. One search, eight bytes at a time, finds the first quote or LF and the commas before it. If that is an LF,
-// the values are copied block by block: a block may go past the end of its value, since the next value overwrites what is too much, and what the
+// The fast path: a row without quotes. One search, eight bytes at a time, finds the first quote, CR or LF and the commas before it. If a row
+// end is there, the values are copied block by block: a block may go past the end of its value, since the next value overwrites what is too much, and what the
 // last block overwrites after the row is saved before and put back.
 ghost use mathlib.Core.Path.{_≡_};
 ghost use Prim.Native.Nat.{_+_, _-_, _≤_, _<_};
@@ -25,7 +25,7 @@ pub(crate) enum Fast {
     Not,
 }
 
-// What a search found: the offset of the first quote or LF and how many commas are before it, or only commas.
+// What a search found: the offset of the first quote, CR or LF and how many commas are before it, or only commas.
 pub(crate) enum Found {
     Stop { end: usize, commas: usize },
     Commas(usize),
@@ -53,7 +53,7 @@ fn search_word(t: &[u8], i: usize, commas: usize, marks: &mut [usize]) -> Found
     Found::Commas(k)
 }
 
-// Searches the first quote or LF; where t ends within eight bytes it is not found.
+// Searches the first quote, CR or LF; where t ends within eight bytes it is not found.
 fn search_line(t: &[u8], marks: &mut [usize]) -> Found
     ensures { λ r. ⌜ LineFound (now (t .entry)) (now (marks .entry)) (now (marks .exit)) r ⌝ }
 {

@@ -8,6 +8,7 @@ ghost use Rattle.rowread.specs.Marks.{Bytes, isQuote, isDelimiter, HasMa
 use base::number::BYTE_BITS;
 use base::number::bytes_to_u64;
 use csv::COMMA;
+use csv::CR;
 use csv::LF;
 use csv::QUOTE;
 
@@ -24,6 +25,8 @@ const LOW_BITS: u64 = (HIGH_BIT - 1) * EACH;
 const QUOTES: u64 = (QUOTE as u64) * EACH;
 
 const COMMAS: u64 = (COMMA as u64) * EACH;
+
+const CRS: u64 = (CR as u64) * EACH;
 
 const LFS: u64 = (LF as u64) * EACH;
 
@@ -51,13 +54,13 @@ pub(crate) fn quotes_of(w: u64) -> u64
     !((((w & LOW_BITS) ^ QUOTES) + LOW_BITS) | w) & HIGH_BITS
 }
 
-// Marks on the bytes of w that are quotes, commas or LF.
+// Marks on the bytes of w that are quotes, commas, CR or LF.
 pub(crate) fn delimiters_of(w: u64) -> u64
     ensures { λ r. ⌜ MarksOf isDelimiter w r ⌝ }
 {
     let low = w & LOW_BITS;
-    !((((low ^ QUOTES) + LOW_BITS) & (((low ^ COMMAS) + LOW_BITS) & ((low ^ LFS) + LOW_BITS))) | w)
-        & HIGH_BITS
+    let cr_or_lf = ((low ^ CRS) + LOW_BITS) & ((low ^ LFS) + LOW_BITS);
+    !((((low ^ QUOTES) + LOW_BITS) & (((low ^ COMMAS) + LOW_BITS) & cr_or_lf)) | w) & HIGH_BITS
 }
 
 // How many binary digits x has. LLVM makes one instruction of the loop, as long as it is a function of its own.

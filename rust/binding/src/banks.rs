@@ -165,7 +165,8 @@ pub fn check_turn(region: &[u8], bank: u32, position: u32, crc: u32, n: u32) -> 
 }
 
 /// The row at an offset of a source's table, the names line being the one at 0: its
-/// values, joined, into the first bytes of `out`, and where each ends into `ends`.
+/// values, joined, into the first bytes of `out`, and where each ends into `ends`. A row
+/// ends in LF or CRLF.
 pub fn bank_row(
     region: &[u8],
     bank: u32,

@@ -179,7 +179,8 @@ impl Bank {
 
     /// The row at an offset of a source's table, none at the table's end: its
     /// values joined into `out`, and where each ends into `ends`. `MAX_ROW` bytes
-    /// and `MAX_COLUMNS` ends are enough for any.
+    /// and `MAX_COLUMNS` ends are enough for any. A row ends in LF or CRLF, which is in
+    /// no value; a CR outside quotes that no LF follows meets 14.
     pub fn row(
         &self,
         region: &[u8],
@@ -195,7 +196,7 @@ impl Bank {
     }
 
     /// The rows of a source's table after its names line. Each has a buffer of its
-    /// own, 8 KB; `row` reads into lent ones.
+    /// own, 8 KB; `row` reads into lent ones, and says what ends a row.
     pub fn rows<'a>(&self, region: &'a [u8], source: u32, table: u32) -> Rows<'a> {
         Rows::new(region, self.number, source, table)
     }
@@ -234,7 +235,8 @@ pub fn column_count(table: u32) -> Result<usize, Refusal> {
 }
 
 /// The row of `width` values at an offset of any rows, none at their end: its values
-/// joined into `out`, and where each ends into `ends`.
+/// joined into `out`, and where each ends into `ends`. A row ends in LF or CRLF, which
+/// is in no value; a CR outside quotes that no LF follows meets 14.
 pub fn read_row(
     table: &[u8],
     width: usize,

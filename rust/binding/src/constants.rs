@@ -30,7 +30,7 @@ pub const TABLES: usize = 8;
 pub const NO_TABLE: u32 = 8;
 /// The most columns of a table, and so the fewest `ends` that are enough for any.
 pub const MAX_COLUMNS: usize = 10;
-/// The longest row, with its LF; an `out` of this size is enough for any row.
+/// The longest row, with its row end; an `out` of this size is enough for any row.
 pub const MAX_ROW: usize = 8192;
 /// The longest key.
 pub const MAX_KEY: usize = 67_795;

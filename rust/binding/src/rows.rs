@@ -225,7 +225,7 @@ pub fn row(table: u32, values: Values, out: &mut [u8]) -> RowAnswer {
 }
 
 /// The row of `width` values at an offset of a stored table: the values joined into
-/// the first bytes of `out`, and where each ends into `ends`.
+/// the first bytes of `out`, and where each ends into `ends`. A row ends in LF or CRLF.
 pub fn read_row(
     table: &[u8],
     width: usize,

@@ -1,6 +1,7 @@
 use Rattle.csv.specs.Claims.{Claims}
-use Rattle.csv.proofs.Grammar.{writes, sound, complete, read-back, one-reading}
+use Rattle.csv.proofs.Grammar.{writes, sound, complete, read-back, one-reading, reads-crlf, lone-cr, lone-crs, text-unquoted}
 use Rattle.csv.proofs.Frame.{row-in-front, front-in-row}
+use Rattle.csv.proofs.Sizes.{not-longer}
 use Rattle.csv.proofs.rows_hold.Statement.{statement}
 use Rattle.csv.proofs.rows_hold.Tie as tie
 
@@ -13,6 +14,11 @@ claims = record {
   oneReading = λ bs r s vs ws p q. one-reading p q;
   inFront = λ n bs r vs q h. row-in-front n q h;
   ofAll = λ n bs s vs q. front-in-row n bs q;
+  readsCrlf = reads-crlf;
+  loneCr = λ n bs p. lone-cr n p;
+  loneCrs = lone-crs;
+  notLonger = not-longer;
+  textUnquoted = text-unquoted;
 }
 
 returns : tie.Need-returns

@@ -1,4 +1,4 @@
-use Rattle.rowread.proofs.Table.{reads-written, reads-table, stored-is-a-row}
+use Rattle.rowread.proofs.Table.{reads-written, reads-table, stored-is-a-row, reads-rows, small-outputs, refuses-others, reads-all, stored-limits, refuses-lone-cr}
 use Rattle.rowread.proofs.reads_hold.Statement.{statement}
 use Rattle.rowread.proofs.reads_hold.Tie as tie
 
@@ -8,6 +8,12 @@ returns c =
       readsWritten = reads-written;
       readsTable = reads-table;
       storedIsARow = stored-is-a-row;
+      readsRows = reads-rows;
+      smallOutputs = small-outputs;
+      refusesOthers = refuses-others;
+      readsAll = reads-all;
+      storedLimits = stored-limits;
+      refusesLoneCr = refuses-lone-cr;
     }
 
 pub reads-hold-spec : {M : Type 1} → statement M

@@ -12,7 +12,7 @@ use Rattle.csv.specs.Csv.{comma}
 use Rattle.csv.specs.Read.{values}
 use Rattle.rowread.specs.declared.exact.Scan.the-variants.{Broken}
 use Rattle.rowread.specs.Steps.{scanOf, scanFrom, slackOf}
-use Rattle.rowread.proofs.Laws.{IsValue, is-value, is-bad, scan-start, scan-zero, scan-turn, scan-no-comma, scan-bad, scan-last, scan-no-end, end-inside, past}
+use Rattle.rowread.proofs.Laws.{IsValue, is-value, is-bad, scan-start, scan-zero, scan-turn, scan-no-comma, scan-bad, scan-last, scan-no-end, end-fits, past}
 use Rattle.rowread.proofs.Quoted.{both-ways, written-length}
 use Rattle.rowread.proofs.Copies.{RowState, state-start, state-same, state-room, state-next, state-whole, state-broken, broken-row}
 use Rattle.rowread.proofs.exact.row.Statement.{statement}
@@ -144,7 +144,7 @@ returns-2 c =
 add-t20 : tie.Need-add-t20 Inv-loop μ-loop
 add-t20 c =
     let x = c .before .before .before .before in
-    omega (arith, end-inside (t x) (next x) (λ q. c .if3 .left (c .before .row-end .ensures ∙ q)), c .before .row-end .ensures)
+    omega (arith, end-fits (t x) (next x) (c .before .row-end .ensures) (c .if3 .left))
 
 same-length-5 : tie.Need-same-length-5 Inv-loop μ-loop
 same-length-5 c = state-same (state (c .before .before .before)) .0

@@ -6,7 +6,7 @@ use mathlib.Core.Path.{_≡_, sym, ap, _∙_}
 use lib.ListN.{length, take, length-take}
 use Rattle.rowread.specs.Steps.{lineOf, cutsIn}
 use Rattle.rowread.proofs.Lines.{line-stop, line-holds, text-size, cuts-size}
-use Rattle.rowread.proofs.Laws.{end-is}
+use Rattle.rowread.proofs.Laws.{end-fits}
 use Rattle.rowread.proofs.Blocks.{take-sets}
 use borrow.Author.Needs.{needs}
 use Rattle.rowread.proofs.line.fast_row.Statement.{statement}
@@ -104,7 +104,7 @@ add-t14 : tie.Need-add-t14
 add-t14 c =
     let t = c .before .before .before .before .before .before .before .before .before .before .before .before .before .before .before .before .before .before .before .before .before .before .before .before .args .t .now in
     let e = c .before .before .before .before .before .before .before .before .before .before .before .before .before .before .before .before .found .given .0 .0 in
-    omega (arith, end-is t e (c .before .before .before .before .before .before .before .before .before .before .before .before .before .before .row-end .ensures) (c .before .before .before .before .before .before .before .before .before .before .before .before .before .if1 .left) .1)
+    omega (arith, end-fits t e (c .before .before .before .before .before .before .before .before .before .before .before .before .before .before .row-end .ensures) (c .before .before .before .before .before .before .before .before .before .before .before .before .before .if1 .left))
 
 same-length : tie.Need-same-length
 same-length c = search needs
@@ -122,9 +122,8 @@ returns-8 c =
     let n = g .0 .1 .0 in
     let w = c .before .before .before .before .copy-line .ensures in
     let r = c .before .before .before .before .before .before .before .before .before .before .before .before .before .before .row-end in
-    let k = end-is t e (r .ensures) (c .before .before .before .before .before .before .before .before .before .before .before .before .before .if1 .left) in
     let l : e ≡ length (lineOf t) = line-stop t e (x .1 .0) (x .1 .1) ∙ sym (x .0 .line) in
-    rw (k .1) (line-holds t e n (s .args .width) (s .args .out .now) (s .args .ends .now) _ _ l (k .0) (x .0 .many) (c .before .before .before .before .before .before .before .before .before .before .before .before .if2 .left) (omega (arith, c .before .before .before .before .before .before .before .before .if6 .left)) (c .before .before .before .before .before .before .before .before .before .before .if4 .left) (w .0) (w .1))
+    line-holds t e (r .result) n (s .args .width) (s .args .out .now) (s .args .ends .now) _ _ l (r .ensures) (c .before .before .before .before .before .before .before .before .before .before .before .before .before .if1 .left) (x .0 .many) (c .before .before .before .before .before .before .before .before .before .before .before .before .if2 .left) (omega (arith, c .before .before .before .before .before .before .before .before .if6 .left)) (c .before .before .before .before .before .before .before .before .before .before .if4 .left) (w .0) (w .1)
 
 pub fast-row-spec : {M : Type 1} → statement M
 fast-row-spec =

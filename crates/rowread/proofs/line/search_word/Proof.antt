@@ -1,4 +1,4 @@
--- The invariant: the bytes before index d of the word were searched, and m has the marks from d on. A comma goes on; a quote or LF ends the search;
+-- The invariant: the bytes before index d of the word were searched, and m has the marks from d on. A comma goes on; a quote, CR or LF ends the search;
 -- with no mark left the whole word was searched.
 use Prim.Native.Nat.{ℕ, _+_, _-_, _≤_, _<_}
 use native.Mathlib.Omega.{arith}
