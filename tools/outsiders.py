@@ -277,23 +277,82 @@ def rows(program, rng):
     return bool(bad)
 
 
+ROW_ENDS = [b"\n", b"\r\n"]
+
+
+def plain(rng, count):
+    """Values without a quote, comma, CR or LF."""
+    return [bytes(rng.choice(b"abc 123:;") for _ in range(rng.choice([0, 1, 3, 8, rng.randrange(40)]))) for _ in range(count)]
+
+
+def stored(row, row_end, how):
+    """The row as Python's csv writes it, with this row end. It is asked for CRLF, since then every version of it quotes CR and LF."""
+    return written([row], lineterminator="\r\n", quoting=how)[:-2] + row_end
+
+
+def outside(raw):
+    """The offsets of a row at which a byte put in is outside quotes."""
+    quotes = 0
+    for i, byte in enumerate(raw):
+        if quotes % 2 == 0:
+            yield i
+        quotes += byte == ord('"')
+
+
+def long_rows():
+    """Rows of about 8,192 bytes, the last value with quotes and without: bytes, row end, and values."""
+    for size in range(LONGEST_ROW - 2, LONGEST_ROW + 3):
+        for row_end in ROW_ENDS:
+            for quote in (b"", b'"'):
+                value = b"x" * (size - len(b"a," + 2 * quote + row_end))
+                yield b"a," + quote + value + quote + row_end, [b"a", value]
+
+
 def stored_rows(program, rng):
-    """Rows that Python's csv wrote, also with quotes that aren't needed."""
-    cases = []
+    """Rows that Python's csv wrote, with CRLF and with LF, also with quotes that aren't needed; the same with a CR put in outside quotes; long rows."""
+    rows = []
     for _ in range(20000):
         width = rng.randrange(1, 12)
-        row, other = values(rng, width), values(rng, width)
-        how = rng.choice([csv.QUOTE_ALL, csv.QUOTE_MINIMAL])
-        if width == 1 and how == csv.QUOTE_MINIMAL:
-            how = csv.QUOTE_ALL
-        before, after = (written([r], lineterminator="\n", quoting=how) for r in (other, row))
-        # CR outside quotes is a byte of its field
-        place, end = len(before), len(before) + len(after)
-        table = hexadecimal(before + after + rng.choice([b"", before, b'"']))
-        cases.append(("read %s %d %d" % (table, width, place), " ".join(
-            [str(end)] + [hexadecimal(v) for v in row]) if len(after) <= LONGEST_ROW else "refusal 14"))
+        make = rng.choice([values, plain])
+        row, other = make(rng, width), make(rng, width)
+        how, row_end = rng.choice([csv.QUOTE_ALL, csv.QUOTE_MINIMAL]), rng.choice(ROW_ENDS)
+        before, raw = stored(other, rng.choice(ROW_ENDS), how), stored(row, row_end, how)
+        rows.append((before, raw, row, width))
+        at = rng.choice([i for i in outside(raw) if raw[i] != ord("\n")])
+        rows.append((before, raw[:at] + b"\r" + raw[at:], None, width))
+    rows += [(before, raw, row if len(raw) <= LONGEST_ROW else None, 2) for raw, row in long_rows() for before in (b"", b"b,c\r\n")]
+    cases = []
+    for before, raw, row, width in rows:
+        place, end = len(before), len(before) + len(raw)
+        table = hexadecimal(before + raw + rng.choice([b"", before, b'"', b"x" * 24]))
+        read = " ".join([str(end)] + [hexadecimal(v) for v in row]) if row else "refusal 14"
+        cases.append(("read %s %d %d" % (table, width, place), read))
         cases.append(("read %s %d %d" % (table, width + 1, place), "refusal 14"))
     return compare("stored rows by csv", program, cases)
+
+
+# RFC 4180, section 2: the examples of its rules 1 to 3 and 5 to 7, each a table of rows, with CRLF after each.
+ABC, XYZ = (b"aaa,bbb,ccc\r\n", [b"aaa", b"bbb", b"ccc"]), (b"zzz,yyy,xxx\r\n", [b"zzz", b"yyy", b"xxx"])
+RFC_EXAMPLES = [
+    [ABC, XYZ],
+    [(b"field_name,field_name,field_name\r\n", [b"field_name"] * 3), ABC, XYZ],
+    [(b'"aaa","bbb","ccc"\r\n', [b"aaa", b"bbb", b"ccc"]), XYZ],
+    [(b'"aaa","b\r\nbb","ccc"\r\n', [b"aaa", b"b\r\nbb", b"ccc"]), XYZ],
+    [(b'"aaa","b""bb","ccc"\r\n', [b"aaa", b'b"bb', b"ccc"])],
+]
+
+
+def rfc_examples(program, _):
+    """The RFC's own rows, at their offsets. Its rule 2, a last row without a row end, isn't document 01's: 14."""
+    cases = []
+    for table in RFC_EXAMPLES:
+        # twice, so that bytes follow each row
+        text, place = hexadecimal(b"".join(raw for raw, _ in table * 2)), 0
+        for raw, row in table:
+            cases.append(("read %s 3 %d" % (text, place), " ".join([str(place + len(raw))] + [hexadecimal(v) for v in row])))
+            place += len(raw)
+    cases.append(("read %s 3 0" % hexadecimal(b"zzz,yyy,xxx"), "refusal 14"))
+    return compare("RFC 4180's examples", program, cases)
 
 
 def filters(program, rng):
@@ -318,7 +377,7 @@ def filters(program, rng):
     return compare("filters by zlib's CRC", program, cases)
 
 
-PARTS = [published, crcs, dates, large_dates, new_dates, generations, numbers, keys, rows, stored_rows, filters]
+PARTS = [published, crcs, dates, large_dates, new_dates, generations, numbers, keys, rows, stored_rows, rfc_examples, filters]
 
 
 def main():

@@ -16,7 +16,7 @@ use lifted::{
 };
 use std::cell::RefCell;
 
-/// The longest row, with its LF.
+/// The longest row, with its row end.
 pub const LONGEST: usize = 8192;
 
 /// A flash that keeps what is written after bank 0's header sector.
@@ -169,10 +169,12 @@ fn ask(
     tally.same((core, out), rust, || describe(table, &cut(texts, lengths), room));
 }
 
-/// Rows with their values, to be read back as one table.
+/// Rows with their values, to be read back as one table; `crlf` has them with CRLF
+/// after each that isn't too long with it.
 pub struct Written {
     table: usize,
     bytes: Vec<u8>,
+    crlf: Vec<u8>,
     rows: Vec<Vec<Vec<u8>>>,
 }
 
@@ -181,18 +183,36 @@ impl Written {
         let mut bytes = vec![0; 200];
         let line = rows::names_line(table as u32, &mut bytes);
         bytes.truncate(line.length);
-        Self { table, bytes, rows: Vec::new() }
+        let mut written = Self { table, bytes: Vec::new(), crlf: Vec::new(), rows: Vec::new() };
+        written.extend(&bytes);
+        written
+    }
+    fn extend(&mut self, row: &[u8]) {
+        self.bytes.extend_from_slice(row);
+        match row {
+            [fields @ .., b'\n'] if row.len() < LONGEST => {
+                self.crlf.extend_from_slice(fields);
+                self.crlf.extend_from_slice(b"\r\n");
+            }
+            _ => self.crlf.extend_from_slice(row),
+        }
     }
     fn push(&mut self, row: &[u8], values: &[&[u8]]) {
-        self.bytes.extend_from_slice(row);
+        self.extend(row);
         self.rows.push(values.iter().map(|v| v.to_vec()).collect());
     }
     fn names(&self) -> Vec<Vec<u8>> {
         let columns = door::columns(Table::ALL[self.table]);
         columns.iter().map(|c| c.name().as_bytes().to_vec()).collect()
     }
-    /// Reads all back, by the core, by csv-core and by the Rust's own reader.
+    /// Reads all back, with LF and with CRLF.
     fn read_back(&mut self, tally: &mut Tally) {
+        self.read_table(tally, &self.bytes);
+        self.read_table(tally, &self.crlf);
+        *self = Self::new(self.table);
+    }
+    /// By the core, by csv-core and by the Rust's own reader.
+    fn read_table(&self, tally: &mut Tally, bytes: &[u8]) {
         let table = self.table;
         let input = |k: usize, by: &str, row: Option<&Vec<Vec<u8>>>| {
             let values: Vec<&[u8]> = row.map_or(Vec::new(), |r| r.iter().map(|v| &v[..]).collect());
@@ -202,7 +222,7 @@ impl Written {
         let mut place = 0;
         let names = self.names();
         for (k, values) in std::iter::once(&names).chain(&self.rows).enumerate() {
-            let (core, read) = values_at(&self.bytes, columns(table), place);
+            let (core, read) = values_at(bytes, columns(table), place);
             tally.same((core.refusal, core.found), (0, 1), || input(k, "the core", Some(values)));
             tally.same(&read, values, || input(k, "the core", Some(values)));
             if core.found == 0 {
@@ -210,25 +230,24 @@ impl Written {
             }
             place = core.next;
         }
-        let (core, _) = values_at(&self.bytes, columns(table), place);
+        let (core, _) = values_at(bytes, columns(table), place);
         tally.same((core.refusal, core.found), (0, 0), || input(0, "the core, the end", None));
-        tally.same(place, self.bytes.len(), || input(0, "the core, the end's place", None));
+        tally.same(place, bytes.len(), || input(0, "the core, the end's place", None));
         #[cfg(feature = "reader")]
         {
-            let read = crate::stored::csv_records(&self.bytes);
+            let read = crate::stored::csv_records(bytes);
             tally.same(read.len(), self.rows.len() + 1, || input(0, "csv-core, all", None));
             for (k, (read, values)) in read.iter().skip(1).zip(&self.rows).enumerate() {
                 tally.same(read, values, || input(k, "csv-core", Some(values)));
             }
             if self.rows.iter().flatten().all(|v| str::from_utf8(v).is_ok()) {
-                let read = crate::stored::lifted_records(&self.bytes, Table::ALL[table]);
+                let read = crate::stored::lifted_records(bytes, Table::ALL[table]);
                 tally.same(read.len(), self.rows.len(), || input(0, "the Rust, all", None));
                 for (k, (read, values)) in read.iter().zip(&self.rows).enumerate() {
                     tally.same(read, values, || input(k, "the Rust", Some(values)));
                 }
             }
         }
-        *self = Self::new(table);
     }
 }
 

@@ -8,8 +8,8 @@ use crate::{
 use bankcore::rows::{self, ReadAnswer, Values};
 use common::Random;
 
-/// The row at the front and its end, by document 01's sentences; none if it is
-/// malformed. Nothing here is the core's or the Rust's.
+/// The row at the front and its end, by document 01's sentences and request E4's;
+/// none if it is malformed. Nothing here is the core's or the Rust's.
 fn row_at(bytes: &[u8]) -> Option<(Vec<Vec<u8>>, usize)> {
     enum At {
         Begin,
@@ -37,6 +37,10 @@ fn row_at(bytes: &[u8]) -> Option<(Vec<Vec<u8>>, usize)> {
                 at = Begin;
             }
             (_, b'\n') => return Some((values, i + 1)),
+            // CRLF outside quotes is one row end; a CR without an LF after it is malformed
+            (_, b'\r') => {
+                return (bytes.get(i + 1) == Some(&b'\n')).then_some((values, i + 2));
+            }
             // a byte other than a comma or row end after a closing quote
             (Closed, _) => return None,
             _ => {
@@ -53,7 +57,7 @@ fn row_at(bytes: &[u8]) -> Option<(Vec<Vec<u8>>, usize)> {
 pub use judges::*;
 #[cfg(feature = "reader")]
 mod judges {
-    use csv_core::{ReadRecordResult, Reader, ReaderBuilder, Terminator};
+    use csv_core::{ReadRecordResult, Reader};
     use lifted::{
         cache::door,
         gtfs::{self, Table},
@@ -65,9 +69,7 @@ mod judges {
     use std::cell::RefCell;
 
     thread_local! {
-        static READER: RefCell<Reader> = RefCell::new(
-            ReaderBuilder::new().terminator(Terminator::Any(b'\n')).build(),
-        );
+        static READER: RefCell<Reader> = RefCell::new(Reader::new());
     }
 
     fn next(reader: &mut Reader, bytes: &[u8]) -> Option<(Vec<Vec<u8>>, usize)> {
@@ -85,11 +87,14 @@ mod judges {
         Some((ends[..count].iter().map(one).collect(), read))
     }
 
-    /// The row at the front by csv-core's reader, its row end set to LF.
+    /// The row at the front by csv-core's reader. It ends a row at CR, LF or CRLF, and
+    /// of a CRLF it takes the LF with the next read.
     pub fn csv_record(bytes: &[u8]) -> Option<(Vec<Vec<u8>>, usize)> {
         READER.with_borrow_mut(|reader| {
             reader.reset();
-            next(reader, bytes)
+            let (row, end) = next(reader, bytes)?;
+            let crlf = bytes[..end].ends_with(b"\r") && bytes[end..].starts_with(b"\n");
+            Some((row, end + usize::from(crlf)))
         })
     }
 
@@ -215,7 +220,7 @@ fn beside_csv(tally: &mut Tally, question: &Question, answer: ReadAnswer) {
     #[cfg(feature = "reader")]
     if answer.found == 1 {
         let bytes = &question.table[question.place..];
-        if bytes[0] != b'\n' && !bytes.starts_with(b"\xef\xbb\xbf") {
+        if !b"\r\n".contains(&bytes[0]) && !bytes.starts_with(b"\xef\xbb\xbf") {
             let (_, out, ends) = question.core();
             let mut from = 0;
             let one = |&to: &usize| {
@@ -232,7 +237,18 @@ fn beside_csv(tally: &mut Tally, question: &Question, answer: ReadAnswer) {
     let _ = (tally, question, answer);
 }
 
-/// Every table of up to n bytes, read at its start with widths 0 to 5.
+/// Bytes after a table, so that its rows can be read by blocks: the core's fast path
+/// needs 16 after the row, and 16 to spare in the output.
+const AFTER: [u8; 24] = [b'z'; 24];
+const SPARE: usize = 40;
+
+/// Bytes before the tables of at most this length, so that a CR is the last byte of a
+/// word of eight, and its LF the first of the next.
+const BEFORE: [u8; 7] = [b'b'; 7];
+const MOVED: usize = 5;
+
+/// Every table of up to n bytes, read at its start with widths 0 to 5; and again with
+/// bytes after it and a longer output, short ones also with bytes before them.
 fn short_tables(plan: &Plan, tally: &mut Tally) {
     const BYTES: [u8; 5] = *b"a\",\n\r";
     let longest = if plan.quick { 5 } else { 8 };
@@ -241,12 +257,16 @@ fn short_tables(plan: &Plan, tally: &mut Tally) {
         let mut at = vec![0; length];
         loop {
             let table: Vec<u8> = at.iter().map(|&i| BYTES[i]).collect();
-            let row = row_at(&table);
-            for width in 0..6 {
-                let question =
-                    Question { table: &table, width, place: 0, room: length + 1, slots: width };
-                let answer = question.ask(tally, row.as_ref());
-                beside_csv(tally, &question, answer);
+            let moved = if length > MOVED { 0 } else { BEFORE.len() };
+            let longer = |n: usize| ([&BEFORE[..n], &table, &AFTER].concat(), length + n + SPARE);
+            let longer: Vec<_> = (0..=moved).map(longer).collect();
+            for (table, room) in [(table, length + 1)].iter().chain(&longer) {
+                let (row, room) = (row_at(table), *room);
+                for width in 0..6 {
+                    let question = Question { table, width, place: 0, room, slots: width };
+                    let answer = question.ask(tally, row.as_ref());
+                    beside_csv(tally, &question, answer);
+                }
             }
             tables += 1;
             let Some(k) = (0..length).rev().find(|&k| at[k] + 1 < BYTES.len()) else {
@@ -275,17 +295,27 @@ fn word(random: &mut Random) -> Vec<u8> {
     (0..length).map(byte).collect()
 }
 
-/// A table as the core writes it, and then damaged.
+/// A table as the core writes it, some rows with CRLF instead, the names line too, and
+/// then damaged.
 fn table(random: &mut Random, number: usize) -> Vec<u8> {
     let mut out = vec![0; LONGEST];
     let line = rows::names_line(number as u32, &mut out);
-    let mut table = out[..line.length].to_vec();
+    let mut table = Vec::new();
+    let ends = random.pick(&[0, 0, 1, 2]);
+    let mut push = |random: &mut Random, row: &[u8]| {
+        table.extend_from_slice(row);
+        if !row.is_empty() && (ends == 1 || ends == 2 && random.once_in(2)) {
+            table.truncate(table.len() - 1);
+            table.extend_from_slice(b"\r\n");
+        }
+    };
+    push(random, &out[..line.length]);
     for _ in 0..random.below(6) {
         let values: Vec<Vec<u8>> = (0..columns(number)).map(|_| word(random)).collect();
         let lengths: Vec<u32> = values.iter().map(|v| v.len() as u32).collect();
         let handed = Values { texts: &values.concat(), lengths: &lengths };
         let row = rows::row(number as u32, handed, &mut out);
-        table.extend_from_slice(&out[..row.length]);
+        push(random, &out[..row.length]);
     }
     for _ in 0..random.pick(&[0, 1, 1, 1, 2, 3]) {
         let at = random.below(table.len() + 1);
@@ -327,7 +357,8 @@ impl Read {
         let width = if random.once_in(2) { width } else { random.pick(&widths) };
         let few = width.min(20);
         let short = [size.saturating_sub(1), 0, random.below(size + 1)];
-        let room = if random.once_in(4) { random.pick(&short) } else { size + random.below(3) };
+        let spare = random.pick(&[0, 1, 2, 15, 16, SPARE]);
+        let room = if random.once_in(4) { random.pick(&short) } else { size + spare };
         let slots = if random.once_in(8) { random.below(few + 1) } else { few + random.below(3) };
         Self { place, width, room, slots }
     }
@@ -393,8 +424,8 @@ impl Input for Stored {
 /// 14 and 9 at once: each way to be malformed with outputs that are too short,
 /// one, the other or both.
 fn at_once(tally: &mut Tally) {
-    let long = |n: usize| [&b"a,"[..], &vec![b'x'; n], b"\n"].concat();
-    let bad: [(&str, Vec<u8>, usize, usize); 9] = [
+    let long = |n: usize, end: &[u8]| [&b"a,"[..], &vec![b'x'; n], end].concat();
+    let bad: [(&str, Vec<u8>, usize, usize); 16] = [
         ("a quote in a field", b"a\"b,c\n".to_vec(), 2, 0),
         ("a byte behind a closing quote", b"\"a\"b,c\n".to_vec(), 2, 0),
         ("no row end", b"a,b".to_vec(), 2, 0),
@@ -403,26 +434,60 @@ fn at_once(tally: &mut Tally) {
         ("too many values", b"a,b\n".to_vec(), 1, 0),
         ("a width of 0", b"a\n".to_vec(), 0, 0),
         ("a place past the end", b"a,b\n".to_vec(), 2, 5),
-        ("8,193 bytes", long(LONGEST - 2), 2, 0),
+        ("8,193 bytes", long(LONGEST - 2, b"\n"), 2, 0),
+        ("8,193 bytes with CRLF", long(LONGEST - 3, b"\r\n"), 2, 0),
+        ("a CR at the table's end", b"a,b\r".to_vec(), 2, 0),
+        ("two CRs and an LF", b"a,b\r\r\n".to_vec(), 2, 0),
+        ("a CR before a comma", b"a\r,b\n".to_vec(), 2, 0),
+        ("a CR in a field", b"a\rb,c\n".to_vec(), 2, 0),
+        ("a CR behind a closing quote", b"\"a\"\rx,b\n".to_vec(), 2, 0),
+        ("a CR behind a closing quote, at the end", b"a,\"b\"\r".to_vec(), 2, 0),
     ];
-    for (what, table, width, place) in &bad {
+    let longer = |(what, table, width, place): &(&'static str, Vec<u8>, usize, usize)| {
+        let place = if *place > 0 { place + AFTER.len() } else { 0 };
+        (*what, [&table[..], &AFTER].concat(), *width, place)
+    };
+    for (what, table, width, place) in bad.iter().cloned().chain(bad.iter().map(longer)) {
         for (room, slots) in [(0, 0), (9000, 0), (0, 9), (9000, 9)] {
-            let question = Question { table, width: *width, place: *place, room, slots };
-            let row = table.get(*place..).and_then(row_at);
+            let question = Question { table: &table, width, place, room, slots };
+            let row = table.get(place..).and_then(row_at);
             let answer = question.ask(tally, row.as_ref());
             tally.same(answer.refusal, 14, || question.describe(what));
-            tally.count("sets of 14 with 9", usize::from(room == 0 || slots < *width));
+            tally.count("sets of 14 with 9", usize::from(room == 0 || slots < width));
         }
     }
-    // the longest row, and outputs that just fit and just don't
-    let table = long(LONGEST - 3);
-    let row = row_at(&table);
-    for room in [LONGEST - 2, LONGEST - 3, 0] {
-        for slots in [2, 1, 0] {
-            let question = Question { table: &table, width: 2, place: 0, room, slots };
-            let answer = question.ask(tally, row.as_ref());
-            let fits = room == LONGEST - 2 && slots == 2;
-            tally.same(answer.refusal, if fits { 0 } else { 9 }, || question.describe("longest"));
+    longest(tally);
+}
+
+/// The longest row with either row end, its last value with quotes or without, at the
+/// table's start or after a row, at the table's end or with bytes after it, into
+/// outputs that just fit and just don't; and the same row with a byte more.
+fn longest(tally: &mut Tally) {
+    for (end, quotes) in [(&b"\n"[..], ""), (b"\r\n", ""), (b"\n", "\""), (b"\r\n", "\"")] {
+        let row = |more: usize| {
+            let n = LONGEST + more - 2 - 2 * quotes.len() - end.len();
+            [b"a,", quotes.as_bytes(), &vec![b'x'; n], quotes.as_bytes(), end].concat()
+        };
+        let size = LONGEST - 1 - 2 * quotes.len() - end.len();
+        for (more, before, after) in (0..8).map(|i| (i & 1, i & 2, i & 4)) {
+            let before = if before > 0 { &b"b,c\r\n"[..] } else { b"" };
+            let after = if after > 0 { &AFTER[..] } else { b"" };
+            let table = [before, &row(more), after].concat();
+            let place = before.len();
+            let row = row_at(&table[place..]);
+            for (room, slots) in [size, size - 1, 0, size + SPARE]
+                .into_iter()
+                .flat_map(|room| [2, 1, 0].map(|slots| (room, slots)))
+            {
+                let question = Question { table: &table, width: 2, place, room, slots };
+                let answer = question.ask(tally, row.as_ref());
+                let right = match more {
+                    0 if room >= size && slots == 2 => 0,
+                    0 => 9,
+                    _ => 14,
+                };
+                tally.same(answer.refusal, right, || question.describe("longest"));
+            }
         }
     }
 }

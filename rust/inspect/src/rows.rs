@@ -66,6 +66,7 @@ type Row = (usize, Result<Vec<String>, Error>);
 
 /// The reader over a table's bytes.
 struct Rows<'a> {
+    bytes: &'a [u8],
     reader: Reader<Bytes<'a>>,
     taken: &'a Cell<usize>,
     columns: &'static [Column],
@@ -73,9 +74,11 @@ struct Rows<'a> {
 
 impl<'a> Rows<'a> {
     fn new(bytes: &'a [u8], taken: &'a Cell<usize>, t: Table) -> Self {
-        Self { reader: Reader::new(Bytes { bytes, taken }, t), taken, columns: door::columns(t) }
+        let reader = Reader::new(Bytes { bytes, taken }, t);
+        Self { bytes, reader, taken, columns: door::columns(t) }
     }
-    /// The next row's values, and its end.
+    /// The next row's values, and its end. The reader ends a row at a CR, and of a
+    /// CRLF takes the LF with the next row: that LF is stepped over here.
     fn next(&mut self) -> Option<(Result<Vec<String>, Error>, usize)> {
         let values = match block_on(self.reader.next()) {
             Ok(None) => return None,
@@ -85,7 +88,9 @@ impl<'a> Rows<'a> {
             }
             Err(error) => Err(error),
         };
-        Some((values, self.taken.get()))
+        let end = self.taken.get();
+        let crlf = self.bytes[..end].ends_with(b"\r") && self.bytes[end..].starts_with(b"\n");
+        Some((values, end + usize::from(crlf)))
     }
 }
 

@@ -125,6 +125,63 @@ fn read_back(flash: &Flash, bank: Bank, table: Table, rows: &[Vec<String>]) {
     let _ = (flash, bank, table, rows);
 }
 
+/// The lifted reader gives these rows of a table's bytes, if it is available.
+#[cfg(feature = "reader")]
+fn read_bytes(bytes: &[u8], table: Table, rows: &[Vec<String>]) {
+    use lifted::{
+        gtfs::csv::Reader,
+        standins::{
+            embedded_io_async::{ErrorType, Read},
+            run::block_on,
+        },
+    };
+    struct Bytes<'a>(&'a [u8]);
+    impl ErrorType for Bytes<'_> {
+        type Error = Error;
+    }
+    impl Read for Bytes<'_> {
+        async fn read(&mut self, out: &mut [u8]) -> std::result::Result<usize, Error> {
+            let n = out.len().min(self.0.len());
+            let (now, later) = self.0.split_at(n);
+            out[..n].copy_from_slice(now);
+            self.0 = later;
+            Ok(n)
+        }
+    }
+    let mut reader = Reader::<_>::new(Bytes(bytes), table);
+    for row in rows {
+        let record = block_on(reader.next()).expect("a row").expect("a row");
+        let value = |c: &_| record.get(*c).unwrap_or("").to_string();
+        assert_eq!(door::columns(table).iter().map(value).collect::<Vec<_>>(), *row);
+    }
+    assert!(block_on(reader.next()).expect("an end").is_none());
+}
+#[cfg(not(feature = "reader"))]
+fn read_bytes(_: &[u8], _: Table, _: &[Vec<String>]) {}
+
+/// The same tables with CRLF after each row, one after the other in a region.
+fn crlf_tables(out: &mut String, flash: &Flash, placed: &[Placed]) -> Result {
+    let mut region = Region::new(out, 255)?;
+    let mut from = 0;
+    let mut moved = Vec::new();
+    for Placed { table, rows, from: start, places } in placed {
+        let text = &flash.region.borrow()[SECTOR + *start as usize..];
+        let (mut bytes, mut at) = (Vec::new(), vec![0]);
+        for pair in places.windows(2) {
+            let row = &text[pair[0] as usize..pair[1] as usize];
+            bytes.extend_from_slice(&row[..row.len() - 1]);
+            bytes.extend_from_slice(b"\r\n");
+            at.push(bytes.len() as u32);
+        }
+        read_bytes(&bytes, *table, &rows[1..]);
+        region.bytes[SECTOR + from as usize..][..bytes.len()].copy_from_slice(&bytes);
+        moved.push(Placed { table: *table, rows: rows.clone(), from, places: at });
+        from += bytes.len() as u32;
+    }
+    region.write(out)?;
+    moved.iter().try_for_each(|placed| reads(out, placed))
+}
+
 /// Each row of a table as it was given, then the table's end.
 fn reads(out: &mut String, placed: &Placed) -> Result {
     let Placed { table, rows, from, places } = placed;
@@ -143,7 +200,7 @@ fn reads(out: &mut String, placed: &Placed) -> Result {
 }
 
 /// An update of every table, as the lifted `Writer` writes it; then each row as it
-/// was given, by the offset at which the writer began it.
+/// was given, by the offset at which the writer began it; and the same with CRLF.
 fn tables(out: &mut String, random: &mut Random) -> Result {
     let flash = Flash { identity: b"mdb-1078".to_vec(), ..Flash::default() };
     let config = settings::config(&[["7", "r", "c", "s", "n"]]).expect("one pick");
@@ -162,7 +219,7 @@ fn tables(out: &mut String, random: &mut Random) -> Result {
         read_back(&flash, bank, placed.table, &placed.rows[1..]);
         reads(out, placed)?;
     }
-    Ok(())
+    crlf_tables(out, &flash, &placed)
 }
 
 pub fn write(out: &mut String, random: &mut Random) -> Result {
