@@ -95,18 +95,19 @@ class Source:
 
     def __init__(self, start=20260101, end=20261231, updated=CHECKED - 90_000, tables=range(7),
                  city="Oslo", trips=12, identity=b"mdb-1078", stamp=b"202601020304",
-                 validator=b'\x12\x01"5f3e-61a2b3c4d5"'):
+                 validator=b'\x12\x01"5f3e-61a2b3c4d5"', texts=None):
         self.start, self.end, self.updated = start, end, updated
         self.tables, self.city, self.trips = list(tables), city, trips
         self.present = sum(1 << t for t in self.tables)
         self.original = [(0, 0)] * 8
         self.blocks = [(0, 0, 0)] * 8
         self.stamp, self.identity, self.validator = stamp, identity, validator
+        self.texts = texts or {}
 
     def lay(self, data):
         data += struct.pack("<II", self.start, self.end)
         for t in self.tables:
-            text = table(t, rows(t, self.city, self.trips))
+            text = self.texts.get(t) or table(t, rows(t, self.city, self.trips))
             self.blocks[t] = (len(data), len(text), zlib.crc32(text))
             whole = text + b"more rows of the whole feed\n" * (t + 1)
             self.original[t] = (zlib.crc32(whole), len(whole) * 100)
@@ -223,6 +224,28 @@ def full():
     bank.length, bank.crc = len(bank.data), zlib.crc32(bank.data)
     assert bank.length == CAPACITY
     return bank
+
+
+def crlf(text):
+    """A table's text with CRLF for each LF outside quotes."""
+    parts = text.split(b'"')
+    return b'"'.join(part.replace(b"\n", b"\r\n") if i % 2 == 0 else part for i, part in enumerate(parts))
+
+
+def depot():
+    """The tables of an office's export: rows end in CRLF, but for one names line and one last row."""
+    stops = rows(1, "Oslo", 0) + [("s4", "4104", "Quay\rEast"), ("s5", "4105", "Pier\r\nWest, gate 2")]
+    texts = {t: crlf(table(t, rows(t, "Oslo", 12))) for t in range(7)}
+    names = (COLUMNS[1] + "\n").encode()
+    texts[1] = names + crlf(table(1, stops)[len(names):])
+    texts[2] = texts[2][:-2] + b"\n"
+    return Source(texts=texts)
+
+
+def lone_cr():
+    """A stop whose name has a CR without quotes, between two others."""
+    first, second, third = rows(1, "Oslo", 0)
+    return Source(texts={1: table(1, [first]) + row(second).replace(b"Harbour", b"Har\rbour") + row(third)})
 
 
 def three_sources():
@@ -343,6 +366,10 @@ def contents():
         ("ticket-41", "a good header over mixed rows: the header alone would give bank 1, load refuses "
          "it; bank 0 holds the timetable last committed", *ticket(), OK, REFUSED[7], 0),
         ("full-bank", "487424 bytes of data", full(), ERASED, OK, REFUSED[3], 0),
+        ("crlf-rows", "a depot's tables: rows that end in CRLF, but for one names line and one last row; CR and CRLF "
+         "inside quotes", Bank(2, [depot()]), ERASED, OK, REFUSED[3], 0),
+        ("lone-cr", "a stop's name with a CR outside quotes: its row is malformed", Bank(2, [lone_cr()]), ERASED, OK,
+         REFUSED[3], 0),
         ("longest-key", "a key of 67795 bytes", Bank(2, words=key(LONG_IDENTITY, LONG_PICKS)), ERASED, OK,
          REFUSED[3], 0),
     ]

@@ -297,7 +297,7 @@ fn an_update_by_upper_calls_reads_back() {
 /// Every row, value by value, as the call with lent outputs reads it.
 #[test]
 fn rows_and_values_are_those_of_the_call() {
-    for name in ["two-good", "three-sources", "version-1", "ticket-41"] {
+    for name in ["two-good", "three-sources", "version-1", "ticket-41", "crlf-rows", "lone-cr"] {
         let image = sample(name);
         let bank = cache::load(&image).unwrap().unwrap();
         for (source, table) in (0..bank.count).flat_map(|s| (0..9).map(move |t| (s, t))) {
@@ -333,6 +333,38 @@ fn rows_and_values_are_those_of_the_call() {
     assert_eq!(bank.rows(&image, 9, 0).next(), Some(Err(Refusal::Source)));
     assert_eq!(bank.rows(&image[1..], 0, 0).next(), Some(Err(Refusal::Region)));
     assert!(cache::values(b"abc", &[2, 9, 1]).eq([&b"ab"[..], b"", b""]));
+}
+
+/// Rows that end in CRLF, by both ways to ask; and a lone CR.
+#[test]
+fn a_row_ends_in_lf_or_crlf() {
+    let image = sample("crlf-rows");
+    let bank = cache::load(&image).unwrap().unwrap();
+    let mut names = Vec::new();
+    for row in bank.rows(&image, 0, table::STOPS) {
+        names.push(row.unwrap().values().last().unwrap().to_vec());
+    }
+    assert_eq!(names[0], b"Central Station");
+    assert_eq!(names[3..], [&b"Quay\rEast"[..], b"Pier\r\nWest, gate 2"]);
+
+    let image = sample("lone-cr");
+    let bank = cache::load(&image).unwrap().unwrap();
+    let mut rows = bank.rows(&image, 0, table::STOPS);
+    assert!(rows.next().unwrap().is_ok());
+    assert_eq!(rows.next().map(|row| row.err()), Some(Some(Refusal::Row)));
+    assert!(rows.next().is_none());
+
+    let read = |bytes: &[u8]| {
+        let (mut out, mut ends) = ([7; 8], [7; 2]);
+        let row = cache::read_row(bytes, 2, 0, &mut out, &mut ends);
+        (row.map(|row| row.map(|row| (row.next, row.size))), out, ends)
+    };
+    let lent = [7; 8];
+    assert_eq!(read(b"a,b\r\nc"), (Ok(Some((5, 2))), *b"ab\x07\x07\x07\x07\x07\x07", [1, 2]));
+    assert_eq!(read(b"a,\"\r\n\"\r\n").0, Ok(Some((8, 3))));
+    for lone in [&b"a,b\r"[..], b"a,b\r\r\n", b"a\r,b\n", b"a,\"b\"\rx\n"] {
+        assert_eq!(read(lone), (Err(Refusal::Row), lent, [7; 2]));
+    }
 }
 
 /// Texts joined by the binding and those passed joined: the same answers, at the
