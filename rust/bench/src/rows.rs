@@ -27,6 +27,18 @@ struct Case {
 }
 
 impl Case {
+    /// The same rows, stored with CRLF. Only reading is timed of them.
+    fn with_crlf(mut self) -> Self {
+        let mut from = 0;
+        let mut table = Vec::new();
+        for size in &self.sizes {
+            table.extend_from_slice(&self.table[from..from + size - 1]);
+            table.extend_from_slice(b"\r\n");
+            from += size;
+        }
+        self.table = table;
+        self
+    }
     fn new(number: u32, row: impl Fn(&mut Random, usize) -> Vec<String>) -> Self {
         let mut random = Random::new(1);
         let values: Vec<Vec<Vec<u8>>> = (0..ROWS)
@@ -134,30 +146,37 @@ mod csv {
     }
 }
 
-/// The bytes that both write, and the values' ends that both read, row by row.
+/// The values' ends that both read, row by row. csv-core takes the LF of a CRLF with
+/// the next row.
+fn same_read(case: &Case) -> bool {
+    let mut reader = Reader::new();
+    let (mut out, mut other) = (vec![0; LONGEST], vec![0; LONGEST]);
+    let (mut ends, mut others) = ([0; 16], [0; 16]);
+    let (mut place, mut beside) = (0, 0);
+    let read = case.rows.iter().all(|(texts, _, _)| {
+        let answer = rows::read_row(&case.table, case.width, place, &mut out, &mut ends);
+        let (_, read, size, count) =
+            reader.read_record(&case.table[beside..], &mut other, &mut others);
+        place = answer.next;
+        beside += read;
+        let lf_left = place - beside;
+        lf_left <= 1
+            && (size, count) == (answer.size, case.width)
+            && out[..size] == other[..size]
+            && out[..size] == texts[..]
+            && ends[..count] == others[..count]
+    });
+    read && place == case.table.len()
+}
+
+/// The bytes that both write, and what both read.
 fn same(case: &Case) -> bool {
     let written = |run: fn(&Case) -> u64| {
         let length = run(case) as usize;
         case.out.borrow()[..length].to_vec()
     };
-    let mut reader = Reader::new();
-    let (mut out, mut other) = (vec![0; LONGEST], vec![0; LONGEST]);
-    let (mut ends, mut others) = ([0; 16], [0; 16]);
-    let mut place = 0;
-    let read = case.rows.iter().all(|(texts, _, _)| {
-        let answer = rows::read_row(&case.table, case.width, place, &mut out, &mut ends);
-        let (_, read, size, count) =
-            reader.read_record(&case.table[place..], &mut other, &mut others);
-        place += read;
-        (size, count) == (answer.size, case.width)
-            && out[..size] == other[..size]
-            && out[..size] == texts[..]
-            && ends[..count] == others[..count]
-    });
     let by_csv = written(csv::write);
-    read && place == case.table.len()
-        && written(core::write) == by_csv
-        && written(core::write_exactly) == by_csv
+    same_read(case) && written(core::write) == by_csv && written(core::write_exactly) == by_csv
 }
 
 fn texts<const N: usize>(values: [&str; N]) -> Vec<String> {
@@ -241,6 +260,10 @@ const WAYS: [(&str, [Run; 2]); 2] =
 /// Rows that are also written into outputs of their size, for information.
 const EXACT: [&str; 3] = ["Stops, a third quoted", "Trips", "long values, plain"];
 
+/// Rows that are also read with CRLF after them.
+const CRLF: [&str; 5] =
+    ["Routes", "Stops, a third quoted", "Trips", "StopTimes", "long values, plain"];
+
 pub fn lines(rounds: usize) -> Vec<Line> {
     let cases = cases();
     let all = WAYS.iter().flat_map(|way| cases.iter().map(move |case| (way, case)));
@@ -257,6 +280,16 @@ pub fn lines(rounds: usize) -> Vec<Line> {
             line
         }
     };
-    let tight = cases.iter().filter(|(name, _)| EXACT.contains(name));
-    all.map(line).chain(tight.map(exact)).collect()
+    let tight = cases.iter().filter(|(name, _)| EXACT.contains(name)).map(exact);
+    let crlf = |(name, case): (&str, Case)| {
+        let line = Line::new(format!("row read, CRLF: {name}"), "csv-core", Some(1.0));
+        if same_read(&case) {
+            line.timed([core::read, csv::read], &case, rounds, ROWS)
+        } else {
+            line
+        }
+    };
+    let stored = self::cases().into_iter().filter(|(name, _)| CRLF.contains(name));
+    let stored = stored.map(|(name, case)| (name, case.with_crlf())).map(crlf);
+    all.map(line).chain(tight).chain(stored).collect()
 }
