@@ -289,6 +289,10 @@ crlf-writes v (w ∷ ws) r = more (field-writes v (comma ∷ fieldsThen (carriag
 pub reads-crlf : (v : List ℕ) (vs : List (List ℕ)) (r : List ℕ) → values (length (v ∷ vs)) (fieldsThen (carriageReturn ∷ lineFeed ∷ r) (v ∷ vs)) ≡ row (v ∷ vs) r
 reads-crlf v vs r = complete (crlf-writes v vs r)
 
+pub in-numbers : values 2 (97 ∷ 44 ∷ 34 ∷ 34 ∷ 13 ∷ 10 ∷ 120 ∷ []) ≡ row ((97 ∷ []) ∷ [] ∷ []) (120 ∷ [])
+unfolding values fieldAt plainValue plainRest isText inner closing parted ended rowEnd
+in-numbers = refl
+
 -- ---- a CR without an LF after it
 
 end-lone : (r : List ℕ) → (getD r 0 0 ≡ lineFeed → ⊥) → rowEnd (carriageReturn ∷ r) ≡ 0

@@ -1,7 +1,7 @@
--- What is proved of the grammar, the writing and the reading (proofs/Grammar.antt, proofs/Frame.antt, proofs/Sizes.antt).
+-- What is proved of the grammar, the writing and the reading (proofs/Grammar.antt, proofs/Frame.antt, proofs/Ends.antt, proofs/Sizes.antt).
 use Prim.Native.Nat.{ℕ, _+_, _-_, _≤_}
 use mathlib.Core.Path.{_≡_}
-use mathlib.Core.List.{List, _∷_, _++_}
+use mathlib.Core.List.{List, [], _∷_, _++_}
 use lib.ListN.{length, take, drop, getD}
 use mathlib.Core.Bool.{not}
 use Rattle.csv.specs.Csv.{Record, LoneCr, isText, carriageReturn, lineFeed}
@@ -11,6 +11,12 @@ use Rattle.csv.specs.Read.{row, malformed, values}
 -- bytes, a value, or what follows it
 abbrev Text : Type 0
 Text = List ℕ
+
+-- the last byte, 0 if there is none
+unfoldable pub lastOf : Text → ℕ
+lastOf [] = 0
+lastOf (b ∷ []) = b
+lastOf (b ∷ c ∷ bs) = lastOf (c ∷ bs)
 
 pub record Claims : Type 0 where
   -- what is written is in the grammar, whatever follows it
@@ -28,6 +34,13 @@ pub record Claims : Type 0 where
   pub ofAll : (n : ℕ) (bs s : Text) (vs : List Text) → Record (take n bs) vs s → Record bs vs (s ++ drop n bs)
   -- 02, E4: a row that ends in CRLF reads as its values, and what follows both bytes is what follows the row
   pub readsCrlf : (v : Text) (vs : List Text) (rest : Text) → values (length (v ∷ vs)) (fieldsThen (carriageReturn ∷ lineFeed ∷ rest) (v ∷ vs)) ≡ row (v ∷ vs) rest
+  -- 02, E4: "take CRLF outside quotes as one row end, beside LF": bytes that an LF makes a row, a CRLF makes the same row, however their values are
+  -- quoted, and the reverse. (An LF after a CR would make a CRLF already.)
+  pub lfToCrlf : (n : ℕ) (bs : Text) (vs : List Text) (rest : Text) → (lastOf bs ≡ carriageReturn → ⊥) → values n (bs ++ (lineFeed ∷ rest)) ≡ row vs rest
+      → values n (bs ++ (carriageReturn ∷ lineFeed ∷ rest)) ≡ row vs rest
+  pub crlfToLf : (n : ℕ) (bs : Text) (vs : List Text) (rest : Text) → values n (bs ++ (carriageReturn ∷ lineFeed ∷ rest)) ≡ row vs rest → values n (bs ++ (lineFeed ∷ rest)) ≡ row vs rest
+  -- the same in numbers: `a`, comma, `""`, CR, LF, and a byte after them
+  pub inNumbers : values 2 (97 ∷ 44 ∷ 34 ∷ 34 ∷ 13 ∷ 10 ∷ 120 ∷ []) ≡ row ((97 ∷ []) ∷ [] ∷ []) (120 ∷ [])
   -- 02, E4: "A CR outside quotes without an LF after it is malformed", whatever number of values is asked for
   pub loneCr : (n : ℕ) (bs : Text) → LoneCr bs → values n bs ≡ malformed
   -- there are such bytes: whatever the values are, and whatever follows the CR, if it doesn't begin with LF
