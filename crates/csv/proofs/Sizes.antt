@@ -51,6 +51,11 @@ field-size (escaped {bs = bs} {v = v} {r = r} q) = go (anySpecial v)
     go false = omega (arith, inner-size q, doubled-more v)
 field-size (nonEscaped {v = v} q) = rw (plain-special q) (omega (arith, plain-size q))
 
+-- a value has no more bytes than its field
+pub value-size : {bs v r : List ℕ} → Field bs v r → length v + length r ≤ length bs
+value-size (escaped {v = v} q) = omega (arith, inner-size q, doubled-more v)
+value-size (nonEscaped q) = omega (arith, plain-size q)
+
 end-size : {e r : List ℕ} → RowEnd e r → suc (length r) ≤ length e
 end-size lf = omega arith
 end-size crlf = omega arith

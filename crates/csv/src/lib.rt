@@ -1,4 +1,6 @@
-// Rows by RFC 4180: delimiters and limits. The function does nothing: its contract is what is proved of the definitions.
+// Rows by RFC 4180: delimiters and limits.
+ghost use mathlib.Core.Path.{_≡_};
+ghost use Rattle.csv.specs.Csv.{isText};
 ghost use Rattle.csv.specs.Claims.{Claims};
 
 pub const QUOTE: u8 = 34;
@@ -15,6 +17,14 @@ pub const MAX_ROW: usize = 8192;
 // The most columns of a table.
 pub const MAX_COLUMNS: usize = 10;
 
+// Whether a byte may be in a field without quotes.
+pub fn is_text(b: u8) -> bool
+    ensures { λ r. ⌜ r ≡ isText b ⌝ }
+{
+    !((b == QUOTE) | ((b == COMMA) | ((b == CR) | (b == LF))))
+}
+
+// What holds of the grammar. The function does nothing: its contract is what is proved of the definitions.
 pub fn rows_hold()
     ensures { λ _. ⌜ Claims ⌝ }
 {}

@@ -13,7 +13,9 @@ use Rattle.csv.proofs.Grammar.{sound, field-complete, comma-stops, ends, last-r
 use Rattle.csv.proofs.Offsets.{field-offset}
 use Rattle.rowread.specs.declared.exact.Scan.the-variants.{Whole, Broken}
 use Rattle.rowread.specs.Stored.{valuesOf, joined, endsOf}
-use Rattle.rowread.specs.Steps.{valueOf, restOf, scanFrom, scanOf, IsRow, Ahead, Written, FieldRoom, RowRoom, RowWritten}
+use mathlib.Core.Logic.{_⊎_, inl, inr}
+use Rattle.csv.proofs.Sizes.{value-size}
+use Rattle.rowread.specs.Steps.{valueOf, restOf, scanFrom, scanOf, IsRow, Ahead, Filled, Ample, Fitting, FieldRoom, RowRoom, RowWritten}
 use Rattle.rowread.proofs.Laws.{IsValue}
 
 -- ---- the values of a row, one by one
@@ -150,53 +152,76 @@ module _ {b : ℕ} {t out₀ ends₀ : List ℕ} {width : ℕ} {out ends : List 
 
 -- ---- both passes
 
--- a row that is written can't be malformed
-pub row-sound : (b : ℕ) (write : Bool) (t : List ℕ) (width : ℕ) (out ends : List ℕ) → RowRoom b write t width out ends → Broken ≡ scanOf width t → write ≡ true → ⊥
+-- a row can't be malformed
+row-sound : (t : List ℕ) (width : ℕ) → Broken ≡ scanOf width t → IsRow (values width t) → ⊥
 unfolding scanOf
-row-sound b write t width out ends r e w = go (values width t) (r w .0) e
+row-sound t width e i = go (values width t) i e
   where
     go : (g : Row) → IsRow g → Broken ≡ scanFrom (length t) 0 g → ⊥
     go malformed i f = i
     go (row vs s) i f = let z : _≡_ {A = ℕ} 0 1 = cc in omega arith
 
-pub broken-row : {b : ℕ} {write : Bool} {t : List ℕ} {width : ℕ} {out ends o s : List ℕ} → RowRoom b write t width out ends → Broken ≡ scanOf width t → (write ≡ false → (o ≡ out) × (s ≡ ends)) → RowWritten b write t width out ends o s
-broken-row {b} {write} {t} {width} {out} {ends} r e f = record { kept = f; ahead = λ w. absurd (row-sound b write t width out ends r e w) }
+pub broken-row : {b : ℕ} {write : Bool} {t : List ℕ} {width : ℕ} {out ends o s : List ℕ} → Broken ≡ scanOf width t → (write ≡ false → (o ≡ out) × (s ≡ ends)) → length o ≡ length out → length s ≡ length ends
+    → RowWritten b write t width out ends o s
+broken-row {t = t} {width = width} e f l m = record { kept = f; same = l; alike = m; ahead = λ w i. absurd (row-sound t width e i) }
+
+-- the values of a row have no more bytes than it
+pub joined-size : {bs r : List ℕ} {vs : List (List ℕ)} → Record bs vs r → length (joined vs) ≤ length bs
+unfolding joined
+joined-size (last {v = v} f e) = omega (arith, value-size f, length-append v [])
+joined-size (more {v = v} {w = w} {ws = ws} f g) = omega (arith, value-size f, joined-size g, length-append v (joined (w ∷ ws)))
+
+-- so they fit where all of t does
+row-fits : (b : ℕ) (t : List ℕ) (width : ℕ) (out : List ℕ) → (IsRow (values width t) × (length (joined (valuesOf (values width t))) + b ≤ length out)) ⊎ Ample b t out → IsRow (values width t)
+    → length (joined (valuesOf (values width t))) + b ≤ length out
+row-fits b t width out (inl x) i = x .1
+row-fits b t width out (inr y) i = go (values width t) refl i
+  where
+    go : (g : Row) → values width t ≡ g → IsRow g → length (joined (valuesOf g)) + b ≤ length out
+    go malformed q i = absurd i
+    go (row vs r) q i = omega (arith, y, joined-size (sound width t vs r q .0))
 
 pub record RowState (b : ℕ) (write : Bool) (t : List ℕ) (width : ℕ) (out₀ ends₀ out ends : List ℕ) (from to k : ℕ) : Type 0 where
   pub kept : write ≡ false → (out ≡ out₀) × (ends ≡ ends₀)
-  pub left : write ≡ true → Left b t out₀ ends₀ width out ends from to k
+  pub same : length out ≡ length out₀
+  pub alike : length ends ≡ length ends₀
+  pub left : write ≡ true → IsRow (values width t) → Left b t out₀ ends₀ width out ends from to k
 
 pub state-start : (b : ℕ) (write : Bool) (t : List ℕ) (width : ℕ) (out ends : List ℕ) → RowRoom b write t width out ends → RowState b write t width out ends out ends 0 0 0
-state-start b write t width out ends r = record { kept = λ w. (refl, refl); left = λ w. let x = r w in left-all b t out ends width (x .0) (x .1) }
+state-start b write t width out ends r = record { kept = λ w. (refl, refl); same = refl; alike = refl; left = λ w i. left-all b t out ends width i (row-fits b t width out (r w .0) i) }
 
 module _ {b : ℕ} {write : Bool} {t : List ℕ} {width : ℕ} {out₀ ends₀ out ends : List ℕ} {from to k : ℕ} (s : RowState b write t width out₀ ends₀ out ends from to k) where
-  pub state-same : (length out ≡ length out₀) × (length ends ≡ length ends₀)
-  state-same = go write refl
+  pub state-room : RowRoom b write t width out₀ ends₀ → k < width → FieldRoom b write t from out to
+  state-room r h w = go (r w .0)
     where
-      go : (w : Bool) → write ≡ w → (length out ≡ length out₀) × (length ends ≡ length ends₀)
-      go true e = (s .left e .same, s .left e .alike)
-      go false e = (ap length (s .kept e .0), ap length (s .kept e .1))
+      go : (IsRow (values width t) × (length (joined (valuesOf (values width t))) + b ≤ length out₀)) ⊎ Ample b t out₀ → Fitting b out to (fieldAt (drop from t)) ⊎ Ample b t out
+      go (inl x) = let l = s .left w (x .0) in inl (here-got l h, here-fits l h)
+      go (inr y) = inr (omega (arith, y, s .same))
 
-  pub state-room : k < width → FieldRoom b write t from out to
-  state-room h w = let l = s .left w in (here-got l h, here-fits l h)
-
-  pub state-next : k < width → (o m : List ℕ) {next size : ℕ} (end : ℕ) → IsValue t from next size → end ≡ to + size → Written b write out to (valueOf (fieldAt (drop from t))) o
+  pub state-next : k < width → (o m : List ℕ) {next size : ℕ} (end : ℕ) → IsValue t from next size → end ≡ to + size → Filled b write out to (fieldAt (drop from t)) o
       → (write ≡ false → m ≡ ends) × (write ≡ true → m ≡ set ends k end) → RowState b write t width out₀ ends₀ o m (next + 1) end (k + 1)
   state-next h o m {next} {size} end v e w p =
       let z : length (valueOf (fieldAt (drop from t))) ≡ size = ap (λ (g : Got). length (valueOf g)) (v .read) ∙ v .sized in
+      let i = is-got (fieldAt (drop from t)) (v .value) (drop next t) (v .read) in
       record {
         kept = λ f. (w .kept f ∙ s .kept f .0, p .0 f ∙ s .kept f .1);
-        left = λ f. rw (p .1 f) (left-next (s .left f) h o next end (v .value) (w .ahead f) (v .inside) (v .read) (omega (arith, e, z)));
+        same = w .same ∙ s .same;
+        alike = ends-length write refl ∙ s .alike;
+        left = λ f r. rw (p .1 f) (left-next (s .left f r) h o next end (v .value) (w .ahead f i) (v .inside) (v .read) (omega (arith, e, z)));
       }
+    where
+      ends-length : (x : Bool) → write ≡ x → length m ≡ length ends
+      ends-length true f = ap length (p .1 f) ∙ length-set ends k end
+      ends-length false f = ap length (p .0 f)
 
   -- all values are written, or there is no row
   pub state-whole : width ≤ k → (next : ℕ) → Whole next to ≡ scanOf width t → RowWritten b write t width out₀ ends₀ out ends
   unfolding scanOf
-  state-whole h next e = record { kept = s .kept; ahead = λ w. left-none (s .left w) h (go (values width t) e) }
+  state-whole h next e = record { kept = s .kept; same = s .same; alike = s .alike; ahead = λ w i. left-none (s .left w i) h (go (values width t) e) }
     where
       go : (g : Row) → Whole next to ≡ scanFrom (length t) 0 g → to ≡ length (joined (valuesOf g))
       go malformed f = absurd (let z : _≡_ {A = ℕ} 0 1 = cc in omega arith)
       go (row vs r) f = let z : to ≡ 0 + length (joined vs) = cc in omega (arith, z)
 
-  pub state-broken : RowRoom b write t width out₀ ends₀ → Broken ≡ scanOf width t → RowWritten b write t width out₀ ends₀ out ends
-  state-broken r e = record { kept = s .kept; ahead = λ w. absurd (row-sound b write t width out₀ ends₀ r e w) }
+  pub state-broken : Broken ≡ scanOf width t → RowWritten b write t width out₀ ends₀ out ends
+  state-broken e = broken-row e (s .kept) (s .same) (s .alike)

@@ -8,3 +8,4 @@ pub mod Quoted
 pub mod Copies
 pub mod Calls
 pub mod Table
+pub mod Short

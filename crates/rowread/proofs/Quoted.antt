@@ -16,7 +16,8 @@ use Rattle.csv.specs.Read.{Got, got, bad, push, inner}
 use Rattle.rowread.specs.declared.exact.Piece.the-variants.{Value, Bad}
 use Rattle.base.specs.Little.{little}
 use Rattle.rowread.specs.Marks.{marks, Marks, isQuote, firstMark, cleared, since, FirstOf, ClearedOf}
-use Rattle.rowread.specs.Steps.{pieceOf, valueOf, IsGot, prefixed, Written, Room, Grid, Turned, Unquoting}
+use mathlib.Core.Logic.{_⊎_, inl, inr}
+use Rattle.rowread.specs.Steps.{pieceOf, valueOf, IsGot, prefixed, Written, Filled, Ample, Fitting, Room, Grid, Turned, Unquoting}
 use Rattle.rowread.proofs.Laws.{inner-byte, inner-twice, inner-close, inner-out, past}
 use Rattle.rowread.proofs.Search.{since-zero, since-marks, FirstAt, first-at, cleared-at, none-since, word-eight, byte-of}
 use Rattle.rowread.proofs.Blocks.{ahead-none, ahead-more, ahead-block}
@@ -212,6 +213,16 @@ written-length {b} {write} {out} {v} {o} {to} a = go write refl
     go true e = a .ahead e .0
     go false e = ap length (a .kept e)
 
+pub filled : {b : ℕ} {write : Bool} {out o : List ℕ} {to : ℕ} (g : Got) → Written b write out to (valueOf g) o → Filled b write out to g o
+filled g a = record { kept = a .kept; same = written-length a; ahead = λ w i. a .ahead w }
+
+pub filled-weaker : {write : Bool} {out o : List ℕ} {to : ℕ} {g : Got} (b : ℕ) → Filled 0 write out to g o → Filled b write out to g o
+filled-weaker b a = record { kept = a .kept; same = a .same; ahead = λ w i. let x = a .ahead w i in (x .0, λ rest h. x .1 rest (omega arith)) }
+
+-- where there is no value nothing is said of what was written
+pub filled-bad : {b : ℕ} {write : Bool} {out o : List ℕ} {to : ℕ} → (write ≡ false → o ≡ out) → length o ≡ length out → Filled b write out to bad o
+filled-bad k l = record { kept = k; same = l; ahead = λ w i. absurd (let z : _≡_ {A = ℕ} 0 1 = cc in omega arith) }
+
 pub prefixed-got : (v : List ℕ) (g : Got) → IsGot (prefixed v g) → IsGot g × (valueOf (prefixed v g) ≡ v ++ valueOf g)
 prefixed-got v (got w r) e = (refl, refl)
 prefixed-got v bad e = absurd (let z : _≡_ {A = ℕ} 0 1 = cc in omega arith)
@@ -237,20 +248,23 @@ module _ {b : ℕ} {write : Bool} {t : List ℕ} {from : ℕ} {out : List ℕ} {
 
   -- the value ends with w
   pub un-whole : (w : List ℕ) (q size : ℕ) (r : List ℕ) → inner (drop p t) ≡ got w (drop q t) → q ≤ length t → to + size ≡ n + length w → Written b write o n w r
-      → (Value q size ≡ pieceOf (length t) (inner (drop from t))) × Written b write out to (valueOf (inner (drop from t))) r
+      → (Value q size ≡ pieceOf (length t) (inner (drop from t))) × Filled b write out to (inner (drop from t)) r
   un-whole w q size r e h m c =
       let f : inner (drop from t) ≡ got (u .value ++ w) (drop q t) = u .on ∙ ap (prefixed (u .value)) e in
       let z : length t - length (drop q t) ≡ q = omega (arith, length-drop q t) in
       let y : length (u .value ++ w) ≡ size = omega (arith, m, u .upto, length-append (u .value) w) in
-      (rw (f, z, y), rw f (written-more (u .written) (u .upto) c))
+      (rw (f, z, y), rw f (filled (got (u .value ++ w) (drop q t)) (written-more (u .written) (u .upto) c)))
 
   -- what is left of a value that fits
   pub un-room : Room b write t from out to → Room b write t p o n
-  un-room r w =
-      let x = r w in
-      let g = prefixed-got (u .value) (inner (drop p t)) (rw (u .on) at (x .0)) in
-      let v : valueOf (inner (drop from t)) ≡ u .value ++ valueOf (inner (drop p t)) = ap valueOf (u .on) ∙ g .1 in
-      (g .0, omega (arith, x .1, u .upto, ap length v, length-append (u .value) (valueOf (inner (drop p t))), un-length))
+  un-room r w = go (r w)
+    where
+      go : Fitting b out to (inner (drop from t)) ⊎ Ample b t out → Fitting b o n (inner (drop p t)) ⊎ Ample b t o
+      go (inl x) =
+          let g = prefixed-got (u .value) (inner (drop p t)) (rw (u .on) at (x .0)) in
+          let v : valueOf (inner (drop from t)) ≡ u .value ++ valueOf (inner (drop p t)) = ap valueOf (u .on) ∙ g .1 in
+          inl (g .0, omega (arith, x .1, u .upto, ap length v, length-append (u .value) (valueOf (inner (drop p t))), un-length))
+      go (inr y) = inr (omega (arith, y, un-length))
 
 pub both-ways : (w : Bool) → w ≡ true → w ≡ false → ⊥
 both-ways w e f = let x : true ≡ false = sym e ∙ f in absurd (let z : _≡_ {A = ℕ} 0 1 = cc in omega arith)
@@ -274,46 +288,64 @@ pub byte-twice : (t : List ℕ) (p q : ℕ) → p < length t → getD t p 0 ≡ 
 byte-twice t p q h a d e = rw e (record { read = inner-twice t p h a d ∙ push-is quote (inner (drop (p + 1 + 1) t)) ∙ ap (λ (x : ℕ). prefixed (x ∷ []) (inner (drop (p + 1 + 1) t))) (sym a); grows = omega arith; inside = omega (arith, past t (p + 1) 33 d) })
 
 -- a value that fits has a place for it
-pub byte-fits : (b : ℕ) (write : Bool) {t : List ℕ} {p q : ℕ} (o : List ℕ) (n : ℕ) → ByteAt t p q → Room b write t p o n → write ≡ true → n < length o
-byte-fits b write {t} {p} {q} o n a r w =
-    let x = r w in
-    let g = prefixed-got (getD t p 0 ∷ []) (inner (drop q t)) (rw (a .read) at (x .0)) in
-    omega (arith, x .1, ap (λ (z : Got). length (valueOf z)) (a .read), ap length (g .1))
+pub byte-fits : (b : ℕ) (write : Bool) {t : List ℕ} {p q : ℕ} (o : List ℕ) (n : ℕ) → ByteAt t p q → n ≤ p → Room b write t p o n → write ≡ true → n < length o
+byte-fits b write {t} {p} {q} o n a l r w = go (r w)
+  where
+    go : Fitting b o n (inner (drop p t)) ⊎ Ample b t o → n < length o
+    go (inl x) =
+        let g = prefixed-got (getD t p 0 ∷ []) (inner (drop q t)) (rw (a .read) at (x .0)) in
+        omega (arith, x .1, ap (λ (z : Got). length (valueOf z)) (a .read), ap length (g .1))
+    go (inr y) = omega (arith, y, l, a .grows, a .inside)
+
+-- a block fits, wherever the value ends
+pub block-fits : (write : Bool) (t : List ℕ) (p : ℕ) (o : List ℕ) (n : ℕ) → n ≤ p → p ≤ length t → Room 16 write t p o n → write ≡ true → n + 16 ≤ length o
+block-fits write t p o n l h r w = go (r w)
+  where
+    go : Fitting 16 o n (inner (drop p t)) ⊎ Ample 16 t o → n + 16 ≤ length o
+    go (inl x) = omega (arith, x .1)
+    go (inr y) = omega (arith, y)
 
 module _ {b : ℕ} {write : Bool} {t : List ℕ} {from : ℕ} {out : List ℕ} {to : ℕ} {o : List ℕ} {p n : ℕ} (u : Unquoting b write t from out to o p n) where
   pub un-byte : (q : ℕ) (r : List ℕ) → ByteAt t p q → Written b write o n (getD t p 0 ∷ []) r → Unquoting b write t from out to r q (n + 1)
   un-byte q r a c = un-more u (getD t p 0 ∷ []) q (n + 1) r (a .read) (omega (arith, a .grows)) (a .inside) refl c
 
   -- no closing quote: there is no value
-  pub un-bad : Room b write t from out to → length t ≤ p → (Bad ≡ pieceOf (length t) (inner (drop from t))) × Written b write out to (valueOf (inner (drop from t))) o
-  un-bad r h =
-      let i : inner (drop p t) ≡ bad = inner-out t p h in
-      let e : inner (drop from t) ≡ bad = u .on ∙ ap (prefixed (u .value)) i in
-      (rw e, rw e (record { kept = u .written .kept; ahead = λ w. absurd (let x = rw i at (un-room u r w .0) in let z : _≡_ {A = ℕ} 0 1 = cc in omega arith) }))
+  pub un-bad : length t ≤ p → (Bad ≡ pieceOf (length t) (inner (drop from t))) × Filled b write out to (inner (drop from t)) o
+  un-bad h =
+      let e : inner (drop from t) ≡ bad = u .on ∙ ap (prefixed (u .value)) (inner-out t p h) in
+      (rw e, rw e (filled-bad (u .written .kept) (un-length u)))
 
 -- ---- the rest of the value, read by itself
 
 pub room-weaker : (b : ℕ) (write : Bool) (t : List ℕ) (from : ℕ) (out : List ℕ) (to : ℕ) → Room b write t from out to → Room 0 write t from out to
-room-weaker b write t from out to r w = let x = r w in (x .0, omega (arith, x .1))
+room-weaker b write t from out to r w = go (r w)
+  where
+    go : Fitting b out to (inner (drop from t)) ⊎ Ample b t out → Fitting 0 out to (inner (drop from t)) ⊎ Ample 0 t out
+    go (inl x) = inl (x .0, omega (arith, x .1))
+    go (inr y) = inr (omega (arith, y))
 
-module _ {b : ℕ} {write : Bool} {t : List ℕ} {from : ℕ} {out : List ℕ} {to : ℕ} {o : List ℕ} {p n : ℕ} (u : Unquoting b write t from out to o p n) (r : Room b write t from out to) (q : List ℕ) (c : Written 0 write o n (valueOf (inner (drop p t))) q) where
-  pub rest-whole : (next size k : ℕ) → to + k ≡ n → Value next size ≡ pieceOf (length t) (inner (drop p t)) → (Value next (k + size) ≡ pieceOf (length t) (inner (drop from t))) × Written b write out to (valueOf (inner (drop from t))) q
+pub rest-room : {b : ℕ} {write : Bool} {t : List ℕ} {from : ℕ} {out : List ℕ} {to : ℕ} {o : List ℕ} {p n : ℕ} → Unquoting b write t from out to o p n → Room b write t from out to → Room 0 write t p o n
+rest-room {b} {write} {t} {o = o} {p = p} {n = n} u r = room-weaker b write t p o n (un-room u r)
+
+module _ {b : ℕ} {write : Bool} {t : List ℕ} {from : ℕ} {out : List ℕ} {to : ℕ} {o : List ℕ} {p n : ℕ} (u : Unquoting b write t from out to o p n) (q : List ℕ) (c : Filled 0 write o n (inner (drop p t)) q) where
+  pub rest-whole : (next size k : ℕ) → to + k ≡ n → Value next size ≡ pieceOf (length t) (inner (drop p t)) → (Value next (k + size) ≡ pieceOf (length t) (inner (drop from t))) × Filled b write out to (inner (drop from t)) q
   rest-whole next size k m e = go (inner (drop p t)) refl e c
     where
-      go : (g : Got) → inner (drop p t) ≡ g → Value next size ≡ pieceOf (length t) g → Written 0 write o n (valueOf g) q → (Value next (k + size) ≡ pieceOf (length t) (inner (drop from t))) × Written b write out to (valueOf (inner (drop from t))) q
+      go : (g : Got) → inner (drop p t) ≡ g → Value next size ≡ pieceOf (length t) g → Filled 0 write o n g q → (Value next (k + size) ≡ pieceOf (length t) (inner (drop from t))) × Filled b write out to (inner (drop from t)) q
       go bad i f d = absurd (let z : _≡_ {A = ℕ} 0 1 = cc in omega arith)
       go (got v s) i f d =
           let x : inner (drop from t) ≡ got (u .value ++ v) s = u .on ∙ ap (prefixed (u .value)) i in
           let y : next ≡ length t - length s = cc in
           let z : size ≡ length v = cc in
           let w : length (u .value ++ v) ≡ k + size = omega (arith, length-append (u .value) v, u .upto, m, z) in
-          (rw (x, w, y), rw x (written-more (u .written) (u .upto) (written-weaker b d)))
+          let a : Written 0 write o n v q = record { kept = d .kept; ahead = λ z. d .ahead z refl } in
+          (rw (x, w, y), rw x (filled (got (u .value ++ v) s) (written-more (u .written) (u .upto) (written-weaker b a))))
 
-  pub rest-bad : Bad ≡ pieceOf (length t) (inner (drop p t)) → (Bad ≡ pieceOf (length t) (inner (drop from t))) × Written b write out to (valueOf (inner (drop from t))) q
+  pub rest-bad : Bad ≡ pieceOf (length t) (inner (drop p t)) → (Bad ≡ pieceOf (length t) (inner (drop from t))) × Filled b write out to (inner (drop from t)) q
   rest-bad e = go (inner (drop p t)) refl e
     where
-      go : (g : Got) → inner (drop p t) ≡ g → Bad ≡ pieceOf (length t) g → (Bad ≡ pieceOf (length t) (inner (drop from t))) × Written b write out to (valueOf (inner (drop from t))) q
+      go : (g : Got) → inner (drop p t) ≡ g → Bad ≡ pieceOf (length t) g → (Bad ≡ pieceOf (length t) (inner (drop from t))) × Filled b write out to (inner (drop from t)) q
       go (got v s) i f = absurd (let z : _≡_ {A = ℕ} 0 1 = cc in omega arith)
       go bad i f =
           let x : inner (drop from t) ≡ bad = u .on ∙ ap (prefixed (u .value)) i in
-          (rw x, rw x (record { kept = λ w. c .kept w ∙ u .written .kept w; ahead = λ w. absurd (let y = rw i at (un-room u r w .0) in let z : _≡_ {A = ℕ} 0 1 = cc in omega arith) }))
+          (rw x, rw x (filled-bad (λ w. c .kept w ∙ u .written .kept w) (c .same ∙ un-length u)))

@@ -3,6 +3,7 @@ use Prim.Native.Nat.{ℕ, _+_, _-_, _≤_, _<_}
 use mathlib.Core.Path.{_≡_}
 use mathlib.Core.Bool.{Bool, true, false, _||_}
 use mathlib.Core.List.{List, [], _∷_, _++_}
+use mathlib.Core.Logic.{_⊎_}
 use lib.Dec.{eqb}
 use lib.ListN.{length, take, drop, getD}
 use lib.Seq.{sets}
@@ -133,22 +134,39 @@ pub record Written (b : ℕ) (write : Bool) (out : List ℕ) (to : ℕ) (v o : L
   pub kept : write ≡ false → o ≡ out
   pub ahead : write ≡ true → Ahead b out to v o
 
--- if `write`, what follows the opening quote is a value, and it fits, with b bytes after it
+-- if `write`, a value that was read was written at `to`; else nothing was. Where no value was read, what was written means nothing
+pub record Filled (b : ℕ) (write : Bool) (out : List ℕ) (to : ℕ) (g : Got) (o : List ℕ) : Type 0 where
+  pub kept : write ≡ false → o ≡ out
+  pub same : length o ≡ length out
+  pub ahead : write ≡ true → IsGot g → Ahead b out to (valueOf g) o
+
+-- the output is long enough for all of t, and b bytes more
+abbrev pub Ample : ℕ → List ℕ → List ℕ → Type 0
+Ample b t out = length t + b ≤ length out
+
+-- g is a value, and it fits, with b bytes after it
+abbrev pub Fitting : ℕ → List ℕ → ℕ → Got → Type 0
+Fitting b out to g = IsGot g × (to + length (valueOf g) + b ≤ length out)
+
+-- if `write`, what follows the opening quote fits, or whatever is in t does
 abbrev pub Room : ℕ → Bool → List ℕ → ℕ → List ℕ → ℕ → Type 0
-Room b write t from out to = write ≡ true → IsGot (inner (drop from t)) × (to + length (valueOf (inner (drop from t))) + b ≤ length out)
+Room b write t from out to = write ≡ true → Fitting b out to (inner (drop from t)) ⊎ Ample b t out
 
 -- the same of any value
 abbrev pub FieldRoom : ℕ → Bool → List ℕ → ℕ → List ℕ → ℕ → Type 0
-FieldRoom b write t from out to = write ≡ true → IsGot (fieldAt (drop from t)) × (to + length (valueOf (fieldAt (drop from t))) + b ≤ length out)
+FieldRoom b write t from out to = write ≡ true → Fitting b out to (fieldAt (drop from t)) ⊎ Ample b t out
 
 -- the same of a row and its ends
 abbrev pub RowRoom : ℕ → Bool → List ℕ → ℕ → List ℕ → List ℕ → Type 0
-RowRoom b write t width out ends = write ≡ true → IsRow (values width t) × (length (joined (valuesOf (values width t))) + b ≤ length out) × (width ≤ length ends)
+RowRoom b write t width out ends =
+    write ≡ true → ((IsRow (values width t) × (length (joined (valuesOf (values width t))) + b ≤ length out)) ⊎ Ample b t out) × (width ≤ length ends)
 
--- if `write`, the values of the row and their ends were written; else nothing was
+-- if `write`, the values of a row and their ends were written; else nothing was. Where there is no row, what was written means nothing
 pub record RowWritten (b : ℕ) (write : Bool) (t : List ℕ) (width : ℕ) (out ends o s : List ℕ) : Type 0 where
   pub kept : write ≡ false → (o ≡ out) × (s ≡ ends)
-  pub ahead : write ≡ true → Ahead b out 0 (joined (valuesOf (values width t))) o × (s ≡ sets ends 0 (endsOf 0 (valuesOf (values width t))))
+  pub same : length o ≡ length out
+  pub alike : length s ≡ length ends
+  pub ahead : write ≡ true → IsRow (values width t) → Ahead b out 0 (joined (valuesOf (values width t))) o × (s ≡ sets ends 0 (endsOf 0 (valuesOf (values width t))))
 
 -- the word at i is searched, from p on: m has the marks of its quotes from there on
 pub record Grid (t : List ℕ) (i p m : ℕ) : Type 0 where
@@ -180,7 +198,7 @@ Inside t from Bad = Unit {0}
 -- the value was read by marks: all of it, or a part
 abbrev pub ReadByMarks : Bool → List ℕ → ℕ → List ℕ → ℕ → List ℕ → ByMarks → Type 0
 ReadByMarks write t from out to o r =
-    (r .whole ≡ true → (Value (r .next) (r .size) ≡ pieceOf (length t) (inner (drop from t))) × Written blockSize write out to (valueOf (inner (drop from t))) o)
+    (r .whole ≡ true → (Value (r .next) (r .size) ≡ pieceOf (length t) (inner (drop from t))) × Filled blockSize write out to (inner (drop from t)) o)
     × (r .whole ≡ false → Unquoting blockSize write t from out to o (r .next) (to + r .size))
 
 -- the values of a row from an offset on, with k values before it, were put into out after `to` bytes, and their ends into `ends`

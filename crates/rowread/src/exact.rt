@@ -1,14 +1,15 @@
-// The exact path: any row, in two passes of the same functions. The first (`write` is false) only reads, so that a refusal leaves the outputs
-// unchanged; the second writes the values of a row that is known to fit.
+// The exact path: any row. A short one is read into a buffer and copied to the outputs once it is known to be a row. Any other is read in two
+// passes of the same functions: the first (`write` is false) only reads, so that a refusal leaves the outputs unchanged; the second writes the values
+// of a row that is known to fit.
 ghost use mathlib.Core.Path.{_≡_};
 ghost use Prim.Native.Nat.{_+_, _-_, _≤_};
 ghost use lib.ListN.{length, drop};
 ghost use lib.Seq.{sets};
-ghost use Rattle.csv.specs.Csv.{isText};
 ghost use Rattle.csv.specs.Read.{plainValue, fieldAt, rowEnd, values};
 ghost use Rattle.rowread.specs.Stored.{valuesOf, joined, endsOf};
-ghost use Rattle.rowread.specs.Steps.{pieceOf, valueOf, scanOf, IsRow, slackOf, Written, FieldRoom, RowRoom, RowWritten};
+ghost use Rattle.rowread.specs.Steps.{pieceOf, scanOf, IsRow, slackOf, Filled, FieldRoom, RowRoom, RowWritten, Quickly};
 use crate::line::BLOCK;
+use crate::line::Fast;
 use crate::line::copy_block;
 use crate::line::copy_part;
 use crate::line::copy_value;
@@ -17,16 +18,24 @@ use crate::marks::first;
 use crate::marks::load;
 use crate::unquote::unquote;
 use base::number::LONG_BYTES;
+use base::slice::part;
 use csv::COMMA;
 use csv::CR;
 use csv::LF;
+use csv::MAX_COLUMNS;
 use csv::QUOTE;
+use csv::is_text;
 use leaf::bytes::get8;
 
 // How many bytes a row end has.
 const LF_SIZE: usize = 1;
 
 const CRLF_SIZE: usize = 2;
+
+// The longest row that is read into a buffer, and the buffer's size: a block may go past the row's values.
+const SHORT: usize = 1024;
+
+const BUFFER: usize = SHORT + BLOCK;
 
 // A value of size bytes; next is the offset after it.
 pub(crate) enum Piece {
@@ -38,13 +47,6 @@ pub(crate) enum Piece {
 pub(crate) enum Scan {
     Whole { next: usize, size: usize },
     Broken,
-}
-
-// Whether a byte may be in a field without quotes.
-fn is_text(b: u8) -> bool
-    ensures { λ r. ⌜ r ≡ isText b ⌝ }
-{
-    !((b == QUOTE) | ((b == COMMA) | ((b == CR) | (b == LF))))
 }
 
 // How many bytes the row end at an offset has: LF, or CR and LF; 0 if there is none.
@@ -87,7 +89,7 @@ fn text_end(t: &[u8], from: usize) -> usize
 fn value(t: &[u8], from: usize, out: &mut [u8], to: usize, write: bool, ahead: bool) -> Piece
     requires { ⌜ (from ≤ length (now t)) × (to ≤ from) ⌝ }
     requires { ⌜ FieldRoom (slackOf ahead) write (now t) from (now out) to ⌝ }
-    ensures { λ r. ⌜ (r ≡ pieceOf (length (now (t .entry))) (fieldAt (drop from (now (t .entry))))) × Written (slackOf ahead) write (now (out .entry)) to (valueOf (fieldAt (drop from (now (t .entry))))) (now (out .exit)) ⌝ }
+    ensures { λ r. ⌜ (r ≡ pieceOf (length (now (t .entry))) (fieldAt (drop from (now (t .entry))))) × Filled (slackOf ahead) write (now (out .entry)) to (fieldAt (drop from (now (t .entry)))) (now (out .exit)) ⌝ }
 {
     if get8(t, from) == QUOTE {
         return unquote(t, from + 1, out, to, write, ahead);
@@ -160,4 +162,37 @@ pub(crate) fn write_row(t: &[u8], width: usize, size: usize, out: &mut [u8], end
     copy_block(out, size, &mut saved, 0);
     row(t, width, out, ends, true, true);
     copy_block(&saved, 0, out, size);
+}
+
+// Reads the row of `width` values at the start of t, if it has at most 1,024 bytes and a block fits after its values. They are read into a buffer, and copied
+// once they are known to be a row's; what the last block overwrites after them is saved before, and put back.
+pub(crate) fn short_row(t: &[u8], width: usize, out: &mut [u8], ends: &mut [usize]) -> Fast
+    ensures { λ r. ⌜ Quickly (now (t .entry)) width (now (out .entry)) (now (ends .entry)) (now (out .exit)) (now (ends .exit)) r ⌝ }
+{
+    if MAX_COLUMNS < width {
+        return Fast::Not;
+    }
+    if ends.len() < width {
+        return Fast::Not;
+    }
+    let s = part(t, 0, SHORT);
+    let mut held: [u8; BUFFER] = [0; BUFFER];
+    let mut marks: [usize; MAX_COLUMNS] = [0; MAX_COLUMNS];
+    let scan = row(s, width, &mut held, &mut marks, true, true);
+    let Scan::Whole { next, size } = scan else {
+        return Fast::Not;
+    };
+    if out.len() < size + BLOCK {
+        return Fast::Not;
+    }
+    let mut after: [u8; BLOCK] = [0; BLOCK];
+    copy_block(out, size, &mut after, 0);
+    copy_value(&held, 0, size, out, 0);
+    copy_block(&after, 0, out, size);
+    let mut k: usize = 0;
+    while k < width {
+        ends[k] = marks[k];
+        k += 1;
+    }
+    Fast::Read { next, size }
 }

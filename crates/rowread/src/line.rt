@@ -8,6 +8,7 @@ ghost use lib.Seq.{sets};
 ghost use Rattle.base.specs.Little.{longBytes};
 ghost use Rattle.rowread.specs.Steps.{commasIn, textIn, cutsIn, marksIn, blockSize, Ahead, WordSearched, LineFound, Quickly};
 use crate::exact::row_end;
+use crate::exact::short_row;
 use crate::marks::clear_first;
 use crate::marks::delimiters_of;
 use crate::marks::first;
@@ -142,7 +143,7 @@ pub(crate) fn fast_row(t: &[u8], width: usize, out: &mut [u8], ends: &mut [usize
     };
     let e = row_end(t, end);
     if e == 0 {
-        return Fast::Not;
+        return short_row(t, width, out, ends);
     }
     if commas + 1 != width {
         return Fast::Not;

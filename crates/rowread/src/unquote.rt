@@ -4,7 +4,7 @@ ghost use mathlib.Core.Path.{_≡_};
 ghost use Prim.Native.Nat.{_+_, _-_, _≤_, _<_};
 ghost use lib.ListN.{length, drop};
 ghost use Rattle.csv.specs.Read.{inner};
-ghost use Rattle.rowread.specs.Steps.{pieceOf, valueOf, blockSize, searchedBytes, Grid, Turned, Written, Room, Inside, ReadByMarks, slackOf};
+ghost use Rattle.rowread.specs.Steps.{pieceOf, blockSize, searchedBytes, Grid, Turned, Filled, Room, Inside, ReadByMarks, slackOf};
 use crate::exact::Piece;
 use crate::line::BLOCK;
 use crate::line::copy_block;
@@ -120,7 +120,7 @@ fn unquote_by_marks(t: &[u8], from: usize, out: &mut [u8], to: usize, write: boo
 fn unquote_bytes(t: &[u8], from: usize, out: &mut [u8], to: usize, write: bool) -> Piece
     requires { ⌜ (from ≤ length (now t)) × (to ≤ from) ⌝ }
     requires { ⌜ Room 0 write (now t) from (now out) to ⌝ }
-    ensures { λ r. ⌜ (r ≡ pieceOf (length (now (t .entry))) (inner (drop from (now (t .entry))))) × Written 0 write (now (out .entry)) to (valueOf (inner (drop from (now (t .entry))))) (now (out .exit)) × Inside (now (t .entry)) from r ⌝ }
+    ensures { λ r. ⌜ (r ≡ pieceOf (length (now (t .entry))) (inner (drop from (now (t .entry))))) × Filled 0 write (now (out .entry)) to (inner (drop from (now (t .entry)))) (now (out .exit)) × Inside (now (t .entry)) from r ⌝ }
 {
     let mut p = from;
     let mut n = to;
@@ -155,7 +155,7 @@ pub(crate) fn unquote(
 ) -> Piece
     requires { ⌜ (from ≤ length (now t)) × (to ≤ from) ⌝ }
     requires { ⌜ Room (slackOf ahead) write (now t) from (now out) to ⌝ }
-    ensures { λ r. ⌜ (r ≡ pieceOf (length (now (t .entry))) (inner (drop from (now (t .entry))))) × Written (slackOf ahead) write (now (out .entry)) to (valueOf (inner (drop from (now (t .entry))))) (now (out .exit)) ⌝ }
+    ensures { λ r. ⌜ (r ≡ pieceOf (length (now (t .entry))) (inner (drop from (now (t .entry))))) × Filled (slackOf ahead) write (now (out .entry)) to (inner (drop from (now (t .entry)))) (now (out .exit)) ⌝ }
 {
     if !ahead {
         return unquote_bytes(t, from, out, to, write);

@@ -457,6 +457,29 @@ fn at_once(tally: &mut Tally) {
         }
     }
     longest(tally);
+    around_the_buffer(tally);
+}
+
+/// Rows with quotes of about 1,024 bytes, up to which the core reads a row into a
+/// buffer: either row end, whole or cut, with bytes after them or none, into outputs
+/// with and without space for a block of 16 after the values.
+fn around_the_buffer(tally: &mut Tally) {
+    for size in 990..1060 {
+        for end in [&b"\n"[..], b"\r\n", b"\r", b"\"\n", b""] {
+            let value = vec![b'x'; size - 12 - end.len()];
+            let row = [b"\"a\"\"\",b,\"c", &value[..], b"\"", end].concat();
+            for table in [row.clone(), [&row[..], &AFTER].concat()] {
+                let row = row_at(&table);
+                let joined = size - 12 - end.len() + 4;
+                for room in [joined - 1, joined, joined + 15, joined + 16, joined + SPARE] {
+                    for (width, slots) in [(3, 3), (3, 2), (2, 3), (4, 4), (11, 11)] {
+                        let question = Question { table: &table, width, place: 0, room, slots };
+                        question.ask(tally, row.as_ref());
+                    }
+                }
+            }
+        }
+    }
 }
 
 /// The longest row with either row end, its last value with quotes or without, at the

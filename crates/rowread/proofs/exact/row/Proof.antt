@@ -13,8 +13,8 @@ use Rattle.csv.specs.Read.{values}
 use Rattle.rowread.specs.declared.exact.Scan.the-variants.{Broken}
 use Rattle.rowread.specs.Steps.{scanOf, scanFrom, slackOf}
 use Rattle.rowread.proofs.Laws.{IsValue, is-value, is-bad, scan-start, scan-zero, scan-turn, scan-no-comma, scan-bad, scan-last, scan-no-end, end-fits, past}
-use Rattle.rowread.proofs.Quoted.{both-ways, written-length}
-use Rattle.rowread.proofs.Copies.{RowState, state-start, state-same, state-room, state-next, state-whole, state-broken, broken-row}
+use Rattle.rowread.proofs.Quoted.{both-ways}
+use Rattle.rowread.proofs.Copies.{RowState, state-start, state-room, state-next, state-whole, state-broken, broken-row}
 use Rattle.rowread.proofs.exact.row.Statement.{statement}
 use Rattle.rowread.proofs.exact.row.Tie as tie
 
@@ -34,7 +34,7 @@ loop-holds c =
 value-requires : tie.Need-value-requires Inv-loop μ-loop
 value-requires c κs =
     let l = c .before .before .loop in
-    ((l .inv .1, l .inv .2), state-room (l .inv .4) (c .before .loop-test .taken))
+    ((l .inv .1, l .inv .2), state-room (l .inv .4) (c .before .before .before .before .before .before .pre) (c .before .loop-test .taken))
 
 enum-known-next : tie.Need-enum-known-next Inv-loop μ-loop
 enum-known-next c = search needs
@@ -47,10 +47,10 @@ enum-told c = search needs
 same-length : tie.Need-same-length Inv-loop μ-loop
 same-length c =
     let v = c .before .before .before .before in
-    written-length (v .value .ensures .1) ∙ state-same (v .before .before .before .loop .inv .4) .0
+    v .value .ensures .1 .same ∙ v .before .before .before .loop .inv .4 .same
 
 same-length-2 : tie.Need-same-length-2 Inv-loop μ-loop
-same-length-2 c = state-same (c .before .before .before .before .before .before .before .loop .inv .4) .1
+same-length-2 c = c .before .before .before .before .before .before .before .loop .inv .4 .alike
 
 returns : tie.Need-returns Inv-loop μ-loop
 returns c =
@@ -62,7 +62,7 @@ returns c =
     let e = c .before .before .before .before .value .ensures in
     let n : a .width - l .k ≡ suc (a .width - l .k - 1) = omega (arith, i .loop-test .taken) in
     let b = scan-bad t (l .to) (l .from) (a .width - l .k) (a .width - l .k - 1) n (is-bad t (l .from) (sym (c .enum-told .given .1) ∙ e .0)) ∙ sym (l .inv .3) in
-    (b, broken-row (s .pre) b (λ f. (e .1 .kept f ∙ l .inv .4 .kept f .0, l .inv .4 .kept f .1)))
+    (b, broken-row b (λ f. (e .1 .kept f ∙ l .inv .4 .kept f .0, l .inv .4 .kept f .1)) (e .1 .same ∙ l .inv .4 .same) (l .inv .4 .alike))
 
 -- ---- a value was read
 
@@ -98,12 +98,12 @@ add-to c = omega (arith, is-read c .grows, is-read c .inside, turn c .loop .inv 
 mul-ends : tie.Need-mul-ends Inv-loop μ-loop
 mul-ends c =
     let s = start (c .before) in
-    omega (arith, s .pre (c .if1 .taken) .2, state-same (turn (c .before) .loop .inv .4) .1, more (c .before))
+    omega (arith, s .pre (c .if1 .taken) .1, turn (c .before) .loop .inv .4 .alike, more (c .before))
 
 slice-write-ends : tie.Need-slice-write-ends Inv-loop μ-loop
 slice-write-ends c =
     let s = start (c .before) in
-    omega (arith, s .pre (c .if1 .taken) .2, state-same (turn (c .before) .loop .inv .4) .1, more (c .before))
+    omega (arith, s .pre (c .if1 .taken) .1, turn (c .before) .loop .inv .4 .alike, more (c .before))
 
 add-k : tie.Need-add-k Inv-loop μ-loop
 add-k c = omega (arith, more (c .before))
@@ -128,10 +128,10 @@ row-end-requires : tie.Need-row-end-requires Inv-loop μ-loop
 row-end-requires c κs = search needs
 
 same-length-3 : tie.Need-same-length-3 Inv-loop μ-loop
-same-length-3 c = state-same (state (c .before .before .before)) .0
+same-length-3 c = state (c .before .before .before) .same
 
 same-length-4 : tie.Need-same-length-4 Inv-loop μ-loop
-same-length-4 c = state-same (state (c .before .before .before)) .1
+same-length-4 c = state (c .before .before .before) .alike
 
 returns-2 : tie.Need-returns-2 Inv-loop μ-loop
 returns-2 c =
@@ -139,7 +139,7 @@ returns-2 c =
     let x = j .before in
     let l = turn x .loop in
     let b = scan-no-end (t x) (l .to) (l .from) (next x) (size x) (is-read x) (sym (c .before .row-end .ensures) ∙ c .if3 .taken) ∙ sym (l .inv .3 ∙ rw (one-left (c .before .before))) in
-    (b, state-broken (state j) (start x .pre) b)
+    (b, state-broken (state j) b)
 
 add-t20 : tie.Need-add-t20 Inv-loop μ-loop
 add-t20 c =
@@ -147,10 +147,10 @@ add-t20 c =
     omega (arith, end-fits (t x) (next x) (c .before .row-end .ensures) (c .if3 .left))
 
 same-length-5 : tie.Need-same-length-5 Inv-loop μ-loop
-same-length-5 c = state-same (state (c .before .before .before)) .0
+same-length-5 c = state (c .before .before .before) .same
 
 same-length-6 : tie.Need-same-length-6 Inv-loop μ-loop
-same-length-6 c = state-same (state (c .before .before .before)) .1
+same-length-6 c = state (c .before .before .before) .alike
 
 returns-3 : tie.Need-returns-3 Inv-loop μ-loop
 returns-3 c =
@@ -177,10 +177,10 @@ module _ (c : tie.Else2 Inv-loop μ-loop) where
   two-left = omega (arith, c .if2 .left, more told)
 
 same-length-7 : tie.Need-same-length-7 Inv-loop μ-loop
-same-length-7 c = state-same (state (c .before .before .before)) .0
+same-length-7 c = state (c .before .before .before) .same
 
 same-length-8 : tie.Need-same-length-8 Inv-loop μ-loop
-same-length-8 c = state-same (state (c .before .before .before)) .1
+same-length-8 c = state (c .before .before .before) .alike
 
 returns-4 : tie.Need-returns-4 Inv-loop μ-loop
 returns-4 c =
@@ -188,7 +188,7 @@ returns-4 c =
     let x = told o in
     let l = turn x .loop in
     let b = scan-no-comma (t x) (l .to) (l .from) (start x .args .width - l .k) (others o) (two-left o) (is-read x) (λ z. c .if4 .taken (c .before .get8 .ensures ∙ z)) ∙ sym (l .inv .3) in
-    (b, state-broken (state (o .before)) (start x .pre) b)
+    (b, state-broken (state (o .before)) b)
 
 is-comma : (c : tie.Else4 Inv-loop μ-loop) → getD (t (told (c .before .before))) (next (told (c .before .before))) 0 ≡ comma
 is-comma c = sym (c .before .get8 .ensures) ∙ c .if4 .left
@@ -210,10 +210,10 @@ loop-again c =
 -- ---- no value is asked for
 
 same-length-9 : tie.Need-same-length-9 Inv-loop μ-loop
-same-length-9 c = state-same (c .before .loop .inv .4) .0
+same-length-9 c = c .before .loop .inv .4 .same
 
 same-length-10 : tie.Need-same-length-10 Inv-loop μ-loop
-same-length-10 c = state-same (c .before .loop .inv .4) .1
+same-length-10 c = c .before .loop .inv .4 .alike
 
 returns-5 : tie.Need-returns-5 Inv-loop μ-loop
 returns-5 c =
@@ -223,7 +223,7 @@ returns-5 c =
     let n : a .width - l .k ≡ 0 = omega (arith, c .loop-test .left) in
     let z : scanOf (a .width) (a .t .now) ≡ Broken = l .inv .3 ∙ ap (λ (x : ℕ). scanFrom (length (a .t .now)) (l .to) (values x (drop (l .from) (a .t .now)))) n ∙ scan-zero (length (a .t .now)) (l .to) (drop (l .from) (a .t .now)) in
     let b = sym z in
-    (b, state-broken (l .inv .4) (s .pre) b)
+    (b, state-broken (l .inv .4) b)
 
 pub row-spec : {M : Type 1} → statement M
 row-spec =

@@ -10,7 +10,8 @@ use lib.ListN.{length, take, drop, getD}
 use Rattle.csv.specs.Csv.{quote}
 use Rattle.csv.specs.Read.{plainValue, fieldAt}
 use Rattle.rowread.specs.declared.exact.Piece.the-variants.{Value}
-use Rattle.rowread.specs.Steps.{pieceOf, valueOf, slackOf}
+use mathlib.Core.Logic.{_⊎_, inl, inr}
+use Rattle.rowread.specs.Steps.{pieceOf, valueOf, slackOf, Ample, Fitting}
 use Rattle.base.proofs.Bools.{and-left, and-right}
 use Rattle.rowread.proofs.Blocks.{ahead-exact}
 use Rattle.rowread.proofs.Laws.{past, plain-size, plain-part, plain-piece, field-quote, field-plain}
@@ -90,7 +91,12 @@ sub-if3 c = ends-inside (c .before)
 fits : (c : tie.Then2) → start (c .before) .args .to + (c .before .text-end .result - start (c .before) .args .from) + slackOf (start (c .before) .args .ahead) ≤ length (start (c .before) .args .out .now)
 fits c =
     let x = c .before in
-    omega (arith, x .text-end .ensures, start x .pre .1 (c .if2 .taken) .1, ap length (value-is x))
+    go x (start x .pre .1 (c .if2 .taken))
+  where
+    go : (x : tie.After-text-end) → Fitting (slackOf (start x .args .ahead)) (start x .args .out .now) (start x .args .to) (fieldAt (drop (start x .args .from) (t x))) ⊎ Ample (slackOf (start x .args .ahead)) (t x) (start x .args .out .now)
+        → start x .args .to + (x .text-end .result - start x .args .from) + slackOf (start x .args .ahead) ≤ length (start x .args .out .now)
+    go x (inl y) = omega (arith, x .text-end .ensures, y .1, ap length (value-is x))
+    go x (inr y) = omega (arith, y, starts-before x, ends-inside x, start x .pre .0 .1)
 
 -- by blocks
 module _ (c : tie.Then3) where
@@ -122,7 +128,7 @@ returns-2 c =
     let y = c .before .before .before .before in
     let x = y .before .before in
     let e = c .before .before .copy-value .ensures in
-    (piece-is x, record { kept = λ z. absurd (both-ways _ (y .before .if2 .taken) z); ahead = λ z. rw (value-is x, block-free y, ← part-is x) e })
+    (piece-is x, record { kept = λ z. absurd (both-ways _ (y .before .if2 .taken) z); same = e .0; ahead = λ z i. rw (value-is x, block-free y, ← part-is x) e })
 
 same-length-3 : tie.Need-same-length-3
 same-length-3 c = search needs
@@ -132,10 +138,11 @@ returns-3 c =
     let y = c .before .before .before .before in
     let x = y .before .before in
     let e = c .before .before .copy-part .ensures .1 in
-    (piece-is x, record { kept = λ z. absurd (both-ways _ (y .before .if2 .taken) z); ahead = λ z. rw (value-is x, ← part-is x) (ahead-exact _ (start x .args .out .now) _ (take (x .text-end .result - start x .args .from) (drop (start x .args .from) (t x))) _ e) })
+    let w = ahead-exact _ (start x .args .out .now) _ (take (x .text-end .result - start x .args .from) (drop (start x .args .from) (t x))) _ e in
+    (piece-is x, record { kept = λ z. absurd (both-ways _ (y .before .if2 .taken) z); same = w .0; ahead = λ z i. rw (value-is x, ← part-is x) w })
 
 returns-4 : tie.Need-returns-4
-returns-4 c = (piece-is (c .before), record { kept = λ z. refl; ahead = λ z. absurd (both-ways _ z (c .if2 .left)) })
+returns-4 c = (piece-is (c .before), record { kept = λ z. refl; same = refl; ahead = λ z. absurd (both-ways _ z (c .if2 .left)) })
 
 pub value-spec : {M : Type 1} → statement M
 value-spec =

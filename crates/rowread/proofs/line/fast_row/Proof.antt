@@ -1,5 +1,5 @@
--- The search found a row end before any quote, and one comma fewer than values: the values between the commas are the row's (`line-holds`). On every
--- other path nothing was written.
+-- The search found a row end before any quote, and one comma fewer than values: the values between the commas are the row's (`line-holds`). Where it found no
+-- row end, what is read is what `short_row` reads. On every other path nothing was written.
 use Prim.Native.Nat.{_+_, _≤_}
 use native.Mathlib.Omega.{arith}
 use mathlib.Core.Path.{_≡_, sym, ap, _∙_}
@@ -29,6 +29,15 @@ returns c = search needs
 
 row-end-requires : tie.Need-row-end-requires
 row-end-requires c κs = search needs
+
+short-row-requires : tie.Need-short-row-requires
+short-row-requires c κs = search needs
+
+same-length : tie.Need-same-length
+same-length c = search needs
+
+same-length-2 : tie.Need-same-length-2
+same-length-2 c = search needs
 
 returns-2 : tie.Need-returns-2
 returns-2 c = search needs
@@ -100,17 +109,17 @@ copy-line-requires c κs =
     let k = ap (take n) (x .0 .ends (omega (arith, w, m))) ∙ take-sets _ c' n z (omega (arith, w, m)) in
     ((omega (arith, c .before .before .before .before .if5 .left, x .0 .inside), x .0 .many, k), (omega (arith, w, m, x .0 .same), c .before .before .before .if6 .left, omega (arith, w, c .before .before .before .before .before .if4 .left)))
 
-add-t14 : tie.Need-add-t14
-add-t14 c =
+add-t18 : tie.Need-add-t18
+add-t18 c =
     let t = c .before .before .before .before .before .before .before .before .before .before .before .before .before .before .before .before .before .before .before .before .before .before .before .before .args .t .now in
     let e = c .before .before .before .before .before .before .before .before .before .before .before .before .before .before .before .before .found .given .0 .0 in
     omega (arith, end-fits t e (c .before .before .before .before .before .before .before .before .before .before .before .before .before .before .row-end .ensures) (c .before .before .before .before .before .before .before .before .before .before .before .before .before .if1 .left))
 
-same-length : tie.Need-same-length
-same-length c = search needs
+same-length-3 : tie.Need-same-length-3
+same-length-3 c = search needs
 
-same-length-2 : tie.Need-same-length-2
-same-length-2 c = search needs
+same-length-4 : tie.Need-same-length-4
+same-length-4 c = search needs
 
 returns-8 : tie.Need-returns-8
 returns-8 c =
@@ -135,6 +144,9 @@ fast-row-spec =
     enum-told
     returns
     row-end-requires
+    short-row-requires
+    same-length
+    same-length-2
     returns-2
     add-if2
     returns-3
@@ -147,7 +159,7 @@ fast-row-spec =
     returns-7
     slice-aggregate-copy-line
     copy-line-requires
-    add-t14
-    same-length
-    same-length-2
+    add-t18
+    same-length-3
+    same-length-4
     returns-8)

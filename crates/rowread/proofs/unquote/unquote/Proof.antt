@@ -3,7 +3,7 @@ use native.Mathlib.Omega.{arith}
 use mathlib.Core.Path.{_≡_, refl, sym, ap, _∙_}
 use borrow.Author.Tests.{not-false}
 use Rattle.rowread.specs.Steps.{slackOf, Room}
-use Rattle.rowread.proofs.Quoted.{room-weaker, written-weaker, un-room, rest-whole, rest-bad}
+use Rattle.rowread.proofs.Quoted.{room-weaker, filled-weaker, rest-room, rest-whole, rest-bad}
 use borrow.Author.Needs.{needs}
 use Rattle.rowread.proofs.unquote.unquote.Statement.{statement}
 use Rattle.rowread.proofs.unquote.unquote.Tie as tie
@@ -24,7 +24,7 @@ returns c =
     let a = s .args in
     let t = a .t .now in
     let e = c .before .before .unquote-bytes .ensures in
-    (e .0, written-weaker (slackOf (a .ahead)) (e .1))
+    (e .0, filled-weaker (slackOf (a .ahead)) (e .1))
 
 sub-if2 : tie.Need-sub-if2
 sub-if2 c = search needs
@@ -45,7 +45,7 @@ returns-2 c =
     let a = s .args in
     let t = a .t .now in
     let e = c .before .before .unquote-bytes2 .ensures in
-    (e .0, written-weaker (slackOf (a .ahead)) (e .1))
+    (e .0, filled-weaker (slackOf (a .ahead)) (e .1))
 
 unquote-by-marks-requires : tie.Need-unquote-by-marks-requires
 unquote-by-marks-requires c κs =
@@ -85,7 +85,7 @@ unquote-bytes-requires-3 c κs =
     let z : slackOf (a .ahead) ≡ 16 = ap slackOf (not-false (a .ahead) (c .before .before .before .before .before .before .before .before .if1 .left)) in
     let r : Room 16 (a .write) t (a .from) (a .out .now) (a .to) = rw z at (s .pre .1) in
     let u = c .before .before .before .before .before .unquote-by-marks .ensures .1 (c .before .before .if3 .left) in
-    ((u .inside, omega (arith, u .upto, u .grows, s .pre .0 .1)), λ w. let x = un-room u r w in (x .0, omega (arith, x .1)))
+    ((u .inside, omega (arith, u .upto, u .grows, s .pre .0 .1)), rest-room u r)
 
 enum-known-rest : tie.Need-enum-known-rest
 enum-known-rest c = search needs
@@ -105,7 +105,7 @@ returns-4 c =
     let r : Room 16 (a .write) t (a .from) (a .out .now) (a .to) = rw z at (s .pre .1) in
     let u = c .before .before .before .before .before .before .before .before .before .before .unquote-by-marks .ensures .1 (c .before .before .before .before .before .before .before .if3 .left) in
     let e = c .before .before .before .before .unquote-bytes3 .ensures in
-    let w = rest-bad u r _ (e .1) (sym (c .enum-told .given .1) ∙ e .0) in
+    let w = rest-bad u _ (e .1) (sym (c .enum-told .given .1) ∙ e .0) in
     (w .0, rw z (w .1))
 
 add-t15 : tie.Need-add-t15
@@ -131,7 +131,7 @@ returns-5 c =
     let u = c .before .before .before .before .before .before .before .before .before .before .before .before .unquote-by-marks .ensures .1 (c .before .before .before .before .before .before .before .before .before .if3 .left) in
     let e = c .before .before .before .before .before .before .unquote-bytes3 .ensures in
     let g = c .before .before .rest .given in
-    let w = rest-whole u r _ (e .1) (g .0 .0) (g .0 .1 .0) _ refl (sym (g .1) ∙ e .0) in
+    let w = rest-whole u _ (e .1) (g .0 .0) (g .0 .1 .0) _ refl (sym (g .1) ∙ e .0) in
     (w .0, rw z (w .1))
 
 pub unquote-spec : {M : Type 1} → statement M

@@ -11,7 +11,7 @@ use borrow.Author.Needs.{needs}
 use Rattle.rowread.specs.Marks as M
 use Rattle.rowread.specs.Steps.{Grid, Unquoting}
 use Rattle.rowread.proofs.Search.{since-zero, word-eight, word-bytes}
-use Rattle.rowread.proofs.Quoted.{both-ways, written-block, written-length, un-start, un-length, un-more, un-whole, un-room}
+use Rattle.rowread.proofs.Quoted.{both-ways, written-block, written-length, block-fits, un-start, un-length, un-more, un-whole, un-room}
 use Rattle.rowread.proofs.unquote.unquote_by_marks.Statement.{statement}
 use Rattle.rowread.proofs.unquote.unquote_by_marks.Tie as tie
 
@@ -52,8 +52,8 @@ copy-block-requires c κs =
     let s = c .before .before .before .before .before .before .before .before .before in
     let l = c .before .before .before .before .loop in
     let h = c .before .before .before .loop-test .taken in
-    let r = un-room (l .inv .2) (s .pre .1) (c .before .if1 .taken) in
-    (omega (arith, h, l .inv .1 .high, l .inv .0), omega (arith, r .1))
+    let u = l .inv .2 in
+    (omega (arith, h, l .inv .1 .high, l .inv .0), block-fits (s .args .write) (s .args .t .now) (l .p) (l .out) (l .n) (omega (arith, u .grows, u .upto, s .pre .0 .1)) (u .inside) (un-room u (s .pre .1)) (c .before .if1 .taken))
 
 add-n : tie.Need-add-n Inv-loop μ-loop
 add-n c =

@@ -88,7 +88,7 @@ slice-write-out c =
     let q = c .before .if1 .p in
     let b : ByteAt t (l .p) q =
     ⊎-elim (λ y. byte-twice t (l .p) q h (y .0 .taken) (sym (y .1 .ensures) ∙ y .2 .left) (y .3)) (λ y. byte-plain t (l .p) q h (y .0 .left) (y .1)) (c .before .if1 .came) in
-    byte-fits 0 (a .write) (l .out) (l .n) b (un-room u (s .pre .1)) (c .if3 .taken)
+    byte-fits 0 (a .write) (l .out) (l .n) b (omega (arith, u .grows, u .upto, s .pre .0 .1)) (un-room u (s .pre .1)) (c .if3 .taken)
 
 add-n : tie.Need-add-n Inv-loop μ-loop
 add-n c =
@@ -134,8 +134,7 @@ same-length-2 c = un-length (c .before .loop .inv)
 
 returns-2 : tie.Need-returns-2 Inv-loop μ-loop
 returns-2 c =
-    let s = c .before .before .before .before in
-    let w = un-bad (c .before .loop .inv) (s .pre .1) (c .loop-test .left) in
+    let w = un-bad (c .before .loop .inv) (c .loop-test .left) in
     (w .0, w .1, tt)
 
 pub unquote-bytes-spec : {M : Type 1} → statement M

@@ -1,7 +1,7 @@
 use mathlib.Core.Path.{refl}
 use Rattle.csv.specs.Csv.{isText}
-use Rattle.rowread.proofs.exact.is_text.Statement.{statement}
-use Rattle.rowread.proofs.exact.is_text.Tie as tie
+use Rattle.csv.proofs.is_text.Statement.{statement}
+use Rattle.csv.proofs.is_text.Tie as tie
 
 returns : tie.Need-returns
 unfolding isText
