@@ -300,7 +300,7 @@ def outside(raw):
 
 
 def long_rows():
-    """Rows of about 8,192 bytes, the last value with quotes and without: bytes, row end, and values."""
+    """Rows of about 8,192 bytes, the last value with quotes and without, each with its row end; and their values."""
     for size in range(LONGEST_ROW - 2, LONGEST_ROW + 3):
         for row_end in ROW_ENDS:
             for quote in (b"", b'"'):

@@ -34,12 +34,12 @@ pub record Claims : Type 0 where
   pub ofAll : (n : ℕ) (bs s : Text) (vs : List Text) → Record (take n bs) vs s → Record bs vs (s ++ drop n bs)
   -- 02, E4: a row that ends in CRLF reads as its values, and what follows both bytes is what follows the row
   pub readsCrlf : (v : Text) (vs : List Text) (rest : Text) → values (length (v ∷ vs)) (fieldsThen (carriageReturn ∷ lineFeed ∷ rest) (v ∷ vs)) ≡ row (v ∷ vs) rest
-  -- 02, E4: "take CRLF outside quotes as one row end, beside LF": bytes that an LF makes a row, a CRLF makes the same row, however their values are
-  -- quoted, and the reverse. (An LF after a CR would make a CRLF already.)
+  -- 02, E4: "take CRLF outside quotes as one row end, beside LF": if bytes with an LF after them are a row, they are the same row with a CRLF after
+  -- them, however their values are quoted; and the reverse. (Bytes that end in CR are left out: with an LF they end in CRLF already.)
   pub lfToCrlf : (n : ℕ) (bs : Text) (vs : List Text) (rest : Text) → (lastOf bs ≡ carriageReturn → ⊥) → values n (bs ++ (lineFeed ∷ rest)) ≡ row vs rest
       → values n (bs ++ (carriageReturn ∷ lineFeed ∷ rest)) ≡ row vs rest
   pub crlfToLf : (n : ℕ) (bs : Text) (vs : List Text) (rest : Text) → values n (bs ++ (carriageReturn ∷ lineFeed ∷ rest)) ≡ row vs rest → values n (bs ++ (lineFeed ∷ rest)) ≡ row vs rest
-  -- the same in numbers: `a`, comma, `""`, CR, LF, and a byte after them
+  -- in numbers: `a`, comma, `""`, CR, LF, and a byte after them, reads as `a` and an empty value
   pub inNumbers : values 2 (97 ∷ 44 ∷ 34 ∷ 34 ∷ 13 ∷ 10 ∷ 120 ∷ []) ≡ row ((97 ∷ []) ∷ [] ∷ []) (120 ∷ [])
   -- 02, E4: "A CR outside quotes without an LF after it is malformed", whatever number of values is asked for
   pub loneCr : (n : ℕ) (bs : Text) → LoneCr bs → values n bs ≡ malformed

@@ -20,7 +20,7 @@ use Rattle.refusal.specs.declared.Refusal.the-variants.{Small, Row}
 use Rattle.rowread.specs.declared.ReadAnswer.{ReadAnswer}
 use Rattle.rowread.specs.declared.ReadAnswer.the-variants.{Stored, End, Refused}
 use Rattle.rowread.specs.Stored.{partAt, rowAt, valuesOf, valuesAt, joined, found, readAnswer}
-use Rattle.rowread.specs.Claims.{Fits, ReadsWritten, tableOf, Reads, atEnd, onward, AllFit, ReadsTable, StoredIsARow, RowThere, ReadsRows, SmallOutputs, RefusesOthers, RowsOf, noRows, rowFirst, ReadsAll, Limits, StoredLimits, RefusesLoneCr}
+use Rattle.rowread.specs.Claims.{Fits, ReadsWritten, tableOf, Reads, atEnd, onward, AllFit, ReadsTable, StoredIsARow, RowThere, ReadsRows, SmallOutputs, RefusesOthers, ReadsEnd, RowsOf, noRows, rowFirst, ReadsAll, Limits, StoredLimits, RefusesLoneCr}
 
 abbrev Text : Type 0
 Text = List ℕ
@@ -92,11 +92,12 @@ small-outputs table rest vs width offset capacity slots r n = at-offset table re
 
 -- ---- tables of rows
 
-at-the-end : (front : Text) (width capacity slots : ℕ) → readAnswer (front ++ []) width (length front) capacity slots ≡ End
+pub reads-end : ReadsEnd
 unfolding readAnswer
-at-the-end front width capacity slots =
-    let e : length (front ++ []) ≡ length front = ap length (append-nil front) in
-    rw (le-leb (length front) (length (front ++ [])) (omega arith), eq-eqb (length front) (length (front ++ [])) (sym e))
+reads-end table width capacity slots = rw (le-leb (length table) (length table) (omega arith), eq-eqb (length table) (length table) refl)
+
+at-the-end : (front : Text) (width capacity slots : ℕ) → readAnswer (front ++ []) width (length front) capacity slots ≡ End
+at-the-end front width capacity slots = rw (append-nil front) (reads-end front width capacity slots)
 
 moved : (t u : Text) (width capacity slots offset next : ℕ) (rows : List (List Text)) → t ≡ u → offset ≡ next → Reads t width capacity slots offset rows → Reads u width capacity slots next rows
 moved t u width capacity slots offset next rows e p r = rw (← e, ← p) r

@@ -67,12 +67,16 @@ abbrev pub SmallOutputs : Type 0
 SmallOutputs = (table rest : Text) (vs : List Text) (width offset capacity slots : ℕ) → RowThere table width offset vs rest → ((length (joined vs) ≤ capacity) × (width ≤ slots) → ⊥)
     → readAnswer table width offset capacity slots ≡ Refused Small
 
--- anywhere but at the table's end, where no such row is, 14 is met, whatever the outputs are (refuses-others). With the two above: 14 exactly there
+-- anywhere but at the table's end, where no such row is, 14 is met, whatever the outputs are (refuses-others); and at its end there is no row
+-- (reads-end). With the two above this is every case
 abbrev pub RefusesOthers : Type 0
 RefusesOthers = (table : Text) (width offset capacity slots : ℕ) → (offset ≡ length table → ⊥) → ((vs : List Text) (rest : Text) → RowThere table width offset vs rest → ⊥)
     → readAnswer table width offset capacity slots ≡ Refused Row
 
--- a table of rows one after the other, each with its own row end, and with values that fit in the outputs
+abbrev pub ReadsEnd : Type 0
+ReadsEnd = (table : Text) (width capacity slots : ℕ) → readAnswer table width (length table) capacity slots ≡ End
+
+-- a table of rows one after the other, each ended by LF or CRLF, whose values have at most `capacity` bytes
 pub data RowsOf (width capacity : ℕ) : Text → List (List Text) → Type 0 where
   noRows : RowsOf width capacity [] []
   rowFirst : {table rest : Text} {vs : List Text} {rows : List (List Text)} → RowThere table width 0 vs rest → length (joined vs) ≤ capacity → RowsOf width capacity rest rows
@@ -104,6 +108,7 @@ pub record Claims : Type 0 where
   pub readsRows : ReadsRows
   pub smallOutputs : SmallOutputs
   pub refusesOthers : RefusesOthers
+  pub readsEnd : ReadsEnd
   pub readsAll : ReadsAll
   pub storedLimits : StoredLimits
   pub refusesLoneCr : RefusesLoneCr

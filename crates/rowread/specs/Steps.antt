@@ -134,7 +134,7 @@ pub record Written (b : ℕ) (write : Bool) (out : List ℕ) (to : ℕ) (v o : L
   pub kept : write ≡ false → o ≡ out
   pub ahead : write ≡ true → Ahead b out to v o
 
--- if `write`, a value that was read was written at `to`; else nothing was. Where no value was read, what was written means nothing
+-- if `write`, a value that was read was written at `to`; else nothing was. Where no value was read, the output has any bytes, as many as before
 pub record Filled (b : ℕ) (write : Bool) (out : List ℕ) (to : ℕ) (g : Got) (o : List ℕ) : Type 0 where
   pub kept : write ≡ false → o ≡ out
   pub same : length o ≡ length out
@@ -148,7 +148,7 @@ Ample b t out = length t + b ≤ length out
 abbrev pub Fitting : ℕ → List ℕ → ℕ → Got → Type 0
 Fitting b out to g = IsGot g × (to + length (valueOf g) + b ≤ length out)
 
--- if `write`, what follows the opening quote fits, or whatever is in t does
+-- if `write`, the value after the opening quote fits, with b bytes after it, or all of t does, which is enough as `to` is at most `from`
 abbrev pub Room : ℕ → Bool → List ℕ → ℕ → List ℕ → ℕ → Type 0
 Room b write t from out to = write ≡ true → Fitting b out to (inner (drop from t)) ⊎ Ample b t out
 
@@ -161,7 +161,7 @@ abbrev pub RowRoom : ℕ → Bool → List ℕ → ℕ → List ℕ → List ℕ
 RowRoom b write t width out ends =
     write ≡ true → ((IsRow (values width t) × (length (joined (valuesOf (values width t))) + b ≤ length out)) ⊎ Ample b t out) × (width ≤ length ends)
 
--- if `write`, the values of a row and their ends were written; else nothing was. Where there is no row, what was written means nothing
+-- if `write`, the values of a row and their ends were written; else nothing was. Where there is no row, the outputs have any content, as long as before
 pub record RowWritten (b : ℕ) (write : Bool) (t : List ℕ) (width : ℕ) (out ends o s : List ℕ) : Type 0 where
   pub kept : write ≡ false → (o ≡ out) × (s ≡ ends)
   pub same : length o ≡ length out

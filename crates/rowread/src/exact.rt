@@ -1,6 +1,6 @@
-// The exact path: any row. A short one is read into a buffer and copied to the outputs once it is known to be a row. Any other is read in two
-// passes of the same functions: the first (`write` is false) only reads, so that a refusal leaves the outputs unchanged; the second writes the values
-// of a row that is known to fit.
+// The exact path: any row, in two passes of the same functions. The first (`write` is false) only reads, so that a refusal leaves the outputs
+// unchanged; the second writes the values of a row that is known to fit. A short row with quotes is read once, into a buffer, and copied to the outputs
+// once it is known to be a row.
 ghost use mathlib.Core.Path.{_≡_};
 ghost use Prim.Native.Nat.{_+_, _-_, _≤_};
 ghost use lib.ListN.{length, drop};
@@ -164,7 +164,7 @@ pub(crate) fn write_row(t: &[u8], width: usize, size: usize, out: &mut [u8], end
     copy_block(&saved, 0, out, size);
 }
 
-// Reads the row of `width` values at the start of t, if it has at most 1,024 bytes and a block fits after its values. They are read into a buffer, and copied
+// Reads the row of `width` values at the start of t, if these are at most ten, it has at most 1,024 bytes and a block fits after its values. They are read into a buffer, and copied
 // once they are known to be a row's; what the last block overwrites after them is saved before, and put back.
 pub(crate) fn short_row(t: &[u8], width: usize, out: &mut [u8], ends: &mut [usize]) -> Fast
     ensures { λ r. ⌜ Quickly (now (t .entry)) width (now (out .entry)) (now (ends .entry)) (now (out .exit)) (now (ends .exit)) r ⌝ }

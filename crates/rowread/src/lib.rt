@@ -1,9 +1,9 @@
-// Reads a stored row by RFC 4180. Nothing is written before the whole row is read, so that a refusal leaves the outputs unchanged.
+// Reads a stored row by RFC 4180. Nothing is written to the outputs before the whole row is read, so that a refusal leaves them unchanged.
 //
-// The fast path (`line`) reads a row without quotes in one search, and says nothing of any other: too near the table's end, too wide, an output without a
-// block to spare, or malformed. The exact path (`exact`) reads any row and gives every refusal. A row of at most 1,024 bytes it reads into a buffer; through a
-// longer one it goes twice by the same functions, first without writing. Both paths find delimiters by `marks`, eight bytes at a time; `unquote` is the exact
-// path's quoted value.
+// The fast path (`line`) reads a row without quotes in one search. Where it meets a quote, `exact::short_row` reads a row of at most 1,024 bytes into a buffer.
+// Both say nothing of a row that is too near the table's end, too wide or malformed, or whose output has no block to spare. The exact path (`exact`) reads any
+// row and gives every refusal; it goes through it twice by the same functions, first without writing. All find delimiters by `marks`, eight bytes at a time;
+// `unquote` is the exact path's quoted value.
 // What a delimiter is, is known to `marks::delimiters_of` for eight bytes and to `csv::is_text` for one; what a row end is, to `exact::row_end`.
 mod exact;
 mod line;

@@ -20,7 +20,7 @@ use csv::MAX_COLUMNS;
 // How many bytes are copied at once.
 pub(crate) const BLOCK: usize = 16;
 
-// What the fast path did: the values are written, or nothing is.
+// What a path of one pass did: the values are written, or nothing is.
 pub(crate) enum Fast {
     Read { next: usize, size: usize },
     Not,
@@ -132,7 +132,8 @@ fn copy_line(t: &[u8], e: usize, n: usize, marks: &[usize], out: &mut [u8], ends
     copy_block(&saved, 0, out, e - n);
 }
 
-// Reads the row of `width` values at the start of t, if it has no quotes, and if a block fits after it and after its values.
+// Reads the row of `width` values at the start of t, if it has no quotes, and if a block fits after it and after its values. Where a quote comes first, or
+// a lone CR, `short_row` is asked.
 pub(crate) fn fast_row(t: &[u8], width: usize, out: &mut [u8], ends: &mut [usize]) -> Fast
     ensures { λ r. ⌜ Quickly (now (t .entry)) width (now (out .entry)) (now (ends .entry)) (now (out .exit)) (now (ends .exit)) r ⌝ }
 {

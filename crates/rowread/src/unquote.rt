@@ -1,4 +1,4 @@
-// A quoted value, for both passes of the exact path: the first finds where it ends and how many bytes it has, the second writes it. Where 24 bytes
+// A quoted value, for every pass of the exact path: where it ends, how many bytes it has and, if `write`, its bytes. Where 24 bytes
 // are left the quotes are found by marks, eight bytes at a time, and the bytes before each are copied as a block; the rest byte by byte.
 ghost use mathlib.Core.Path.{_≡_};
 ghost use Prim.Native.Nat.{_+_, _-_, _≤_, _<_};

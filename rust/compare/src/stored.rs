@@ -456,8 +456,6 @@ fn at_once(tally: &mut Tally) {
             tally.count("sets of 14 with 9", usize::from(room == 0 || slots < width));
         }
     }
-    longest(tally);
-    around_the_buffer(tally);
 }
 
 /// Rows with quotes of about 1,024 bytes, up to which the core reads a row into a
@@ -466,15 +464,24 @@ fn at_once(tally: &mut Tally) {
 fn around_the_buffer(tally: &mut Tally) {
     for size in 990..1060 {
         for end in [&b"\n"[..], b"\r\n", b"\r", b"\"\n", b""] {
-            let value = vec![b'x'; size - 12 - end.len()];
+            let value = vec![b'x'; size - 11 - end.len()];
             let row = [b"\"a\"\"\",b,\"c", &value[..], b"\"", end].concat();
+            assert_eq!(row.len(), size);
             for table in [row.clone(), [&row[..], &AFTER].concat()] {
                 let row = row_at(&table);
-                let joined = size - 12 - end.len() + 4;
+                let joined = value.len() + 4;
                 for room in [joined - 1, joined, joined + 15, joined + 16, joined + SPARE] {
                     for (width, slots) in [(3, 3), (3, 2), (2, 3), (4, 4), (11, 11)] {
                         let question = Question { table: &table, width, place: 0, room, slots };
-                        question.ask(tally, row.as_ref());
+                        let answer = question.ask(tally, row.as_ref());
+                        let right =
+                            match end {
+                                b"\n" | b"\r\n" if width == 3 => {
+                                    if room >= joined && slots >= width { 0 } else { 9 }
+                                }
+                                _ => 14,
+                            };
+                        tally.same(answer.refusal, right, || question.describe("buffer"));
                     }
                 }
             }
@@ -517,5 +524,7 @@ fn longest(tally: &mut Tally) {
 
 pub fn stored(plan: &Plan, tally: &mut Tally) {
     at_once(tally);
+    longest(tally);
+    around_the_buffer(tally);
     short_tables(plan, tally);
 }

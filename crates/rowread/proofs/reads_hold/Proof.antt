@@ -1,4 +1,4 @@
-use Rattle.rowread.proofs.Table.{reads-written, reads-table, stored-is-a-row, reads-rows, small-outputs, refuses-others, reads-all, stored-limits, refuses-lone-cr}
+use Rattle.rowread.proofs.Table.{reads-written, reads-table, stored-is-a-row, reads-rows, small-outputs, refuses-others, reads-end, reads-all, stored-limits, refuses-lone-cr}
 use Rattle.rowread.proofs.reads_hold.Statement.{statement}
 use Rattle.rowread.proofs.reads_hold.Tie as tie
 
@@ -11,6 +11,7 @@ returns c =
       readsRows = reads-rows;
       smallOutputs = small-outputs;
       refusesOthers = refuses-others;
+      readsEnd = reads-end;
       readsAll = reads-all;
       storedLimits = stored-limits;
       refusesLoneCr = refuses-lone-cr;
