@@ -80,8 +80,8 @@ fn row() {
 #[test]
 fn stored_row() {
     let form = smallest::<stored::Stored>(Wrong::Stored, 20);
-    let read = "read_row at 1, width 3, into 0 bytes and 3 ends";
-    assert_eq!(form, [r"table of 4 bytes: ,,,\n", read]);
+    let read = "read_row at 1, width 2, into 0 bytes and 2 ends";
+    assert_eq!(form, [r"table of 4 bytes: ,,\n,", read]);
 }
 
 #[test]
