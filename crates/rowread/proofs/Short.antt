@@ -4,28 +4,18 @@ use Prim.Native.Nat.{ℕ, _+_, _-_, _≤_}
 use native.Mathlib.Omega.{arith}
 use mathlib.Core.Path.{_≡_, refl, sym, ap, _∙_}
 use mathlib.Core.List.{List, _++_, append-assoc}
-use lib.ListN.{length, take, drop, length-append, length-take, length-drop, take-append-drop}
-use lib.Seq.{sets, sets-eq, take-at, drop-append-seam}
+use lib.ListN.{length, take, drop, length-take, length-drop}
+use lib.Seq.{sets, sets-eq, take-at}
 use Rattle.csv.specs.Csv.{Record}
 use Rattle.csv.specs.Read.{Row, row, malformed, values}
 use Rattle.csv.proofs.Grammar.{sound}
-use Rattle.csv.proofs.Frame.{frame, front-in-row}
+use Rattle.csv.proofs.Frame.{part-row}
 use Rattle.rowread.specs.declared.exact.Scan.the-variants.{Whole}
 use Rattle.rowread.specs.Stored.{valuesOf, joined, endsOf}
 use Rattle.rowread.specs.Steps.{scanFrom, scanOf, IsRow, Ahead, Holds}
 use Rattle.rowread.proofs.Blocks.{ahead-closed, take-sets}
 use Rattle.rowread.proofs.Calls.{length-ends}
 use Rattle.rowread.proofs.Copies.{joined-size}
-
--- a row of the first n bytes, and where it ends among all
-part-row : (n : ℕ) (t : List ℕ) {r : List ℕ} {vs : List (List ℕ)} → Record (take n t) vs r → Record t vs (drop (length (take n t) - length r) t)
-part-row n t {r} {vs} q =
-    let f = frame q in
-    let d : List ℕ = drop n t in
-    let a : t ≡ f .0 ++ (r ++ d) = sym (take-append-drop n t) ∙ ap (λ (l : List ℕ). l ++ d) (f .1) ∙ append-assoc (f .0) r d in
-    let m : length (take n t) - length r ≡ length (f .0) = omega (arith, ap length (f .1), length-append (f .0) r) in
-    let b : drop (length (take n t) - length r) t ≡ r ++ d = ap (λ (k : ℕ). drop k t) m ∙ ap (drop (length (f .0))) a ∙ drop-append-seam (f .0) (r ++ d) in
-    rw b (front-in-row n t q)
 
 pub record ShortRow (t s : List ℕ) (width next size : ℕ) : Type 0 where
   pub is-row : IsRow (values width s)

@@ -14,13 +14,13 @@ use Rattle.csv.specs.Csv.{Record, maxRow}
 use Rattle.csv.specs.Write.{rowOf}
 use Rattle.csv.specs.Read as Csv
 use Rattle.csv.proofs.Grammar.{writes, sound, complete, lone-cr}
-use Rattle.csv.proofs.Frame.{frame, front-in-row}
+use Rattle.csv.proofs.Frame.{frame, front-in-row, part-row}
 use Rattle.csv.proofs.Sizes.{row-some, lone-some, not-longer}
 use Rattle.refusal.specs.declared.Refusal.the-variants.{Small, Row}
 use Rattle.rowread.specs.declared.ReadAnswer.{ReadAnswer}
 use Rattle.rowread.specs.declared.ReadAnswer.the-variants.{Stored, End, Refused}
 use Rattle.rowread.specs.Stored.{partAt, rowAt, valuesOf, valuesAt, joined, found, readAnswer}
-use Rattle.rowread.specs.Claims.{Fits, ReadsWritten, tableOf, Reads, atEnd, onward, AllFit, ReadsTable, StoredIsARow, RowThere, ReadsRows, SmallOutputs, RefusesOthers, ReadsEnd, RowsOf, noRows, rowFirst, ReadsAll, Limits, StoredLimits, RefusesLoneCr}
+use Rattle.rowread.specs.Claims.{Fits, ReadsWritten, tableOf, Reads, atEnd, onward, AllFit, ReadsTable, StoredIsARow, RowThere, ReadsRows, SmallOutputs, RefusesOthers, ReadsEnd, RowsOf, noRows, rowFirst, ReadsAll, StoredLimits, RefusesLoneCr}
 
 abbrev Text : Type 0
 Text = List ℕ
@@ -146,7 +146,7 @@ unfolding tableOf
 reads-table width capacity slots [] f = atEnd (at-the-end [] width capacity slots)
 reads-table width capacity slots (vs ∷ rows) f = reads-all (tableOf (vs ∷ rows)) width capacity slots (vs ∷ rows) (rows-of width capacity slots (vs ∷ rows) f) (f .0 .ends)
 
--- ---- what is read is a row
+-- ---- what is read is a row, and within the limits
 
 refused-not : {A : Type 0} (r : Rattle.refusal.specs.declared.Refusal.Refusal) (next size : ℕ) → Refused r ≡ Stored next size → A
 refused-not r next size e = absurd (let z : _≡_ {A = ℕ} 0 1 = cc in omega arith)
@@ -154,65 +154,50 @@ refused-not r next size e = absurd (let z : _≡_ {A = ℕ} 0 1 = cc in omega ar
 end-not : {A : Type 0} (next size : ℕ) → End ≡ Stored next size → A
 end-not next size e = absurd (let z : _≡_ {A = ℕ} 0 1 = cc in omega arith)
 
-module _ (table : Text) (width offset capacity slots next size : ℕ) where
-  at-place : (vs : List Text) (r : Text) → rowAt table width offset ≡ Csv.row vs r → next ≡ offset + (length (partAt table offset) - length r) → Record (drop offset table) vs (drop next table)
-  at-place vs r e n =
-      let q : Record (partAt table offset) vs r = sound width (partAt table offset) vs r e .0 in
-      let f = frame q in
-      let d : Text = drop maxRow (drop offset table) in
-      let a : drop offset table ≡ f .0 ++ (r ++ d) = sym (take-append-drop maxRow (drop offset table)) ∙ ap (λ (l : Text). l ++ d) (f .1) ∙ append-assoc (f .0) r d in
-      let m : next ≡ offset + length (f .0) = omega (arith, ap length (f .1), length-append (f .0) r) in
-      let b : drop next table ≡ r ++ d = rw m (sym (drop-drop (length (f .0)) offset table) ∙ ap (drop (length (f .0))) a ∙ drop-append-seam (f .0) (r ++ d)) in
-      rw (a, b) (f .2 (r ++ d))
+-- a row was read: there is one, and `next` is the offset after it
+record ReadAt (table : Text) (width offset next : ℕ) : Type 0 where
+  values : List Text
+  rest : Text
+  is : rowAt table width offset ≡ Csv.row values rest
+  to : next ≡ offset + (length (partAt table offset) - length rest)
 
-  in-found : (g : Csv.Row) → rowAt table width offset ≡ g → found offset (length (partAt table offset)) capacity slots g ≡ Stored next size → Record (drop offset table) (valuesOf g) (drop next table)
+module _ (table : Text) (width offset capacity slots next size : ℕ) where
+  in-found : (g : Csv.Row) → rowAt table width offset ≡ g → found offset (length (partAt table offset)) capacity slots g ≡ Stored next size → ReadAt table width offset next
   in-found Csv.malformed e q = refused-not Row next size q
   in-found (Csv.row vs r) e q = go (leb (length (joined vs)) capacity) (leb (length vs) slots) q
     where
-      go : (s t : Bool) → pick s (pick t (Stored (offset + (length (partAt table offset) - length r)) (length (joined vs))) (Refused Small)) (Refused Small) ≡ Stored next size → Record (drop offset table) vs (drop next table)
-      go true true i = let n : next ≡ offset + (length (partAt table offset) - length r) = cc in at-place vs r e n
+      go : (s t : Bool) → pick s (pick t (Stored (offset + (length (partAt table offset) - length r)) (length (joined vs))) (Refused Small)) (Refused Small) ≡ Stored next size → ReadAt table width offset next
+      go true true i = let n : next ≡ offset + (length (partAt table offset) - length r) = cc in record { values = vs; rest = r; is = e; to = n }
       go true false i = refused-not Small next size i
       go false t i = refused-not Small next size i
 
-  in-answer : (s t : Bool) → pick s (pick t End (found offset (length (partAt table offset)) capacity slots (rowAt table width offset))) (Refused Row) ≡ Stored next size → Record (drop offset table) (valuesAt table width offset) (drop next table)
+  in-answer : (s t : Bool) → pick s (pick t End (found offset (length (partAt table offset)) capacity slots (rowAt table width offset))) (Refused Row) ≡ Stored next size → ReadAt table width offset next
   in-answer true true q = end-not next size q
   in-answer true false q = in-found (rowAt table width offset) refl q
   in-answer false t q = refused-not Row next size q
 
+  read-at : readAnswer table width offset capacity slots ≡ Stored next size → ReadAt table width offset next
+  unfolding readAnswer
+  read-at e = in-answer (leb offset (length table)) (eqb offset (length table)) e
+
 pub stored-is-a-row : StoredIsARow
-unfolding readAnswer
-stored-is-a-row table width offset capacity slots next size e = in-answer table width offset capacity slots next size (leb offset (length table)) (eqb offset (length table)) e
-
--- ---- and within the limits
-
-module _ (table : Text) (width offset capacity slots next size : ℕ) where
-  limits-at : (vs : List Text) (r : Text) → rowAt table width offset ≡ Csv.row vs r → next ≡ offset + (length (partAt table offset) - length r) → Limits table width offset next
-  limits-at vs r e n =
-      let v : valuesAt table width offset ≡ vs = ap valuesOf e in
-      let l = not-longer width (partAt table offset) vs r e in
-      record {
-        within = omega (arith, n, length-take maxRow (drop offset table));
-        many = ap length v ∙ sound width (partAt table offset) vs r e .1;
-        afresh = omega (arith, n, l, ap (λ (x : List Text). length (rowOf x)) v);
-      }
-
-  limits-found : (g : Csv.Row) → rowAt table width offset ≡ g → found offset (length (partAt table offset)) capacity slots g ≡ Stored next size → Limits table width offset next
-  limits-found Csv.malformed e q = refused-not Row next size q
-  limits-found (Csv.row vs r) e q = go (leb (length (joined vs)) capacity) (leb (length vs) slots) q
-    where
-      go : (s t : Bool) → pick s (pick t (Stored (offset + (length (partAt table offset) - length r)) (length (joined vs))) (Refused Small)) (Refused Small) ≡ Stored next size → Limits table width offset next
-      go true true i = let n : next ≡ offset + (length (partAt table offset) - length r) = cc in limits-at vs r e n
-      go true false i = refused-not Small next size i
-      go false t i = refused-not Small next size i
-
-  limits-in : (s t : Bool) → pick s (pick t End (found offset (length (partAt table offset)) capacity slots (rowAt table width offset))) (Refused Row) ≡ Stored next size → Limits table width offset next
-  limits-in true true q = end-not next size q
-  limits-in true false q = limits-found (rowAt table width offset) refl q
-  limits-in false t q = refused-not Row next size q
+stored-is-a-row table width offset capacity slots next size e =
+    let x = read-at table width offset capacity slots next size e in
+    let n : ℕ = length (partAt table offset) - length (x .rest) in
+    let v : valuesAt table width offset ≡ x .values = ap valuesOf (x .is) in
+    let d : drop next table ≡ drop n (drop offset table) = ap (λ (k : ℕ). drop k table) (x .to) ∙ sym (drop-drop n offset table) in
+    rw (v, d) (part-row maxRow (drop offset table) (sound width (partAt table offset) (x .values) (x .rest) (x .is) .0))
 
 pub stored-limits : StoredLimits
-unfolding readAnswer
-stored-limits table width offset capacity slots next size e = limits-in table width offset capacity slots next size (leb offset (length table)) (eqb offset (length table)) e
+stored-limits table width offset capacity slots next size e =
+    let x = read-at table width offset capacity slots next size e in
+    let v : valuesAt table width offset ≡ x .values = ap valuesOf (x .is) in
+    let l = not-longer width (partAt table offset) (x .values) (x .rest) (x .is) in
+    record {
+      within = omega (arith, x .to, length-take maxRow (drop offset table));
+      many = ap length v ∙ sound width (partAt table offset) (x .values) (x .rest) (x .is) .1;
+      afresh = omega (arith, x .to, l, ap (λ (y : List Text). length (rowOf y)) v);
+    }
 
 -- ---- and nothing else: what reads as a row among 8,192 bytes is a row of them all
 

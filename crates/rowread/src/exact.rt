@@ -164,8 +164,8 @@ pub(crate) fn write_row(t: &[u8], width: usize, size: usize, out: &mut [u8], end
     copy_block(&saved, 0, out, size);
 }
 
-// Reads the row of `width` values at the start of t, if these are at most ten, it has at most 1,024 bytes and a block fits after its values. They are read into a buffer, and copied
-// once they are known to be a row's; what the last block overwrites after them is saved before, and put back.
+// Reads the row of `width` values at the start of t, if these are at most ten, it has at most 1,024 bytes and a block fits after its values. They are
+// read into a buffer, and copied once they are known to be a row's; what the last block overwrites after them is saved before, and put back.
 pub(crate) fn short_row(t: &[u8], width: usize, out: &mut [u8], ends: &mut [usize]) -> Fast
     ensures { λ r. ⌜ Quickly (now (t .entry)) width (now (out .entry)) (now (ends .entry)) (now (out .exit)) (now (ends .exit)) r ⌝ }
 {

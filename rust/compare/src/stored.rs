@@ -427,7 +427,7 @@ fn at_once(tally: &mut Tally) {
     let long = |n: usize, end: &[u8]| [&b"a,"[..], &vec![b'x'; n], end].concat();
     let bad: [(&str, Vec<u8>, usize, usize); 16] = [
         ("a quote in a field", b"a\"b,c\n".to_vec(), 2, 0),
-        ("a byte behind a closing quote", b"\"a\"b,c\n".to_vec(), 2, 0),
+        ("a byte after a closing quote", b"\"a\"b,c\n".to_vec(), 2, 0),
         ("no row end", b"a,b".to_vec(), 2, 0),
         ("no closing quote", b"a,\"b\n".to_vec(), 2, 0),
         ("too few values", b"a,b\n".to_vec(), 3, 0),
@@ -440,8 +440,8 @@ fn at_once(tally: &mut Tally) {
         ("two CRs and an LF", b"a,b\r\r\n".to_vec(), 2, 0),
         ("a CR before a comma", b"a\r,b\n".to_vec(), 2, 0),
         ("a CR in a field", b"a\rb,c\n".to_vec(), 2, 0),
-        ("a CR behind a closing quote", b"\"a\"\rx,b\n".to_vec(), 2, 0),
-        ("a CR behind a closing quote, at the end", b"a,\"b\"\r".to_vec(), 2, 0),
+        ("a CR after a closing quote", b"\"a\"\rx,b\n".to_vec(), 2, 0),
+        ("a CR after a closing quote, at the end", b"a,\"b\"\r".to_vec(), 2, 0),
     ];
     let longer = |(what, table, width, place): &(&'static str, Vec<u8>, usize, usize)| {
         let place = if *place > 0 { place + AFTER.len() } else { 0 };

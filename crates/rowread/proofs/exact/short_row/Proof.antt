@@ -1,4 +1,4 @@
--- A buffer has room for all of the first 1,024 bytes, so a row may be read into it that isn't known to be one (`Ample`). If it is one, the values go from the
+-- The buffer is long enough for all of the first 1,024 bytes, so a row may be read into it that isn't known to be one (`Ample`). If it is one, the values go from the
 -- buffer to the output and their ends from `marks` (`short-holds`); the loop's invariant is that of copy_part. On every other path nothing was written.
 use Prim.Native.Nat.{ℕ, _-_, _≤_}
 use native.Mathlib.Omega.{arith}
