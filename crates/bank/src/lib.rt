@@ -1,4 +1,6 @@
 // The banks of a region: validate, load, and data checking in turns.
+#![tactic(auto)]
+
 pub mod turns;
 
 ghost use Rattle.std.specs.Prelude.{◌≡◌, ◌-◌, ◌≤◌, length};
@@ -13,7 +15,7 @@ use leaf::generation::newer;
 use refusal::Refusal;
 use region::{LAST_BANK, REGION_SIZE, SECTOR_SIZE, bank_of};
 
-#[derive(Drop)]
+#[derive(Clone, Copy)]
 pub enum Loaded {
     Found(Bank),
     Nothing,

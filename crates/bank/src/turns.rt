@@ -14,7 +14,7 @@ use region::{CAPACITY_32, LAST_BANK, REGION_SIZE, bank_of};
 pub const NO_BANK: u32 = 255;
 
 // The state of data checking on a bank.
-#[derive(Drop)]
+#[derive(Clone, Copy)]
 pub struct Checking {
     pub bank: u32,
     pub position: u32,
@@ -22,14 +22,14 @@ pub struct Checking {
 }
 
 // A turn's answer: how many bytes it hashed, or the verdict.
-#[derive(Drop)]
+#[derive(Clone, Copy)]
 pub enum Progress {
     Hashed(u32),
     Yes,
     Refused(Refusal),
 }
 
-#[derive(Drop)]
+#[derive(Clone, Copy)]
 pub struct Turn {
     pub progress: Progress,
     pub next: Checking,

@@ -30,7 +30,7 @@ use snapshot::rows::{BlockAnswer, bytes_of, table_block};
 // A bank, if found is 1: its number, format version and generation, the data's length and CRC, how many sources it has, the key's length,
 // and when it was checked.
 #[repr(C)]
-#[derive(Drop)]
+#[derive(Clone, Copy)]
 pub struct BankNumbers {
     pub refusal: u32,
     pub found: u32,
@@ -46,7 +46,7 @@ pub struct BankNumbers {
 
 // When a bank was checked, and when its sources were updated.
 #[repr(C)]
-#[derive(Drop)]
+#[derive(Clone, Copy)]
 pub struct FreshNumbers {
     pub refusal: u32,
     pub checked: i64,
@@ -55,7 +55,7 @@ pub struct FreshNumbers {
 
 // A written key's length.
 #[repr(C)]
-#[derive(Drop)]
+#[derive(Clone, Copy)]
 pub struct KeyNumbers {
     pub refusal: u32,
     pub length: usize,
@@ -63,7 +63,7 @@ pub struct KeyNumbers {
 
 // Whether a key is the same: 1 or 0.
 #[repr(C)]
-#[derive(Drop)]
+#[derive(Clone, Copy)]
 pub struct MatchNumbers {
     pub refusal: u32,
     pub same: u32,
@@ -72,7 +72,7 @@ pub struct MatchNumbers {
 // A turn: verdict is 1 if all data were hashed and their CRC is the header's, else count is how many bytes were hashed. The state for the
 // next turn is bank, position and CRC.
 #[repr(C)]
-#[derive(Drop)]
+#[derive(Clone, Copy)]
 pub struct TurnNumbers {
     pub refusal: u32,
     pub verdict: u32,
@@ -84,7 +84,7 @@ pub struct TurnNumbers {
 
 // A row of a bank: found is 1 if there is one; next is the offset of the row after it, size how many bytes its values have, joined.
 #[repr(C)]
-#[derive(Drop)]
+#[derive(Clone, Copy)]
 pub struct BankRowNumbers {
     pub refusal: u32,
     pub found: u32,

@@ -43,7 +43,7 @@ pub const OPERATION_COMMIT_WORD: u32 = 5;
 // header and the commit word are flash operations on the bank that isn't active; a write's length is with its padding. A comparison reads
 // the active bank, bank 0 if there is none, and does nothing to the chip.
 #[repr(C)]
-#[derive(Drop)]
+#[derive(Clone, Copy)]
 pub struct OperationNumbers {
     pub refusal: u32,
     pub kind: u32,

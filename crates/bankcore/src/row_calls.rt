@@ -1,6 +1,6 @@
 // Rows and the trip filter.
 ghost use Rattle.std.specs.Prelude.{◌≡◌, length};
-ghost use Rattle.csv.specs.Write.{row_of};
+ghost use Rattle.rfc4180.specs.Write.{row_of};
 ghost use Rattle.row.specs.Columns.{names_line};
 ghost use Rattle.row.specs.Write as Rows;
 ghost use Rattle.rowread.specs.Stored as Stored;
@@ -15,7 +15,7 @@ use rowread::ReadAnswer;
 
 // A written line's length, with its LF.
 #[repr(C)]
-#[derive(Drop)]
+#[derive(Clone, Copy)]
 pub struct RowNumbers {
     pub refusal: u32,
     pub length: usize,
@@ -23,7 +23,7 @@ pub struct RowNumbers {
 
 // How many columns there are.
 #[repr(C)]
-#[derive(Drop)]
+#[derive(Clone, Copy)]
 pub struct ColumnNumbers {
     pub refusal: u32,
     pub count: usize,
@@ -31,7 +31,7 @@ pub struct ColumnNumbers {
 
 // A row that was read: found is 1 if there is one; next is the offset of the row after it, size how many bytes its values have, joined.
 #[repr(C)]
-#[derive(Drop)]
+#[derive(Clone, Copy)]
 pub struct ReadNumbers {
     pub refusal: u32,
     pub found: u32,
@@ -41,7 +41,7 @@ pub struct ReadNumbers {
 
 // Whether an id may be in the filter: 1 or 0.
 #[repr(C)]
-#[derive(Drop)]
+#[derive(Clone, Copy)]
 pub struct FilterNumbers {
     pub refusal: u32,
     pub present: u32,

@@ -1,4 +1,6 @@
 // The trip filter: four bits of a lent filter for each trip id.
+#![tactic(auto)]
+
 ghost use Rattle.bloom.specs.Claims.{Claims};
 ghost use Rattle.std.specs.Prelude.{◌≡◌, ◌*◌, ◌/◌, ◌%◌, ◌<◌, ◌≤◌, true, length};
 ghost use Rattle.base.specs.Number.{byte_bits};
@@ -14,7 +16,7 @@ use refusal::Refusal;
 pub const MAX_FILTER: usize = 65536;
 
 // What a query and an insertion answer: whether all four bits were set.
-#[derive(Drop)]
+#[derive(Clone, Copy)]
 pub enum Filter {
     Present,
     Absent,
@@ -22,7 +24,7 @@ pub enum Filter {
 }
 
 // Four positions, in order.
-#[derive(Drop)]
+#[derive(Clone, Copy)]
 struct Four {
     a: u32,
     b: u32,

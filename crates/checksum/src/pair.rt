@@ -33,7 +33,7 @@ const TABLE: [u32; ENTRIES] = [
     152953046, 2151249098, 1309279489, 1224825523, 2268212088, 236371812, 3223703215,
 ];
 
-#[derive(Drop)]
+#[derive(Clone, Copy)]
 pub struct Both {
     pub a: u32,
     pub b: u32,

@@ -26,20 +26,20 @@ const FIVE_WORDS: usize = 5 * LONG_BYTES;
 const SEVEN_WORDS: usize = 7 * LONG_BYTES;
 
 // Pending words: what folds have added to the next two, three or five words of the input.
-#[derive(Drop)]
+#[derive(Clone, Copy)]
 struct Two {
     a: u64,
     b: u64,
 }
 
-#[derive(Drop)]
+#[derive(Clone, Copy)]
 struct Three {
     a: u64,
     b: u64,
     c: u64,
 }
 
-#[derive(Drop)]
+#[derive(Clone, Copy)]
 struct Five {
     a: u64,
     b: u64,
@@ -189,7 +189,7 @@ fn fold_into_five(p: Five, w: u64) -> Five
 }
 
 // A state between words. The register after the bytes before offset `at` is 64 steps of `word`, with `added` added.
-#[derive(Drop)]
+#[derive(Clone, Copy)]
 struct Begun {
     word: u64,
     added: u64,
@@ -197,7 +197,7 @@ struct Begun {
 }
 
 // Three or five pending words, and the offset of the first of them in the input.
-#[derive(Drop)]
+#[derive(Clone, Copy)]
 struct ThreeAt {
     a: u64,
     b: u64,
@@ -205,7 +205,7 @@ struct ThreeAt {
     at: usize,
 }
 
-#[derive(Drop)]
+#[derive(Clone, Copy)]
 struct FiveAt {
     a: u64,
     b: u64,

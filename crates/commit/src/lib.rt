@@ -1,4 +1,6 @@
 // The lower layer's commit, in two calls.
+#![tactic(auto)]
+
 pub mod unchanged;
 
 ghost use Rattle.std.specs.Prelude.{◌≡◌, ◌&&◌, ◌∷◌, [], ◌≤◌, length, take};
@@ -25,7 +27,7 @@ use region::REGION_SIZE;
 use writer::{Stage, Step, Writer, did, in_range, stays, target};
 
 // The host's stamp, if any.
-#[derive(Drop)]
+#[derive(Clone, Copy)]
 pub enum Stamp {
     Given(i64),
     Missing,

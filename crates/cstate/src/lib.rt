@@ -1,4 +1,6 @@
 // A writer's state and a call's answer as plain numbers, for C. Every bit pattern is a State.
+#![tactic(auto)]
+
 ghost use Rattle.cstate.specs.Claims.{Claims};
 ghost use Rattle.std.specs.Prelude.{◌≡◌};
 ghost use Rattle.base.specs.Number.{pick};
@@ -51,7 +53,7 @@ pub const ANSWER_DIFFERENT: u32 = 4;
 // of the due write or comparison, and second its length, without padding. Active is TT_ACTIVE_NONE or TT_ACTIVE_SOME; with another number,
 // or another stage, calls meet 11. A flag is set if its number isn't 0. Written and fill are the bytes written and those in the tail.
 #[repr(C)]
-#[derive(Drop)]
+#[derive(Clone, Copy)]
 pub struct State {
     pub stage: u32,
     pub first: u32,
@@ -160,7 +162,7 @@ pub fn writer_of(s: State) -> Writer
 }
 
 // A stage's number and the two numbers of its operation.
-#[derive(Drop)]
+#[derive(Clone, Copy)]
 struct StageNumbers {
     kind: u32,
     first: u32,
@@ -295,7 +297,7 @@ pub fn state_of(w: Writer) -> State
 
 // What a call of an update answers: answer is one of TT_ANSWER_.., count the number of bytes appended.
 #[repr(C)]
-#[derive(Drop)]
+#[derive(Clone, Copy)]
 pub struct UpdateNumbers {
     pub refusal: u32,
     pub answer: u32,
@@ -304,7 +306,7 @@ pub struct UpdateNumbers {
 
 // What a call of an update gives back: its answer, and the state for the next call.
 #[repr(C)]
-#[derive(Drop)]
+#[derive(Clone, Copy)]
 pub struct UpdateStep {
     pub numbers: UpdateNumbers,
     pub state: State,

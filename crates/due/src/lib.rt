@@ -1,4 +1,6 @@
 // The lower layer's due call: does one erase, write or comparison, or answers that none is due.
+#![tactic(auto)]
+
 ghost use Rattle.std.specs.Prelude.{◌≡◌, true, List, [], ◌++◌, ℕ, ◌+◌, ◌-◌, ◌%◌, ◌≤◌, eqb, length, take};
 ghost use Rattle.base.specs.Number.{pick};
 ghost use Rattle.base.specs.Lists.{fill};

@@ -9,7 +9,7 @@ use Rattle.key.specs.Order.{pick_order, text_order}
 use Rattle.key.specs.Picks.{sum, text, pick_of, firsts, insert, distinct}
 use Rattle.key.specs.Layout.{joined, prefix, key_of}
 use Rattle.base.specs.Same.{same}
-use Rattle.csv.specs.Write.{special, any_special, doubled, field_of}
+use Rattle.rfc4180.specs.Write.{special, any_special, doubled, field_of}
 use Rattle.base.proofs.Bools.{and_left, and_right}
 use Rattle.examples.specs.Examples.{Question, answer, table, Answered}
 

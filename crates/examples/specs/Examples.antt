@@ -5,7 +5,7 @@ use Rattle.leaf.specs.Date.{valid_date}
 use Rattle.key.specs.Picks.{passed_picks}
 use Rattle.key.specs.Layout.{key_of}
 use Rattle.base.specs.Same.{same}
-use Rattle.csv.specs.Write.{field_of}
+use Rattle.rfc4180.specs.Write.{field_of}
 
 -- newer_than a b: is generation a newer than b? aDate n: is n a date? key_is identity texts lengths key: is that the key of the identity
 -- and of the picks passed as texts and their lengths, five to a pick? field_is value field: is a value written as that field?

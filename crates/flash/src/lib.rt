@@ -1,4 +1,6 @@
 // The two flash operations on a bank of a lent region.
+#![tactic(auto)]
+
 ghost use Rattle.std.specs.Prelude.{◌≡◌, true, ◌+◌, ◌≤◌, length};
 ghost use Rattle.flash.specs.Flash.{blank, clear, within, erased_in, written_in};
 ghost use Rattle.flash.specs.Claims.{Claims};

@@ -1,4 +1,6 @@
 // A bank's header: its numbers and records, and the tests that don't read the data.
+#![tactic(auto)]
+
 pub mod write;
 
 ghost use Rattle.header.specs.Claims.{Claims, SealClaims};
@@ -79,7 +81,7 @@ pub const BLANK_WORD: u32 = 0xffffffff;
 
 // A bank's numbers; `key` is the key's length.
 #[repr(C)]
-#[derive(Drop)]
+#[derive(Clone, Copy)]
 pub struct Bank {
     pub number: u32,
     pub version: u32,
@@ -91,7 +93,7 @@ pub struct Bank {
     pub checked: i64,
 }
 
-#[derive(Drop)]
+#[derive(Clone, Copy)]
 pub enum Validated {
     Good(Bank),
     Refused(Refusal),

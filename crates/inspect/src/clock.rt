@@ -60,7 +60,7 @@ const THOUSAND: u64 = 1000;
 const YEAR_UNIT: u64 = 10000;
 
 // A day of the calendar.
-#[derive(Drop)]
+#[derive(Clone, Copy)]
 struct Day {
     year: u64,
     month: u64,

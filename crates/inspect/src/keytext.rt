@@ -12,7 +12,7 @@ const LENGTH_HIGH: usize = 2;
 
 // Where the parts of a key are: the identity, if there is one, the first field, and how many fields there are. If `is_key` is false, the bytes
 // aren't laid out so.
-#[derive(Drop)]
+#[derive(Clone, Copy)]
 pub struct Parts {
     pub is_key: bool,
     pub has_identity: bool,

@@ -5,12 +5,12 @@ use crate::text::{LONGEST, is_text, put_character, put_hex, shown_with};
 use crate::{json, lines};
 use base::slice::part;
 use base::table::LAST_TABLE;
-use csv::{MAX_COLUMNS, MAX_ROW};
 use program::bytes::copy;
 use program::output::say;
 use program::text::between;
 use refusal::Refusal;
 use region::CAPACITY_32;
+use rfc4180::{MAX_COLUMNS, MAX_ROW};
 use row::column_count;
 use rowread::ReadAnswer;
 use std::num::wrapping_add_usize;
@@ -26,7 +26,7 @@ const HEX_DIGITS: usize = 2;
 const MOST_ROWS: u32 = CAPACITY_32 + 1;
 
 // Where a row is: bank, source, table, and its offset in the table.
-#[derive(Drop)]
+#[derive(Clone, Copy)]
 struct Row {
     bank: u32,
     source: u32,
@@ -35,7 +35,7 @@ struct Row {
 }
 
 // The offset after what is written, and how many bytes of the text are written already.
-#[derive(Drop)]
+#[derive(Clone, Copy)]
 struct Spelled {
     at: usize,
     skipped: usize,

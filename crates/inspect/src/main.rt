@@ -1,4 +1,6 @@
 // Says what is in a board's flash image: docs/INSPECT.md has the options and the lines.
+#![tactic(auto)]
+
 mod clock;
 mod json;
 mod keytext;

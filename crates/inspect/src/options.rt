@@ -60,7 +60,7 @@ const SECOND_SOURCE: u32 = 1;
 const THIRD_SOURCE: u32 = 2;
 
 // What an argument is.
-#[derive(Drop)]
+#[derive(Clone, Copy)]
 enum Argument {
     Image,
     Empty,
@@ -81,7 +81,7 @@ enum Argument {
 }
 
 // The outcome of the arguments so far: continue, help, or what is wrong.
-#[derive(Drop)]
+#[derive(Clone, Copy)]
 pub enum End {
     More,
     Help,
@@ -100,7 +100,7 @@ pub enum End {
 }
 
 // The image is the index of an argument, 0 for none. After `--` every argument is an image.
-#[derive(Drop)]
+#[derive(Clone, Copy)]
 pub struct Images {
     pub only: bool,
     pub index: usize,
@@ -109,7 +109,7 @@ pub struct Images {
 }
 
 // When freshness is asked for.
-#[derive(Drop)]
+#[derive(Clone, Copy)]
 pub struct Times {
     pub timed: bool,
     pub now: i64,
@@ -118,7 +118,7 @@ pub struct Times {
 }
 
 // The selection to match. The identity is the index of an argument, 0 for none; of the picks the lengths and the bytes are counted.
-#[derive(Drop)]
+#[derive(Clone, Copy)]
 pub struct Selection {
     pub asked: bool,
     pub identity: usize,
@@ -127,7 +127,7 @@ pub struct Selection {
 }
 
 // Which rows, which bank, and in which form.
-#[derive(Drop)]
+#[derive(Clone, Copy)]
 pub struct Shown {
     pub listed: bool,
     pub source: Choice,
@@ -138,7 +138,7 @@ pub struct Shown {
 
 // What the arguments ask for, and the index of the one that is read next. The fields are in groups, so that a function that reads an option passes on
 // its group and not all of them: the prover's time grows with both.
-#[derive(Drop)]
+#[derive(Clone, Copy)]
 pub struct Options {
     pub end: End,
     pub next: usize,
@@ -149,19 +149,19 @@ pub struct Options {
 }
 
 // A group as an option changes it, or that the option is wrong.
-#[derive(Drop)]
+#[derive(Clone, Copy)]
 enum ImagesRead {
     Is(Images),
     Wrong,
 }
 
-#[derive(Drop)]
+#[derive(Clone, Copy)]
 enum TimesRead {
     Is(Times),
     Wrong,
 }
 
-#[derive(Drop)]
+#[derive(Clone, Copy)]
 enum ShownRead {
     Is(Shown),
     Wrong,
@@ -703,7 +703,7 @@ fn selection_argument(s: &[u8]) -> Argument {
 }
 
 // The group that an argument belongs to, or what ends the reading.
-#[derive(Drop)]
+#[derive(Clone, Copy)]
 enum Group {
     Image,
     Time,

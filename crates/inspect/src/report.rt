@@ -22,7 +22,7 @@ const FIELDS_32: u32 = FIELDS as u32;
 const LAST_FIELD: u32 = FIELDS_32 - 1;
 
 // A bank by its number, none if load gives none.
-#[derive(Drop)]
+#[derive(Clone, Copy)]
 enum Given {
     Number(u32),
     Nothing,

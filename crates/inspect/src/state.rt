@@ -23,7 +23,7 @@ pub const SECTORS: u32 = (BANK_SIZE / SECTOR_SIZE) as u32;
 
 pub const LAST_SECTOR: u32 = SECTORS - 1;
 
-#[derive(Drop)]
+#[derive(Clone, Copy)]
 pub enum State {
     // It passes every test.
     Good,
@@ -67,7 +67,7 @@ pub fn index(s: State) -> u32 {
 }
 
 // A bank's state; its last sector that isn't erased; its header's numbers, as the bytes have them; and the CRCs that the bytes have.
-#[derive(Drop)]
+#[derive(Clone, Copy)]
 pub struct Found {
     pub state: State,
     pub last: u32,
@@ -78,7 +78,7 @@ pub struct Found {
 }
 
 // What a sector holds: nothing, the header, data of a bank with a good header, those of a table whose CRC is wrong, other bytes.
-#[derive(Drop)]
+#[derive(Clone, Copy)]
 pub enum Sector {
     Erased,
     Header,

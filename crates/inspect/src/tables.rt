@@ -20,7 +20,7 @@ const FEED_INFO: u32 = 6;
 const TRANSFERS: u32 = 7;
 
 // One by its number, or all; unknown if the argument names none.
-#[derive(Drop)]
+#[derive(Clone, Copy)]
 pub enum Choice {
     One(u32),
     All,

@@ -1,4 +1,6 @@
 // The key of an identity and picks: its bytes, and whether a stored key equals it. Every public function accepts any input.
+#![tactic(auto)]
+
 mod matching;
 mod picks;
 mod write;
@@ -39,14 +41,14 @@ const STOP_FIELD: usize = 3;
 
 const NAME_FIELD: usize = LAST_FIELD;
 
-#[derive(Drop)]
+#[derive(Clone, Copy)]
 pub enum KeyAnswer {
     // The key is in the first n bytes.
     Written(usize),
     Refused(Refusal),
 }
 
-#[derive(Drop)]
+#[derive(Clone, Copy)]
 pub enum SameKey {
     Same,
     Other,

@@ -13,7 +13,7 @@ use base::number::BYTE_VALUES;
 use base::slice::same_bytes;
 
 // Where the compared bytes end in the stored key, or that they differ.
-#[derive(Drop)]
+#[derive(Clone, Copy)]
 enum Matched {
     To(usize),
     Differs,

@@ -9,7 +9,7 @@ use crate::{CODE_FIELD, FIELDS, LAST_FIELD, MAX_IDENTITY, MAX_TEXTS, NAME_FIELD}
 use refusal::Refusal;
 
 // The index at which a pick is inserted among the sorted ones, or that it is among them.
-#[derive(Drop)]
+#[derive(Clone, Copy)]
 enum Index {
     At(usize),
     There,
@@ -200,7 +200,7 @@ pub(crate) fn sort_picks(texts: &[u8], starts: &[usize], n: usize, order: &mut [
 }
 
 // How many picks were prepared, or the refusal.
-#[derive(Drop)]
+#[derive(Clone, Copy)]
 pub(crate) enum Prepared {
     Ready(usize),
     Refused(Refusal),

@@ -4,7 +4,7 @@ ghost use Rattle.std.specs.Prelude.{◌≡◌, ◌∷◌, slice_index};
 ghost use Rattle.leaf.specs.Date.{leap, month_days, new_date, valid_date};
 
 // A date's number: year × 10000 + month × 100 + day.
-#[derive(Drop)]
+#[derive(Clone, Copy)]
 pub struct Date(pub u32);
 
 // What a year and a month count in a date's number, and the last of each.
@@ -19,7 +19,7 @@ const LAST_YEAR_32: u32 = LAST_YEAR as u32;
 const LAST_MONTH: u8 = 12;
 
 // What Date::new answers.
-#[derive(Drop)]
+#[derive(Clone, Copy)]
 pub enum NewDate {
     Made(Date),
     InvalidDate,

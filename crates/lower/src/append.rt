@@ -30,7 +30,7 @@ fn put_tail(tail: &mut [u8; TAIL_SIZE], at: usize, bytes: &[u8])
 }
 
 // The answer, how many bytes are appended and at which offset of the tail, and what else they change.
-#[derive(Drop)]
+#[derive(Clone, Copy)]
 struct Appended {
     answer: Answer,
     n: usize,

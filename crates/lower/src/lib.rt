@@ -1,5 +1,7 @@
 // The lower layer's calls that do no flash operation, a module each, and what they test: whether bytes may be appended, whether a table is
 // open or may begin, and how much of the tail is free.
+#![tactic(auto)]
+
 pub mod append;
 pub mod begin;
 pub mod source;

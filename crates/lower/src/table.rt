@@ -88,7 +88,7 @@ fn block_of(p: Parts) -> Block
 }
 
 // The answer of a table's end, the parts after it, and the table's block, zeros on a refusal.
-#[derive(Drop)]
+#[derive(Clone, Copy)]
 pub struct EndStep {
     pub step: PartsStep,
     pub block: Block,

@@ -23,7 +23,7 @@ const ENDING: [u8; ENDING_SIZE] = *b".part";
 const NAME_SIZE: usize = libc::PATH_MAX + ENDING_SIZE;
 
 // What a name leads to.
-#[derive(Drop)]
+#[derive(Clone, Copy)]
 enum Found {
     Nothing,
     Picture,

@@ -7,7 +7,7 @@ use writer::{TAIL_SIZE, TAIL_SIZE_32};
 
 // What is in the bank that is written: what the image has, nothing, a bank that is a generation older, an update cut half-way, one with only its
 // commit word missing, pseudorandom bytes.
-#[derive(Drop)]
+#[derive(Clone, Copy)]
 pub enum Leftover {
     Found,
     Erased,
@@ -18,7 +18,7 @@ pub enum Leftover {
 }
 
 // An update: one byte less than a tail, one more, all that a bank holds, the same after a comparison with the active bank.
-#[derive(Drop)]
+#[derive(Clone, Copy)]
 pub enum Kind {
     Below,
     Above,
@@ -27,7 +27,7 @@ pub enum Kind {
 }
 
 // Which leftovers are tried.
-#[derive(Drop)]
+#[derive(Clone, Copy)]
 pub enum Leftovers {
     One(Leftover),
     All,
@@ -35,7 +35,7 @@ pub enum Leftovers {
 }
 
 // Which updates are tried. The short ones are one byte less than a tail and one more.
-#[derive(Drop)]
+#[derive(Clone, Copy)]
 pub enum Updates {
     One(Kind),
     Short,

@@ -1,4 +1,6 @@
 // Tries updates with the power cut between their flash operations and inside them: docs/POWERCUT.md has the options and the lines.
+#![tactic(auto)]
+
 mod data;
 mod file;
 mod kinds;
@@ -33,7 +35,7 @@ pub const PROGRAM: [u8; 8] = *b"powercut";
 const COMBINATIONS: u32 = LEFTOVERS * KINDS;
 
 // How many updates were tried, their cuts together, and the picture's file (below 0: none).
-#[derive(Drop)]
+#[derive(Clone, Copy)]
 struct Tally {
     updates: u32,
     all: Count,
@@ -41,7 +43,7 @@ struct Tally {
 }
 
 // An update that is tried, or one that isn't asked for.
-#[derive(Drop)]
+#[derive(Clone, Copy)]
 enum Combination {
     Asked(Setting),
     Skipped,

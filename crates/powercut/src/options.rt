@@ -14,7 +14,7 @@ const ALONE: usize = 1;
 const WITH_ONE: usize = 2;
 
 // What an argument is.
-#[derive(Drop)]
+#[derive(Clone, Copy)]
 enum Argument {
     Image,
     Empty,
@@ -31,7 +31,7 @@ enum Argument {
 }
 
 // The outcome of the arguments so far: continue, help, or what is wrong.
-#[derive(Drop)]
+#[derive(Clone, Copy)]
 pub enum End {
     More,
     Help,
@@ -47,7 +47,7 @@ pub enum End {
 
 // What the arguments ask for, and the index of the one that is read next. The image and the picture are indices of arguments, 0 for none. After
 // `--` every argument is an image.
-#[derive(Drop)]
+#[derive(Clone, Copy)]
 pub struct Options {
     pub end: End,
     pub next: usize,

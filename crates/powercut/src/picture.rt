@@ -95,7 +95,7 @@ const X_LIMIT: u32 = 10000;
 const TOP: u32 = 200;
 
 // A cell of a grid: its row and its place in it.
-#[derive(Drop)]
+#[derive(Clone, Copy)]
 struct Cell {
     row: u32,
     place: u32,

@@ -6,7 +6,7 @@ use region::{BANK_SIZE, SECTOR_SIZE, SECTOR_SIZE_32, WRITE_UNIT};
 use std::num::{wrapping_add_u32, wrapping_add_usize};
 
 // What an operation is: none, the erase of the header's sector, the header's write, the commit word's, or an erase or a write of data.
-#[derive(Drop)]
+#[derive(Clone, Copy)]
 pub enum Target {
     Nothing,
     HeaderErase,
@@ -16,7 +16,7 @@ pub enum Target {
 }
 
 // Which cuts inside operations are tried: none, all in the header's three operations and some in the others, or all.
-#[derive(Drop)]
+#[derive(Clone, Copy)]
 pub enum Cuts {
     Nothing,
     Some,
@@ -43,7 +43,7 @@ const SHORT: usize = 16;
 const AGAIN_EVERY: u32 = 509;
 
 // The bytes of the region that an operation changes, and what it is.
-#[derive(Drop)]
+#[derive(Clone, Copy)]
 pub struct Span {
     pub target: Target,
     pub at: usize,
@@ -51,7 +51,7 @@ pub struct Span {
 }
 
 // An operation of which the first bytes are done, and how many cuts inside operations were tried before.
-#[derive(Drop)]
+#[derive(Clone, Copy)]
 pub struct Cut {
     pub span: Span,
     pub done: usize,

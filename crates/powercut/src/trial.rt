@@ -32,7 +32,7 @@ const LAST_CUTS: u32 = 7;
 const SHOWN: u32 = 16;
 
 // What is tried.
-#[derive(Drop)]
+#[derive(Clone, Copy)]
 pub struct Setting {
     pub leftover: Leftover,
     pub update: Kind,
@@ -41,7 +41,7 @@ pub struct Setting {
 }
 
 // What is tried, what load gave on the region found, and the bank that the update commits.
-#[derive(Drop)]
+#[derive(Clone, Copy)]
 pub struct Plan {
     pub setting: Setting,
     pub update: Kind,
@@ -51,7 +51,7 @@ pub struct Plan {
 
 // How many cuts there were between operations and inside them, after how many load gave what was found and the new bank, after how many the
 // update was begun again, and how many were wrong: the first of them at a cut, or, if byte isn't 0, in an operation after that many bytes.
-#[derive(Drop)]
+#[derive(Clone, Copy)]
 pub struct Count {
     pub cuts: u32,
     pub inside: u32,
@@ -78,14 +78,14 @@ pub fn none() -> Count {
 }
 
 // An update so far, and the count of its cuts.
-#[derive(Drop)]
+#[derive(Clone, Copy)]
 struct Tried {
     update: Update,
     count: Count,
 }
 
 // A step that was made: the operation that it did, the update after it, and the count before.
-#[derive(Drop)]
+#[derive(Clone, Copy)]
 struct Step {
     span: Span,
     update: Update,
@@ -93,7 +93,7 @@ struct Step {
 }
 
 // The result of a cut: whether it is right, whether the update is over, whether it was begun again.
-#[derive(Drop)]
+#[derive(Clone, Copy)]
 struct Outcome {
     right: bool,
     over: bool,

@@ -9,7 +9,7 @@ use std::num::{wrapping_add_u32, wrapping_add_usize};
 use writer::{Answer, Operation, Stage, Writer};
 
 // The next call once no operation is due.
-#[derive(Drop)]
+#[derive(Clone, Copy)]
 pub enum Phase {
     Key,
     Table,
@@ -20,7 +20,7 @@ pub enum Phase {
 
 // The state of an update of n bytes: bytes appended, flash operations done, whether the last step was one, and whether every call
 // answered as it must. One that compares ends with the question whether the update is the same as the active bank.
-#[derive(Drop)]
+#[derive(Clone, Copy)]
 pub struct Update {
     pub writer: Writer,
     pub phase: Phase,

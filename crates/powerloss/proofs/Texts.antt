@@ -18,11 +18,11 @@ use Rattle.key.specs.Order.{Text, Pick, pick_order}
 use Rattle.key.specs.Picks as Picks
 use Rattle.key.specs.Picks.{text, unless_code, pick_of, pick_at, count, firsts, insert_by, insert, distinct}
 use Rattle.key.specs.Layout.{joined, field, entry, prefix, body, key_of}
-use Rattle.csv.specs.Write.{any_special, doubled, field_of, delimiter, row_of}
+use Rattle.rfc4180.specs.Write.{any_special, doubled, field_of, delimiter, row_of}
 use Rattle.row.specs.Columns.{columns, columns_of, line, names_line}
 use Rattle.row.specs.Write.{cut_by, passed_values}
 use Rattle.powerloss.proofs.Bytes.{bytes-nil, bytes-cons, bytes_take, bytes_drop}
-use Rattle.csv.specs.Csv.{quote}
+use Rattle.rfc4180.specs.Csv.{quote}
 
 -- ---- dates
 

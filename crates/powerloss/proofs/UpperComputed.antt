@@ -18,7 +18,7 @@ use mir.Val.{SFits}
 use Rattle.leaf.specs.Bytes.{le32}
 use Rattle.leaf.specs.Crc.{crc32}
 use Rattle.leaf.proofs.Checksum.{crc32-append}
-use Rattle.csv.specs.Write.{row_of, field_of, any_special, special}
+use Rattle.rfc4180.specs.Write.{row_of, field_of, any_special, special}
 use Rattle.row.specs.Columns.{columns, columns_of, line}
 use Rattle.row.specs.Write.{cut_by, passed_values}
 use Rattle.key.specs.Layout as Key

@@ -1,4 +1,6 @@
 // Demand 3. The function does nothing: its contract is what is proved of the definitions (specs/Claim.antt).
+#![tactic(auto)]
+
 pub mod instances;
 pub mod operations;
 pub mod ranges;

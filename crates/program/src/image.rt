@@ -40,7 +40,7 @@ const GZIP_FIRST: u8 = 31;
 const GZIP_SECOND: u8 = 139;
 
 // What was read: a region, the region in a dump of this size, or nothing of use. Then standard error says why.
-#[derive(Drop)]
+#[derive(Clone, Copy)]
 pub enum Image {
     Region,
     Dump(u64),
@@ -48,14 +48,14 @@ pub enum Image {
 }
 
 // Where the region is in an image: at an offset that was given, or where the image's size says.
-#[derive(Drop)]
+#[derive(Clone, Copy)]
 pub enum Place {
     Given(usize),
     BySize,
 }
 
 // The length of a file, at most one byte more than the largest dump.
-#[derive(Drop)]
+#[derive(Clone, Copy)]
 enum Size {
     Bytes(usize),
     Compressed,

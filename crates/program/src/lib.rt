@@ -1,4 +1,6 @@
 // What the programs share: an image read, arguments, bytes and texts, and what is written to standard output and standard error.
+#![tactic(auto)]
+
 pub mod arguments;
 pub mod bytes;
 pub mod image;

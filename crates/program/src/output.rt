@@ -66,7 +66,7 @@ pub fn put_word(fd: i32, words: &[u8], n: u32) {
 const HEX_DIGITS: usize = 8;
 
 // How a number is written where a text has a brace: `{}`, `{x}` and `{,}`, or not at all where the brace is one of the text's own.
-#[derive(Drop)]
+#[derive(Clone, Copy)]
 enum Form {
     Brace,
     Decimal,

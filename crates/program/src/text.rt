@@ -16,7 +16,7 @@ const LAST_DECIMAL: u64 = 9;
 const MOST_BEFORE: u64 = 922337203685477580;
 
 // A number, or that there is none.
-#[derive(Drop)]
+#[derive(Clone, Copy)]
 pub enum Number {
     Is(u64),
     None,

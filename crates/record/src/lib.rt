@@ -1,4 +1,6 @@
 // A source's record in a bank's header: read for every version, written for version 3.
+#![tactic(auto)]
+
 ghost use Rattle.record.specs.Claims.{Claims};
 ghost use Rattle.std.specs.Prelude.{◌≡◌, ◌++◌, ◌+◌, ◌-◌, ◌*◌, ◌≤◌, length, drop, take, set};
 ghost use Rattle.std.proofs.lemmas.List.Edits.{sets};
@@ -129,7 +131,7 @@ pub const MAX_VALIDATOR: u8 = 64;
 
 // Where a table's bytes are in the data, and their CRC.
 #[repr(C)]
-#[derive(Drop)]
+#[derive(Clone, Copy)]
 pub struct Block {
     pub offset: u32,
     pub length: u32,
@@ -138,7 +140,7 @@ pub struct Block {
 
 // A record. Stamp, id and validator are carried raw.
 #[repr(C)]
-#[derive(Drop)]
+#[derive(Clone, Copy)]
 pub struct Source {
     pub start: u32,
     pub end: u32,

@@ -1,10 +1,12 @@
 // The refusals: 1 to 14 are document 01's; 15 to 23 are document 02's, and no call gives them yet. A refusal has one number in all calls.
+#![tactic(auto)]
+
 ghost use Rattle.std.specs.Prelude.{◌≡◌};
 ghost use Rattle.refusal.specs.Refusal.{number_of};
 
 use base::number::u8_to_u32;
 
-#[derive(Drop)]
+#[derive(Clone, Copy)]
 pub enum Refusal {
     Region,
     Argument,

@@ -1,4 +1,6 @@
 // The region: two banks, each a header sector and data. Its sizes, and a bank's bytes.
+#![tactic(auto)]
+
 ghost use Rattle.std.specs.Prelude.{◌≡◌};
 ghost use Rattle.region.specs.Region.{bank_of};
 

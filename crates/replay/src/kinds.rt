@@ -7,7 +7,7 @@ use libc::STDOUT_FILENO;
 use program::output::put_word;
 
 // Leaves and keys, banks, rows and filter; unknown is none of them.
-#[derive(Drop)]
+#[derive(Clone, Copy)]
 pub enum Kind {
     ValidDate,
     NewDate,

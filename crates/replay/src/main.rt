@@ -1,5 +1,7 @@
 // Replays the Rust's answers of answers.txt, and says for each kind how many of the core's answers are the same. The list's first lines say
 // how it was made.
+#![tactic(auto)]
+
 mod banks;
 mod filter;
 mod image;
@@ -22,7 +24,7 @@ use region::REGION_SIZE;
 const LIST_SIZE: usize = 524288;
 
 // How many lines of each kind there were, and for how many the answers were the same; and of all kinds.
-#[derive(Drop)]
+#[derive(Clone, Copy)]
 struct Counts {
     seen: [u64; KINDS],
     same: [u64; KINDS],

@@ -7,8 +7,8 @@ use lib.ListN.{length}
 use lib.Seq.{sets}
 use borrow.Author.Tests.{eq-eqb, ne_eqb, le-leb, lt-leb}
 use Rattle.leaf.proofs.Laws.{written-sets}
-use Rattle.csv.specs.Csv.{max_row}
-use Rattle.csv.specs.Write.{row_of}
+use Rattle.rfc4180.specs.Csv.{max_row}
+use Rattle.rfc4180.specs.Write.{row_of}
 use Rattle.refusal.specs.declared.Refusal.TheVariants.{Argument, Small, Row}
 use Rattle.row.specs.declared.RowAnswer.{RowAnswer}
 use Rattle.row.specs.declared.RowAnswer.TheVariants.{Written, Refused}

@@ -13,12 +13,12 @@ use lib.ListN.{length, take, drop, get_or, set, drop_of_length-le, length-drop, 
 use lib.Seq.{sets, sets-eq, set-set, drop-cons, drop-drop, take_all, take-add, take-append_seam, length-take-le}
 use borrow.Author.Tests.{eq-eqb, ne_eqb, eqb-true, eqb-false}
 use Rattle.base.specs.Number.{pick}
-use Rattle.csv.specs.Write.{special, any_special, doubled, field_of, delimiter, row_of}
+use Rattle.rfc4180.specs.Write.{special, any_special, doubled, field_of, delimiter, row_of}
 use Rattle.base.proofs.Lists.{next}
-use Rattle.csv.proofs.Laws.{sets-append, sets_over}
+use Rattle.rfc4180.proofs.Laws.{sets-append, sets_over}
 use Rattle.row.specs.Write.{cut_by}
 use Rattle.row.specs.Steps.{has, quoted_of}
-use Rattle.csv.specs.Csv.{quote, comma, carriage_return, line_feed}
+use Rattle.rfc4180.specs.Csv.{quote, comma, carriage_return, line_feed}
 
 -- ---- bytes copied
 

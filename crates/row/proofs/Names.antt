@@ -6,11 +6,11 @@ use native.Mathlib.Decide.{dec_lt}
 use mathlib.Core.Path.{◌≡◌, refl, sym, ap}
 use mathlib.Core.List.{List, [], ◌∷◌}
 use lib.ListN.{length, take, drop, get_or, get_or-eq_default}
-use Rattle.csv.specs.Write.{special, any_special, field_of, row_of}
+use Rattle.rfc4180.specs.Write.{special, any_special, field_of, row_of}
 use Rattle.row.specs.Columns.{columns, columns_of, column_count, line, names_line}
 use Rattle.row.specs.Steps.{lines, all_lines}
 use Rattle.row.specs.Claims.{NamesAreARow}
-use Rattle.csv.specs.Csv.{max_columns}
+use Rattle.rfc4180.specs.Csv.{max_columns}
 use Rattle.base.specs.Table.{last_table}
 
 abbrev pub counts : List ℕ

@@ -1,6 +1,6 @@
 -- What is proved of the columns beyond the calls' promises (proofs/Names.antt).
 use Rattle.std.specs.Prelude.{ℕ, ◌≡◌}
-use Rattle.csv.specs.Write.{row_of}
+use Rattle.rfc4180.specs.Write.{row_of}
 use Rattle.row.specs.Columns.{columns_of, names_line}
 
 -- a names line is the row of the names: no name is quoted, so the reader gives them back

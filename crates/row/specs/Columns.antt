@@ -1,6 +1,6 @@
 -- The columns of the eight tables: GTFS's names, in the order of the Rust's `columns`. A name is its bytes.
 use Rattle.std.specs.Prelude.{ℕ, List, [], ◌∷◌, ◌++◌, length, get_or}
-use Rattle.csv.specs.Write.{delimiter}
+use Rattle.rfc4180.specs.Write.{delimiter}
 
 -- ---- the names
 

@@ -1,8 +1,8 @@
 -- What the private functions promise each other. Nothing here says what a row is.
 use Rattle.std.specs.Prelude.{ℕ, Bool, false, ◌||◌, List, [], ◌∷◌, ◌++◌, eqb}
-use Rattle.csv.specs.Write.{doubled}
+use Rattle.rfc4180.specs.Write.{doubled}
 use Rattle.row.specs.Columns.{columns, line}
-use Rattle.csv.specs.Csv.{quote}
+use Rattle.rfc4180.specs.Csv.{quote}
 
 -- how many bytes are copied or tested at once
 abbrev pub block_size : ℕ

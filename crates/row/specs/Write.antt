@@ -2,8 +2,8 @@
 use Rattle.std.specs.Prelude.{ℕ, eqb, leb, List, [], ◌∷◌, length, take, drop}
 use Rattle.base.specs.Number.{pick}
 use Rattle.leaf.specs.Bytes as Bytes
-use Rattle.csv.specs.Csv.{max_row}
-use Rattle.csv.specs.Write.{row_of}
+use Rattle.rfc4180.specs.Csv.{max_row}
+use Rattle.rfc4180.specs.Write.{row_of}
 use Rattle.refusal.specs.declared.Refusal.TheVariants.{Argument, Small, Row}
 use Rattle.row.specs.declared.RowAnswer.{RowAnswer}
 use Rattle.row.specs.declared.RowAnswer.TheVariants.{Written, Refused}

@@ -1,4 +1,6 @@
 // The lines of a table as they are written: its column names, and a row. Every public function accepts any input.
+#![tactic(auto)]
+
 mod copy;
 mod quoted;
 mod size;
@@ -7,7 +9,7 @@ mod write;
 
 ghost use Rattle.row.specs.Claims.{Claims};
 ghost use Rattle.std.specs.Prelude.{◌≡◌, ◌+◌, ◌<◌, length};
-ghost use Rattle.csv.specs.Write.{row_of};
+ghost use Rattle.rfc4180.specs.Write.{row_of};
 ghost use Rattle.row.specs.Columns.{column_count, names_line};
 ghost use Rattle.row.specs.Write.{passed_values, within, after, names_answer, row_answer};
 ghost use Rattle.row.specs.Steps.{all_lines};
@@ -18,10 +20,10 @@ use crate::size::{longest_fits, row_size};
 use crate::special::any_special;
 use crate::write::put_row;
 use base::table::{LAST_TABLE, TABLES};
-use csv::MAX_ROW;
 use refusal::Refusal;
+use rfc4180::MAX_ROW;
 
-#[derive(Drop)]
+#[derive(Clone, Copy)]
 pub enum RowAnswer {
     // The line is in the first n bytes.
     Written(usize),

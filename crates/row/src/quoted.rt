@@ -2,14 +2,14 @@
 ghost use Rattle.std.specs.Prelude.{◌≡◌, ◌++◌, ◌+◌, ◌≤◌, eqb, length, take, drop};
 ghost use Rattle.std.proofs.lemmas.List.Edits.{sets};
 ghost use Rattle.base.specs.Number.{pick};
-ghost use Rattle.csv.specs.Csv.{quote};
-ghost use Rattle.csv.specs.Write.{doubled};
+ghost use Rattle.rfc4180.specs.Csv.{quote};
+ghost use Rattle.rfc4180.specs.Write.{doubled};
 ghost use Rattle.row.specs.Steps.{block_size, quoted_of};
 
 use crate::copy::copy_block;
 use crate::special::has_byte;
 use crate::{BLOCK, WORD};
-use csv::QUOTE;
+use rfc4180::QUOTE;
 
 // How many bytes doubling adds: 1 to a quote.
 fn doubling_adds(byte: u8) -> usize

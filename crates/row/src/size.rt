@@ -1,12 +1,12 @@
 // How many bytes a row has, and the most that it can have.
 ghost use Rattle.std.specs.Prelude.{◌≡◌, true, ◌+◌, ◌*◌, ◌≤◌, min, length};
-ghost use Rattle.csv.specs.Csv.{max_columns, max_row};
-ghost use Rattle.csv.specs.Write.{doubled, field_of, row_of};
+ghost use Rattle.rfc4180.specs.Csv.{max_columns, max_row};
+ghost use Rattle.rfc4180.specs.Write.{doubled, field_of, row_of};
 ghost use Rattle.row.specs.Steps.{counted_size, value_ends};
 ghost use Rattle.row.specs.Write.{passed_values};
 
 use crate::special::any_special;
-use csv::{MAX_ROW, QUOTE};
+use rfc4180::{MAX_ROW, QUOTE};
 
 // How many bytes are counted at once: few enough for a count in a u8, and enough for LLVM to keep the loop and count by blocks.
 const COUNTED: usize = 64;

@@ -1,10 +1,10 @@
 // Whether bytes have a special one, which makes a value quoted. They are tested by blocks of a fixed length, as they are copied.
 ghost use Rattle.std.specs.Prelude.{◌≡◌, ◌+◌, ◌≤◌, ◌<◌, length};
-ghost use Rattle.csv.specs.Write.{any_special};
+ghost use Rattle.rfc4180.specs.Write.{any_special};
 ghost use Rattle.row.specs.Steps.{has, block_size};
 
 use crate::{BLOCK, HALF_WORD, HALVES, WORD};
-use csv::{COMMA, CR, LF, QUOTE};
+use rfc4180::{COMMA, CR, LF, QUOTE};
 
 // The first, middle and last byte.
 const THREE_BYTES: usize = 3;

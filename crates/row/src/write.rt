@@ -12,15 +12,15 @@
 ghost use Rattle.std.specs.Prelude.{◌≡◌, false, ◌+◌, ◌≤◌, eqb, length};
 ghost use Rattle.std.proofs.lemmas.List.Edits.{sets};
 ghost use Rattle.base.specs.Number.{pick};
-ghost use Rattle.csv.specs.Csv.{comma, line_feed};
-ghost use Rattle.csv.specs.Write.{any_special, field_of, row_of};
+ghost use Rattle.rfc4180.specs.Csv.{comma, line_feed};
+ghost use Rattle.rfc4180.specs.Write.{any_special, field_of, row_of};
 ghost use Rattle.row.specs.Write.{passed_values};
 
 use crate::copy::copy;
 use crate::quoted::put_quoted;
 use crate::size::cut;
 use crate::special::any_special;
-use csv::{COMMA, LF};
+use rfc4180::{COMMA, LF};
 
 // Writes the field of v to out at an offset; gives where it ends. Without `test` v has no special byte.
 fn put_field(v: &[u8], test: bool, out: &mut [u8], to: usize) -> usize

@@ -7,7 +7,7 @@ use mathlib.Core.List.{List, [], ◌∷◌, ◌++◌, append_assoc, append-nil}
 use native.Mathlib.Numerals.{add-one}
 use lib.ListN.{length, take, drop, get_or, set, length-append, length-take, length-drop, take-append-drop, drop_of_length-le}
 use lib.Seq.{sets, length-sets, sets-eq, take-add, take_all, take_at, drop-cons, drop-drop}
-use Rattle.csv.proofs.Laws.{sets-append, sets_over}
+use Rattle.rfc4180.proofs.Laws.{sets-append, sets_over}
 use Rattle.rowread.specs.Steps.{Ahead}
 
 pub ahead_none : (b : ℕ) (out : List ℕ) (to : ℕ) → Ahead b out to [] out

@@ -9,8 +9,8 @@ use lib.ListN.{length, take, drop, length-drop}
 use lib.Seq.{sets, take_all}
 use borrow.Author.Tests.{lt-leb, le-leb, eq-eqb, ne_eqb}
 use Rattle.leaf.proofs.Laws.{written-sets}
-use Rattle.csv.specs.Read as Csv
-use Rattle.csv.proofs.Grammar.{sound, complete}
+use Rattle.rfc4180.specs.Read as Csv
+use Rattle.rfc4180.proofs.Grammar.{sound, complete}
 use Rattle.refusal.specs.declared.Refusal.TheVariants.{Small, Row}
 use Rattle.rowread.specs.declared.exact.Scan.TheVariants.{Whole, Broken}
 use Rattle.rowread.specs.declared.ReadAnswer.{ReadAnswer}

@@ -7,14 +7,14 @@ use mathlib.Core.Path.{◌≡◌, refl, sym, ap, ◌∙◌}
 use mathlib.Core.List.{List, [], ◌∷◌, ◌++◌, append_assoc}
 use lib.ListN.{length, drop, set, length-drop, length-append, length-set}
 use lib.Seq.{sets, drop-drop}
-use Rattle.csv.specs.Csv.{Record, last, more, comma}
-use Rattle.csv.specs.Read.{Got, got, field_at, Row, row, malformed, values}
-use Rattle.csv.proofs.Grammar.{sound, field-complete, comma-stops, ends, last-read}
-use Rattle.csv.proofs.Offsets.{field-offset}
+use Rattle.rfc4180.specs.Csv.{Record, last, more, comma}
+use Rattle.rfc4180.specs.Read.{Got, got, field_at, Row, row, malformed, values}
+use Rattle.rfc4180.proofs.Grammar.{sound, field-complete, comma-stops, ends, last-read}
+use Rattle.rfc4180.proofs.Offsets.{field-offset}
 use Rattle.rowread.specs.declared.exact.Scan.TheVariants.{Whole, Broken}
 use Rattle.rowread.specs.Stored.{values_of, joined, ends_of}
 use mathlib.Core.Logic.{◌⊎◌, inl, inr}
-use Rattle.csv.proofs.Sizes.{value-size}
+use Rattle.rfc4180.proofs.Sizes.{value-size}
 use Rattle.rowread.specs.Steps.{value_of, rest_of, scan_from, scan_of, IsRow, Ahead, Filled, Ample, Fitting, FieldRoom, RowRoom, RowWritten}
 use Rattle.rowread.proofs.Laws.{IsValue}
 
@@ -69,8 +69,8 @@ pub record Left (b : ℕ) (t out₀ ends₀ : List ℕ) (width : ℕ) (out ends 
   pub same : length out ≡ length out₀
   pub alike : length ends ≡ length ends₀
   pub fits : to + length (joined values) + b ≤ length out
-  pub bytes : (rest : List ℕ) → b ≤ length rest → sets out₀ 0 (joined (values_of (Rattle.csv.specs.Read.values width t)) ++ rest) ≡ sets out to (joined values ++ rest)
-  pub marks : sets ends₀ 0 (ends_of 0 (values_of (Rattle.csv.specs.Read.values width t))) ≡ sets ends k (ends_of to values)
+  pub bytes : (rest : List ℕ) → b ≤ length rest → sets out₀ 0 (joined (values_of (Rattle.rfc4180.specs.Read.values width t)) ++ rest) ≡ sets out to (joined values ++ rest)
+  pub marks : sets ends₀ 0 (ends_of 0 (values_of (Rattle.rfc4180.specs.Read.values width t))) ≡ sets ends k (ends_of to values)
 
 pub left-all : (b : ℕ) (t out ends : List ℕ) (width : ℕ) → IsRow (values width t) → length (joined (values_of (values width t))) + b ≤ length out → Left b t out ends width out ends 0 0 0
 left-all b t out ends width h n = go (values width t) refl h n

@@ -13,10 +13,10 @@ use lib.ListN.{length, take, drop, get_or, drop_of_length-le, length-drop, lengt
 use lib.Seq.{drop-cons, get_or-drop, drop-drop, take_at}
 use borrow.Author.Tests.{eq-eqb, ne_eqb}
 use Rattle.base.specs.Number.{pick}
-use Rattle.csv.specs.Csv.{is_text, RowEnd, quote, comma, carriage_return, line_feed}
-use Rattle.csv.specs.Read.{Got, got, bad, push, plain_value, plain_rest, inner, closing, field_at, Row, row, malformed, front, row_end, ended, parted, values}
-use Rattle.csv.proofs.Grammar.{end-sound, end-size}
-use Rattle.csv.proofs.Offsets.{field-offset}
+use Rattle.rfc4180.specs.Csv.{is_text, RowEnd, quote, comma, carriage_return, line_feed}
+use Rattle.rfc4180.specs.Read.{Got, got, bad, push, plain_value, plain_rest, inner, closing, field_at, Row, row, malformed, front, row_end, ended, parted, values}
+use Rattle.rfc4180.proofs.Grammar.{end-sound, end-size}
+use Rattle.rfc4180.proofs.Offsets.{field-offset}
 use Rattle.rowread.specs.declared.exact.Piece.TheVariants.{Value, Bad}
 use Rattle.rowread.specs.declared.exact.Scan.TheVariants.{Whole, Broken}
 use Rattle.rowread.specs.Stored.{joined}

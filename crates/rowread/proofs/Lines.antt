@@ -12,11 +12,11 @@ use lib.ListN.{length, take, drop, get_or, set}
 use lib.Seq.{sets, drop-cons}
 use borrow.Author.Tests.{eqb-true}
 use Rattle.base.specs.Number.{pick}
-use Rattle.csv.specs.Csv.{is_text, NonEscaped, none, text, Field, non_escaped, Record, last, more, quote, comma, carriage_return, line_feed}
-use Rattle.csv.proofs.Laws.{sets-append}
+use Rattle.rfc4180.specs.Csv.{is_text, NonEscaped, none, text, Field, non_escaped, Record, last, more, quote, comma, carriage_return, line_feed}
+use Rattle.rfc4180.proofs.Laws.{sets-append}
 use Rattle.rowread.specs.Stored.{joined, ends_of}
 use Rattle.rowread.specs.Steps.{is_line_stop, line_of, commas_in, text_in, cuts_in, marks_in, any_line_stop, Holds}
-use Rattle.csv.specs.Read.{row_end}
+use Rattle.rfc4180.specs.Read.{row_end}
 use Rattle.rowread.proofs.Laws.{end_row, end_fits}
 
 -- ---- the bytes before the first quote, CR or LF

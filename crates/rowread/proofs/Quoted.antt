@@ -11,8 +11,8 @@ use mathlib.Core.List.{List, [], ◌∷◌, ◌++◌, append_assoc, append-nil}
 use lib.ListN.{length, take, drop, get_or, set, length-append, length-drop, length-set}
 use lib.Seq.{sets, drop-cons, take-suc, get_or-drop}
 use borrow.Author.Tests.{eqb-true, eqb-false}
-use Rattle.csv.specs.Csv.{quote}
-use Rattle.csv.specs.Read.{Got, got, bad, push, inner}
+use Rattle.rfc4180.specs.Csv.{quote}
+use Rattle.rfc4180.specs.Read.{Got, got, bad, push, inner}
 use Rattle.rowread.specs.declared.exact.Piece.TheVariants.{Value, Bad}
 use Rattle.base.specs.Little.{little}
 use Rattle.rowread.specs.Marks.{marks, Marks, is_quote, first_mark, cleared, since, FirstOf, ClearedOf}

@@ -13,10 +13,10 @@ use lib.ListN.{length, take, drop, get_or, set, length-take, length-drop, get_or
 use lib.Seq.{sets, take-suc, get_or-take, get_or-drop}
 use borrow.Author.Tests.{eq-eqb, ne_eqb}
 use Rattle.base.specs.Number.{pick}
-use Rattle.csv.specs.Csv.{is_text, quote, comma, carriage_return, line_feed}
-use Rattle.csv.specs.Read.{plain_value}
+use Rattle.rfc4180.specs.Csv.{is_text, quote, comma, carriage_return, line_feed}
+use Rattle.rfc4180.specs.Read.{plain_value}
 use Rattle.rowread.proofs.Laws.{plain_turn}
-use Rattle.csv.proofs.Laws.{sets-append}
+use Rattle.rfc4180.proofs.Laws.{sets-append}
 use Rattle.base.specs.Little.{little}
 use Rattle.rowread.specs.Marks.{Bytes, mark, marks, AreMarks, none, more, Marks, FirstOf, is_delimiter, first_mark, cleared, since}
 use Rattle.rowread.specs.Steps.{is_line_stop, commas_in, text_in, cuts_in, At}

@@ -6,10 +6,10 @@ use mathlib.Core.Path.{◌≡◌, refl, sym, ap, ◌∙◌}
 use mathlib.Core.List.{List, ◌++◌, append_assoc}
 use lib.ListN.{length, take, drop, length-take, length-drop}
 use lib.Seq.{sets, sets-eq, take_at}
-use Rattle.csv.specs.Csv.{Record}
-use Rattle.csv.specs.Read.{Row, row, malformed, values}
-use Rattle.csv.proofs.Grammar.{sound}
-use Rattle.csv.proofs.Frame.{part-row}
+use Rattle.rfc4180.specs.Csv.{Record}
+use Rattle.rfc4180.specs.Read.{Row, row, malformed, values}
+use Rattle.rfc4180.proofs.Grammar.{sound}
+use Rattle.rfc4180.proofs.Frame.{part-row}
 use Rattle.rowread.specs.declared.exact.Scan.TheVariants.{Whole}
 use Rattle.rowread.specs.Stored.{values_of, joined, ends_of}
 use Rattle.rowread.specs.Steps.{scan_from, scan_of, IsRow, Ahead, Holds}

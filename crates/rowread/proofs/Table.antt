@@ -10,12 +10,12 @@ use lib.ListN.{length, take, drop, length-append, length-take, length-drop, take
 use lib.Seq.{take-append-add, drop-append_seam, drop-drop, length-take-le}
 use borrow.Author.Tests.{le-leb, leb-true, eq-eqb, ne_eqb}
 use Rattle.base.specs.Number.{pick}
-use Rattle.csv.specs.Csv.{Record, max_row}
-use Rattle.csv.specs.Write.{row_of}
-use Rattle.csv.specs.Read as Csv
-use Rattle.csv.proofs.Grammar.{writes, sound, complete, lone-cr}
-use Rattle.csv.proofs.Frame.{frame, front-in-row, part-row}
-use Rattle.csv.proofs.Sizes.{row-some, lone-some, not-longer}
+use Rattle.rfc4180.specs.Csv.{Record, max_row}
+use Rattle.rfc4180.specs.Write.{row_of}
+use Rattle.rfc4180.specs.Read as Csv
+use Rattle.rfc4180.proofs.Grammar.{writes, sound, complete, lone-cr}
+use Rattle.rfc4180.proofs.Frame.{frame, front-in-row, part-row}
+use Rattle.rfc4180.proofs.Sizes.{row-some, lone-some, not-longer}
 use Rattle.refusal.specs.declared.Refusal.TheVariants.{Small, Row}
 use Rattle.rowread.specs.declared.ReadAnswer.{ReadAnswer}
 use Rattle.rowread.specs.declared.ReadAnswer.TheVariants.{Stored, End, Refused}

@@ -7,7 +7,7 @@ use mathlib.Core.Path.{◌≡◌, refl, sym, ap, ◌∙◌}
 use mathlib.Core.List.{List, [], ◌∷◌, ◌++◌, append_assoc}
 use lib.ListN.{length, take, drop, get_or, set, length-append, length-take, length-drop, drop_of_length-le}
 use lib.Seq.{sets, drop-cons, drop-drop, take-suc, take_all, take-take, get_or-take, length-take-le}
-use Rattle.csv.proofs.Laws.{sets-append}
+use Rattle.rfc4180.proofs.Laws.{sets-append}
 use Rattle.rowread.specs.Steps.{commas_in, text_in, cuts_in, marks_in, Ahead}
 use Rattle.rowread.proofs.Lines.{cuts-size, text-size, marks-last, FirstCut, first-cut, last-cut}
 use Rattle.rowread.proofs.Blocks.{ahead_none, ahead_more}

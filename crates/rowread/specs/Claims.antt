@@ -1,7 +1,7 @@
 -- What is proved of the reading, beside the call's promise (proofs/Table.antt).
 use Rattle.std.specs.Prelude.{ℕ, ◌+◌, ◌-◌, ◌≤◌, ◌≡◌, List, [], ◌∷◌, ◌++◌, length, drop}
-use Rattle.csv.specs.Csv.{Record, LoneCr, max_row}
-use Rattle.csv.specs.Write.{row_of}
+use Rattle.rfc4180.specs.Csv.{Record, LoneCr, max_row}
+use Rattle.rfc4180.specs.Write.{row_of}
 use Rattle.refusal.specs.declared.Refusal.TheVariants.{Small, Row}
 use Rattle.rowread.specs.declared.ReadAnswer.TheVariants.{Stored, End, Refused}
 use Rattle.rowread.specs.Stored.{values_at, joined, read_answer}

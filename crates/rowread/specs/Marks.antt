@@ -2,7 +2,7 @@
 use Rattle.std.specs.Prelude.{ℕ, zero, suc, ◌/◌, ◌<◌, Bool, ◌||◌, ◌≡◌, List, [], ◌∷◌, eqb, length, get_or}
 use Rattle.base.specs.Little.{little, long_bytes}
 use Rattle.base.specs.Number.{pick, byte_values, long_bits}
-use Rattle.csv.specs.Csv.{quote, comma, carriage_return, line_feed}
+use Rattle.rfc4180.specs.Csv.{quote, comma, carriage_return, line_feed}
 
 abbrev pub is_quote : ℕ → Bool
 is_quote b = eqb b quote

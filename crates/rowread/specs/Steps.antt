@@ -3,8 +3,8 @@ use Rattle.std.specs.Prelude.{ℕ, ◌+◌, ◌-◌, ◌≤◌, ◌<◌, ◌≡�
 use Rattle.std.proofs.lemmas.List.Edits.{sets}
 use Rattle.base.specs.Little.{little, long_bytes}
 use Rattle.base.specs.Number.{pick}
-use Rattle.csv.specs.Csv.{Record, quote, comma, carriage_return, line_feed}
-use Rattle.csv.specs.Read.{Got, got, bad, Row, row, malformed, values, inner, field_at}
+use Rattle.rfc4180.specs.Csv.{Record, quote, comma, carriage_return, line_feed}
+use Rattle.rfc4180.specs.Read.{Got, got, bad, Row, row, malformed, values, inner, field_at}
 use Rattle.rowread.specs.declared.exact.Piece.{Piece}
 use Rattle.rowread.specs.declared.exact.Piece.TheVariants.{Value, Bad}
 use Rattle.rowread.specs.declared.exact.Scan.{Scan}

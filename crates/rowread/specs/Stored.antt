@@ -2,8 +2,8 @@
 use Rattle.std.specs.Prelude.{ℕ, ◌+◌, ◌-◌, eqb, leb, List, [], ◌∷◌, ◌++◌, length, take, drop}
 use Rattle.base.specs.Number.{pick}
 use Rattle.leaf.specs.Bytes.{written}
-use Rattle.csv.specs.Csv.{max_row}
-use Rattle.csv.specs.Read as Csv
+use Rattle.rfc4180.specs.Csv.{max_row}
+use Rattle.rfc4180.specs.Read as Csv
 use Rattle.refusal.specs.declared.Refusal.TheVariants.{Small, Row}
 use Rattle.rowread.specs.declared.ReadAnswer.{ReadAnswer}
 use Rattle.rowread.specs.declared.ReadAnswer.TheVariants.{Stored, End, Refused}

@@ -3,7 +3,7 @@
 // once it is known to be a row.
 ghost use Rattle.std.specs.Prelude.{◌≡◌, ◌+◌, ◌-◌, ◌≤◌, length, drop};
 ghost use Rattle.std.proofs.lemmas.List.Edits.{sets};
-ghost use Rattle.csv.specs.Read.{plain_value, field_at, row_end, values};
+ghost use Rattle.rfc4180.specs.Read.{plain_value, field_at, row_end, values};
 ghost use Rattle.rowread.specs.Stored.{values_of, joined, ends_of};
 ghost use Rattle.rowread.specs.Steps.{piece_of, scan_of, IsRow, slack_of, Filled, FieldRoom, RowRoom, RowWritten, Quickly};
 
@@ -12,8 +12,8 @@ use crate::marks::{delimiters_of, first, load};
 use crate::unquote::unquote;
 use base::number::LONG_BYTES;
 use base::slice::part;
-use csv::{COMMA, CR, LF, MAX_COLUMNS, QUOTE, is_text};
 use leaf::bytes::get8;
+use rfc4180::{COMMA, CR, LF, MAX_COLUMNS, QUOTE, is_text};
 
 // How many bytes a row end has.
 const LF_SIZE: usize = 1;
@@ -26,14 +26,14 @@ const SHORT: usize = 1024;
 const BUFFER: usize = SHORT + BLOCK;
 
 // A value of size bytes; next is the offset after it.
-#[derive(Drop)]
+#[derive(Clone, Copy)]
 pub(crate) enum Piece {
     Value { next: usize, size: usize },
     Bad,
 }
 
 // A row whose values have size bytes; next is the offset after it.
-#[derive(Drop)]
+#[derive(Clone, Copy)]
 pub(crate) enum Scan {
     Whole { next: usize, size: usize },
     Broken,

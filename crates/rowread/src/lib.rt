@@ -4,7 +4,9 @@
 // Both say nothing of a row that is too near the table's end, too wide or malformed, or whose output has no block to spare. The exact path (`exact`) reads any
 // row and gives every refusal; it goes through it twice by the same functions, first without writing. All find delimiters by `marks`, eight bytes at a time;
 // `unquote` is the exact path's quoted value.
-// What a delimiter is, is known to `marks::delimiters_of` for eight bytes and to `csv::is_text` for one; what a row end is, to `exact::row_end`.
+// What a delimiter is, is known to `marks::delimiters_of` for eight bytes and to `rfc4180::is_text` for one; what a row end is, to `exact::row_end`.
+#![tactic(auto)]
+
 mod exact;
 mod line;
 mod marks;
@@ -17,10 +19,10 @@ ghost use Rattle.rowread.specs.Stored.{values_at, joined, ends_of, read_answer, 
 use crate::exact::{Scan, row, write_row};
 use crate::line::{Fast, fast_row};
 use base::slice::part;
-use csv::MAX_ROW;
 use refusal::Refusal;
+use rfc4180::MAX_ROW;
 
-#[derive(Drop)]
+#[derive(Clone, Copy)]
 pub enum ReadAnswer {
     // The values, joined, are in the first size bytes, and the next row starts at next.
     Stored { next: usize, size: usize },

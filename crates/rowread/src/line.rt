@@ -9,20 +9,20 @@ ghost use Rattle.rowread.specs.Steps.{commas_in, text_in, cuts_in, marks_in, blo
 use crate::exact::{row_end, short_row};
 use crate::marks::{clear_first, delimiters_of, first, load};
 use base::number::LONG_BYTES;
-use csv::{COMMA, MAX_COLUMNS};
+use rfc4180::{COMMA, MAX_COLUMNS};
 
 // How many bytes are copied at once.
 pub(crate) const BLOCK: usize = 16;
 
 // What a path of one pass did: the values are written, or nothing is.
-#[derive(Drop)]
+#[derive(Clone, Copy)]
 pub(crate) enum Fast {
     Read { next: usize, size: usize },
     Not,
 }
 
 // What a search found: the offset of the first quote, CR or LF and how many commas are before it, or only commas.
-#[derive(Drop)]
+#[derive(Clone, Copy)]
 pub(crate) enum Found {
     Stop { end: usize, commas: usize },
     Commas(usize),

@@ -5,7 +5,7 @@ ghost use Rattle.base.specs.Little.{little, long_bytes};
 ghost use Rattle.rowread.specs.Marks.{Bytes, is_quote, is_delimiter, HasMarks, MarksOf, FirstOf, ClearedOf, bits_of};
 
 use base::number::{BYTE_BITS, bytes_to_u64};
-use csv::{COMMA, CR, LF, QUOTE};
+use rfc4180::{COMMA, CR, LF, QUOTE};
 
 // The highest bit of a byte, by which it is marked.
 const HIGH_BIT: u64 = 128;

@@ -1,22 +1,22 @@
 // A quoted value, for every pass of the exact path: where it ends, how many bytes it has and, if `write`, its bytes. Where 24 bytes
 // are left the quotes are found by marks, eight bytes at a time, and the bytes before each are copied as a block; the rest byte by byte.
 ghost use Rattle.std.specs.Prelude.{◌≡◌, ◌+◌, ◌-◌, ◌≤◌, ◌<◌, length, drop};
-ghost use Rattle.csv.specs.Read.{inner};
+ghost use Rattle.rfc4180.specs.Read.{inner};
 ghost use Rattle.rowread.specs.Steps.{piece_of, block_size, searched_bytes, Grid, Turned, Filled, Room, Inside, ReadByMarks, slack_of};
 
 use crate::exact::Piece;
 use crate::line::{BLOCK, copy_block};
 use crate::marks::{clear_first, first, load, quotes_of};
 use base::number::LONG_BYTES;
-use csv::QUOTE;
 use leaf::bytes::get8;
+use rfc4180::QUOTE;
 
 // How many bytes a turn by marks may read.
 const SEARCHED: usize = LONG_BYTES + BLOCK;
 
 // What a turn gives: how many bytes are copied, and either the offset that follows, the word that is searched next and its marks, or the offset
 // of the quote that closes the value.
-#[derive(Drop)]
+#[derive(Clone, Copy)]
 pub(crate) struct Turn {
     pub(crate) copied: usize,
     pub(crate) p: usize,
@@ -26,7 +26,7 @@ pub(crate) struct Turn {
 }
 
 // A value that was read by marks, whole or in part: the offset that follows, and how many bytes it has.
-#[derive(Drop)]
+#[derive(Clone, Copy)]
 pub(crate) struct ByMarks {
     pub(crate) next: usize,
     pub(crate) size: usize,

@@ -1,5 +1,7 @@
 // Runs of lower calls: what is due is done, bytes are appended. They leave the sources unchanged, so they work on the parts of a state and
 // its tail.
+#![tactic(auto)]
+
 ghost use Rattle.std.specs.Prelude.{◌≡◌, true, false, ◌+◌, ◌≤◌, ◌<◌, ◌∷◌, [], ◌++◌, length};
 ghost use Rattle.run.specs.Run as Run;
 ghost use Rattle.run.specs.Run.{ran_writer, ran_region};
@@ -68,7 +70,7 @@ pub fn flush(w: Writer, region: &mut [u8]) -> Writer
 }
 
 // How many bytes were appended, and the parts after that.
-#[derive(Drop)]
+#[derive(Clone, Copy)]
 struct AfterAppend {
     n: usize,
     parts: Parts,

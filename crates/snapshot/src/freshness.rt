@@ -16,13 +16,13 @@ use refusal::Refusal;
 use region::bank_of;
 
 // A day to be shown, and whether it is wanted.
-#[derive(Drop)]
+#[derive(Clone, Copy)]
 pub struct Day {
     pub date: u32,
     pub wanted: bool,
 }
 
-#[derive(Drop)]
+#[derive(Clone, Copy)]
 pub struct Days {
     pub first: Day,
     pub second: Day,
@@ -30,20 +30,20 @@ pub struct Days {
 }
 
 // When the bank was checked, and when its oldest used source was updated; the lowest value means unknown.
-#[derive(Drop)]
+#[derive(Clone, Copy)]
 pub struct Freshness {
     pub checked: i64,
     pub updated: i64,
 }
 
-#[derive(Drop)]
+#[derive(Clone, Copy)]
 pub enum FreshAnswer {
     Fresh(Freshness),
     Refused(Refusal),
 }
 
 // Of the sources used so far: whether there is one, whether each has a known time, and the oldest time.
-#[derive(Drop)]
+#[derive(Clone, Copy)]
 struct SourceTimes {
     some: bool,
     complete: bool,
@@ -124,7 +124,7 @@ fn updated_of(t: SourceTimes) -> i64
 }
 
 // The state between two sources.
-#[derive(Drop)]
+#[derive(Clone, Copy)]
 struct Seen {
     times: SourceTimes,
     days: Days,

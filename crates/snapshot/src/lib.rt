@@ -1,4 +1,6 @@
 // Calls on a loaded bank. Each names it by number and tests it again.
+#![tactic(auto)]
+
 pub mod freshness;
 pub mod keymatch;
 pub mod rows;
@@ -12,7 +14,7 @@ use header::Validated;
 use refusal::Refusal;
 use region::REGION_SIZE;
 
-#[derive(Drop)]
+#[derive(Clone, Copy)]
 pub enum Outcome {
     Done,
     Refused(Refusal),

@@ -35,7 +35,7 @@ pub fn bytes_of(region: &[u8], number: u32, b: Block) -> &[u8]
 }
 
 // A table's block, or a refusal.
-#[derive(Drop)]
+#[derive(Clone, Copy)]
 pub enum BlockAnswer {
     Found(Block),
     Refused(Refusal),

@@ -13,14 +13,14 @@ use refusal::Refusal;
 use region::bank_of;
 
 // A source; zeros on a refusal.
-#[derive(Drop)]
+#[derive(Clone, Copy)]
 pub struct SourceAnswer {
     pub outcome: Outcome,
     pub source: Source,
 }
 
 // The sources below the count, and zeros after them; only zeros on a refusal.
-#[derive(Drop)]
+#[derive(Clone, Copy)]
 pub struct Records {
     pub outcome: Outcome,
     pub sources: [Source; SOURCES],

@@ -25,7 +25,7 @@ use Rattle.key.proofs.Answers.{key-length}
 use Rattle.row.specs.declared.RowAnswer.{RowAnswer}
 use Rattle.row.specs.declared.RowAnswer.TheVariants.{Written, Refused as RowRefused}
 use Rattle.row.specs.Columns.{column_count, columns_of, columns, line, names_line}
-use Rattle.csv.specs.Write.{row_of}
+use Rattle.rfc4180.specs.Write.{row_of}
 use Rattle.row.specs.Write.{within, after, passed_values, names_answer, row_answer}
 use Rattle.record.specs.declared.Source.{Source}
 use Rattle.header.specs.Header.{max_sources}
@@ -44,7 +44,7 @@ use Rattle.run.specs.Run.{Lower, source, table, end, close, lower_step, lower_op
 use Rattle.run.specs.Appends.{dues, appends}
 use Rattle.upper.specs.Upper.{Upper, run_of, argument_ok, order_ok, row_ok, all_fits, refusal_of, run_if, upper_run, answered, upper_step, upper_region, begin_refusal, key_bytes, begin_run, began_with, begin_step, begin_region}
 use Rattle.run.proofs.Laws.{appends-append, then-writer, then-region}
-use Rattle.csv.specs.Csv.{max_row}
+use Rattle.rfc4180.specs.Csv.{max_row}
 use Rattle.base.specs.Table.{last_table}
 use Rattle.upper.specs.Sizes.{names_size, max_body}
 

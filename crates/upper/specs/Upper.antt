@@ -7,8 +7,8 @@ use Rattle.refusal.specs.declared.Refusal.{Refusal}
 use Rattle.refusal.specs.declared.Refusal.TheVariants.{Region, Argument, Identity, Full, Turn, Row}
 use Rattle.key.specs.Layout as Key
 use Rattle.key.specs.Picks as Picks
-use Rattle.csv.specs.Csv.{max_row}
-use Rattle.csv.specs.Write.{row_of}
+use Rattle.rfc4180.specs.Csv.{max_row}
+use Rattle.rfc4180.specs.Write.{row_of}
 use Rattle.row.specs.Columns.{column_count, names_line}
 use Rattle.row.specs.Write.{passed_values}
 use Rattle.record.specs.declared.Source.{Source}

@@ -1,4 +1,6 @@
 // The upper layer: each call is a run of lower calls, done at once. The calls are in modules; here is the test that bytes fit.
+#![tactic(auto)]
+
 pub mod begin;
 pub mod rows;
 pub mod source;

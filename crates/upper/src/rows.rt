@@ -9,10 +9,10 @@ ghost use Rattle.region.specs.Region.{region_size};
 ghost use Rattle.base.specs.Table.{last_table};
 
 use crate::{SHORT_ROW, fits};
-use csv::MAX_ROW;
 use lower::{is_open, may_append_parts};
 use refusal::Refusal;
 use region::REGION_SIZE;
+use rfc4180::MAX_ROW;
 use row::RowAnswer;
 use run::append_line_parts;
 use writer::{

@@ -41,7 +41,7 @@ pub fn end(w: Writer, region: &mut [u8]) -> Step
 }
 
 // A table's names line is in the first n bytes.
-#[derive(Drop)]
+#[derive(Clone, Copy)]
 struct Line {
     n: usize,
     bytes: [u8; NAMES_SIZE],

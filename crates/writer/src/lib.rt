@@ -1,4 +1,6 @@
 // The state of an update by value, which operation is due, and which states are within their ranges.
+#![tactic(auto)]
+
 ghost use Rattle.std.specs.Prelude.{◌≡◌, ◌&&◌};
 ghost use Rattle.writer.specs.State as State;
 ghost use Rattle.writer.specs.Parts.{parts_of, whole_of, step_with, parts_did, parts_stay};
@@ -18,14 +20,14 @@ pub const TAIL_SIZE_32: u32 = TAIL_SIZE as u32;
 pub const NO_TABLE: u32 = TABLES as u32;
 
 // What is due: an erase of a sector of the bank (0 is the header's), a write of the tail into the data, or its comparison.
-#[derive(Drop)]
+#[derive(Clone, Copy)]
 pub enum Operation {
     Erase { sector: u32 },
     Write { offset: u32, length: u32 },
     Compare { offset: u32, length: u32 },
 }
 
-#[derive(Drop)]
+#[derive(Clone, Copy)]
 pub enum Stage {
     Idle,
     Due(Operation),
@@ -34,7 +36,7 @@ pub enum Stage {
 }
 
 // What the beginning fixes.
-#[derive(Drop)]
+#[derive(Clone, Copy)]
 pub struct Beginning {
     pub active: Loaded,
     pub comparing: bool,
@@ -42,7 +44,7 @@ pub struct Beginning {
 }
 
 // The bytes written and those in the tail, the CRC of all, whether a comparison found a difference, and whether the update is closed.
-#[derive(Drop)]
+#[derive(Clone, Copy)]
 pub struct Contents {
     pub written: u32,
     pub fill: u32,
@@ -53,7 +55,7 @@ pub struct Contents {
 
 // How many sources were begun; the open table (8: none), where it starts, its CRC; which tables the last source began.
 #[repr(C)]
-#[derive(Drop)]
+#[derive(Clone, Copy)]
 pub struct Tables {
     pub count: u32,
     pub table: u32,
@@ -62,7 +64,7 @@ pub struct Tables {
     pub begun: u32,
 }
 
-#[derive(Drop)]
+#[derive(Clone, Copy)]
 pub struct Writer {
     pub stage: Stage,
     pub beginning: Beginning,
@@ -73,7 +75,7 @@ pub struct Writer {
 }
 
 // A call's answer: done, n bytes appended, no operation due, the update the same as the active bank or not, or a refusal.
-#[derive(Drop)]
+#[derive(Clone, Copy)]
 pub enum Answer {
     Done,
     Appended(u32),
@@ -84,7 +86,7 @@ pub enum Answer {
 }
 
 // The answer, and the state after the call.
-#[derive(Drop)]
+#[derive(Clone, Copy)]
 pub struct Step {
     pub answer: Answer,
     pub writer: Writer,
@@ -92,7 +94,7 @@ pub struct Step {
 
 // The few bytes of a state that calls change at every step. What the beginning fixed, the sources and the tail are passed beside them, so
 // that they aren't copied from call to call.
-#[derive(Drop)]
+#[derive(Clone, Copy)]
 pub struct Parts {
     pub stage: Stage,
     pub contents: Contents,
@@ -100,7 +102,7 @@ pub struct Parts {
 }
 
 // The answer, and the parts after the call.
-#[derive(Drop)]
+#[derive(Clone, Copy)]
 pub struct PartsStep {
     pub answer: Answer,
     pub parts: Parts,

@@ -5,7 +5,7 @@ use native.Mathlib.Omega.{arith}
 use mathlib.Core.Bool.{true}
 use mathlib.Core.Path.{◌≡◌, refl, sym, ap, ◌∙◌}
 use lib.ListN.{length, drop, length-take, length-drop}
-use Rattle.csv.specs.Csv.{max_row}
+use Rattle.rfc4180.specs.Csv.{max_row}
 use Rattle.rowread.specs.declared.exact.Scan.TheVariants.{Whole}
 use Rattle.rowread.specs.Stored.{part_at}
 use Rattle.rowread.specs.Steps.{scan_of}

@@ -1,4 +1,4 @@
-use Rattle.csv.specs.Write.{row_of}
+use Rattle.rfc4180.specs.Write.{row_of}
 use Rattle.row.specs.Write.{passed_values, after}
 use Rattle.row.specs.declared.RowAnswer.{RowAnswer}
 use Rattle.bankcore.specs.RowAnswers.{of_row}

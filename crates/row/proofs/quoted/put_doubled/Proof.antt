@@ -6,7 +6,7 @@ use Prim.Native.Nat.{ℕ, ◌≤◌, ◌-◌, ◌+◌}
 use native.Mathlib.Omega.{arith}
 use lib.ListN.{length, drop}
 use lib.Seq.{sets, length-sets}
-use Rattle.csv.specs.Write.{doubled}
+use Rattle.rfc4180.specs.Write.{doubled}
 use Rattle.row.proofs.Laws.{doubled-less, part_length, rest-is, plain-left, part-size, part-sets}
 use borrow.Author.Rules.{rules}
 use Rattle.row.proofs.quoted.put_doubled.Statement.{statement}

@@ -6,8 +6,8 @@ use lib.Dec.{eqb}
 use lib.ListN.{length, drop, get_or, length-set}
 use lib.Seq.{sets}
 use Rattle.base.specs.Number.{pick}
-use Rattle.csv.specs.Csv.{quote}
-use Rattle.csv.specs.Write.{doubled}
+use Rattle.rfc4180.specs.Csv.{quote}
+use Rattle.rfc4180.specs.Write.{doubled}
 use Rattle.row.proofs.Laws.{copy_start, doubled-out, each-size, each_turn}
 use borrow.Author.Rules.{rules}
 use Rattle.row.proofs.quoted.put_each.Statement.{statement}

@@ -5,7 +5,7 @@ use Prim.Native.Nat.{◌≤◌, ◌-◌}
 use native.Mathlib.Omega.{arith}
 use lib.ListN.{length, take, drop}
 use lib.Seq.{sets, length-sets}
-use Rattle.csv.specs.Write.{doubled}
+use Rattle.rfc4180.specs.Write.{doubled}
 use Rattle.row.proofs.Laws.{copy_more, plain_more, part_length}
 use borrow.Author.Rules.{rules}
 use Rattle.row.proofs.quoted.put_plain_blocks.Statement.{statement}

@@ -3,7 +3,7 @@ use mathlib.Core.Path.{sym, ap, ◌∙◌}
 use native.Mathlib.Omega.{arith}
 use lib.ListN.{length, length-set}
 use lib.Seq.{sets, length-sets}
-use Rattle.csv.specs.Csv.{quote}
+use Rattle.rfc4180.specs.Csv.{quote}
 use Rattle.row.proofs.Laws.{quoted-length, quoted-sets}
 use Rattle.row.proofs.quoted.put_quoted.Statement.{statement}
 use Rattle.row.proofs.quoted.put_quoted.Tie as tie

@@ -4,7 +4,7 @@ use mathlib.Core.Path.{◌≡◌, ap}
 use Prim.Native.Nat.{◌≤◌, ◌-◌, ◌+◌}
 use native.Mathlib.Omega.{arith}
 use lib.ListN.{length, drop, length-drop}
-use Rattle.csv.specs.Write.{doubled}
+use Rattle.rfc4180.specs.Write.{doubled}
 use Rattle.row.proofs.Laws.{doubled-most, part_length, rest-is, count_turn, count-end}
 use borrow.Author.Rules.{rules}
 use Rattle.row.proofs.size.doubled_size.Statement.{statement}

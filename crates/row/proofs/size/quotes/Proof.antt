@@ -4,7 +4,7 @@ use mathlib.Core.Logic.{⊎_elim}
 use Prim.Native.Nat.{◌≤◌, ◌-◌, ◌+◌}
 use native.Mathlib.Omega.{arith}
 use lib.ListN.{length, drop}
-use Rattle.csv.specs.Write.{doubled}
+use Rattle.rfc4180.specs.Write.{doubled}
 use Rattle.row.proofs.Laws.{doubled-quote, doubled-byte, doubled-out}
 use borrow.Author.Rules.{rules}
 use Rattle.row.proofs.size.quotes.Statement.{statement}

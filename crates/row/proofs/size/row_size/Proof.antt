@@ -5,8 +5,8 @@ use mathlib.Core.List.{List}
 use Prim.Native.Nat.{ℕ, ◌≤◌, ◌<◌, ◌-◌, ◌+◌}
 use native.Mathlib.Omega.{arith}
 use lib.ListN.{length, take, drop}
-use Rattle.csv.specs.Csv.{max_row}
-use Rattle.csv.specs.Write.{row_of}
+use Rattle.rfc4180.specs.Csv.{max_row}
+use Rattle.rfc4180.specs.Write.{row_of}
 use Rattle.row.specs.Write.{passed_values}
 use Rattle.row.proofs.Laws.{left, size-turn, value-size, none-size, field-less, field_bound}
 use borrow.Author.Rules.{rules}

@@ -5,7 +5,7 @@ use mathlib.Core.Bool.{false}
 use Prim.Native.Nat.{◌≤◌, ◌-◌, ◌+◌}
 use native.Mathlib.Omega.{arith}
 use lib.ListN.{length, take}
-use Rattle.csv.specs.Write.{any_special}
+use Rattle.rfc4180.specs.Write.{any_special}
 use Rattle.row.proofs.Laws.{special-overlap, special-more, special-inside, rest-is}
 use borrow.Author.Rules.{rules}
 use Rattle.row.proofs.special.any_special.Statement.{statement}

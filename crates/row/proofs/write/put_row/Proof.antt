@@ -6,7 +6,7 @@ use Prim.Native.Nat.{ℕ, ◌≤◌, ◌<◌, ◌-◌, ◌+◌}
 use native.Mathlib.Omega.{arith}
 use lib.ListN.{length, take, drop, length-set}
 use lib.Seq.{sets, length-sets}
-use Rattle.csv.specs.Write.{field_of, row_of, delimiter}
+use Rattle.rfc4180.specs.Write.{field_of, row_of, delimiter}
 use Rattle.row.specs.Write.{passed_values}
 use Rattle.row.proofs.Laws.{special-part, left, left-delimiter, size-turn, put-turn, none-size, none-sets}
 use borrow.Author.Rules.{rules}

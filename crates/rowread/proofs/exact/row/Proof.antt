@@ -8,8 +8,8 @@ use mathlib.Core.Path.{◌≡◌, refl, sym, ap, ◌∙◌}
 use mathlib.Core.List.{List}
 use lib.ListN.{length, drop, get_or, set}
 use borrow.Author.Rules.{rules}
-use Rattle.csv.specs.Csv.{comma}
-use Rattle.csv.specs.Read.{values}
+use Rattle.rfc4180.specs.Csv.{comma}
+use Rattle.rfc4180.specs.Read.{values}
 use Rattle.rowread.specs.declared.exact.Scan.TheVariants.{Broken}
 use Rattle.rowread.specs.Steps.{scan_of, scan_from, slack_of}
 use Rattle.rowread.proofs.Laws.{IsValue, is-value, is-bad, scan-start, scan-zero, scan-turn, scan-no-comma, scan-bad, scan-last, scan-no-end, end_fits, past}

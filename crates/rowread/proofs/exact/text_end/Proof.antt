@@ -6,7 +6,7 @@ use mathlib.Core.Path.{◌≡◌, refl, sym, ◌∙◌}
 use lib.ListN.{length, take, drop, get_or}
 use borrow.Author.Tests.{not-true, not-false}
 use borrow.Author.Rules.{rules}
-use Rattle.csv.specs.Read.{plain_value}
+use Rattle.rfc4180.specs.Read.{plain_value}
 use Rattle.rowread.specs.Marks as M
 use Rattle.rowread.proofs.Laws.{plain_out, plain-stop, plain_turn}
 use Rattle.rowread.proofs.Search.{marks-all, word-eight, word_bytes, word_first, word-plain, text-not, plain-skip}

@@ -7,8 +7,8 @@ use mathlib.Core.Path.{◌≡◌, refl, sym, ap, ◌∙◌}
 use mathlib.Core.List.{List}
 use lib.Dec.{leb}
 use lib.ListN.{length, take, drop, get_or}
-use Rattle.csv.specs.Csv.{quote}
-use Rattle.csv.specs.Read.{plain_value, field_at}
+use Rattle.rfc4180.specs.Csv.{quote}
+use Rattle.rfc4180.specs.Read.{plain_value, field_at}
 use Rattle.rowread.specs.declared.exact.Piece.TheVariants.{Value}
 use mathlib.Core.Logic.{◌⊎◌, inl, inr}
 use Rattle.rowread.specs.Steps.{piece_of, value_of, slack_of, Ample, Fitting}

@@ -2,7 +2,7 @@
 use native.Mathlib.Omega.{arith}
 use mathlib.Core.Logic.{inl}
 use mathlib.Core.Path.{refl}
-use Rattle.csv.specs.Read.{values}
+use Rattle.rfc4180.specs.Read.{values}
 use Rattle.rowread.specs.Stored.{joined, values_of}
 use Rattle.rowread.proofs.Blocks.{ahead-is, ahead-back}
 use borrow.Author.Rules.{rules}

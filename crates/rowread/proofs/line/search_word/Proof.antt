@@ -6,7 +6,7 @@ use mathlib.Core.Path.{◌≡◌, refl, sym, ap, ◌∙◌}
 use mathlib.Core.List.{List}
 use lib.ListN.{length, take, drop, get_or, set, length-set}
 use mathlib.Core.Logic.{⊎_elim}
-use Rattle.csv.specs.Csv.{comma}
+use Rattle.rfc4180.specs.Csv.{comma}
 use borrow.Author.Rules.{rules}
 use Rattle.rowread.specs.Marks as M
 use Rattle.base.specs.Little.{little}

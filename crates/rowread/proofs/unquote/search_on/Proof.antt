@@ -4,7 +4,7 @@ use native.Mathlib.Omega.{arith}
 use mathlib.Core.Path.{◌≡◌, sym, ◌∙◌}
 use mathlib.Core.List.{List}
 use lib.ListN.{length, take, drop, get_or}
-use Rattle.csv.specs.Csv.{quote}
+use Rattle.rfc4180.specs.Csv.{quote}
 use Rattle.base.specs.Little.{little}
 use Rattle.rowread.specs.Marks as M
 use Rattle.rowread.specs.Marks.{since}

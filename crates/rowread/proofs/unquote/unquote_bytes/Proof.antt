@@ -7,7 +7,7 @@ use mathlib.Core.Logic.{⊎_elim}
 use mathlib.Core.Path.{◌≡◌, sym, ◌∙◌}
 use lib.ListN.{length, get_or, set}
 use borrow.Author.Rules.{rules}
-use Rattle.csv.specs.Csv.{quote}
+use Rattle.rfc4180.specs.Csv.{quote}
 use Rattle.rowread.specs.Steps.{Unquoting}
 use Rattle.rowread.proofs.Laws.{inner-close, past}
 use Rattle.rowread.proofs.Quoted.{both_ways, ByteAt, byte-plain, byte-twice, byte_fits, written_none, written_byte, un-start, un-length, un-whole, un-room, un-byte, un-bad}

@@ -17,7 +17,7 @@ use borrow.Author.Rules.{rules}
 use Rattle.upper.proofs.rows.long_row.Statement.{statement}
 use Rattle.upper.proofs.rows.long_row.Tie as tie
 use Rattle.region.specs.Region.{capacity}
-use Rattle.csv.specs.Csv.{max_row}
+use Rattle.rfc4180.specs.Csv.{max_row}
 
 slice-aggregate-row : tie.Need-slice-aggregate-row
 slice-aggregate-row c = search rules

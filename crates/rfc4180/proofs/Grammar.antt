@@ -9,9 +9,9 @@ use borrow.Author.Tests.{eqb-true, eqb-false, ne_eqb}
 use mathlib.Core.Path.{◌≡◌, refl, sym, ap, ap₂, ◌∙◌}
 use mathlib.Core.List.{List, [], ◌∷◌, ◌++◌, append_assoc}
 use lib.ListN.{length, drop, get_or}
-use Rattle.csv.specs.Csv.{is_text, NonEscaped, none, text, Inner, close, byte, twice, Field, escaped, non_escaped, RowEnd, lf, crlf, Record, last, more, LoneCr, here, later, quote, comma, carriage_return, line_feed}
-use Rattle.csv.specs.Write.{special, any_special, doubled, field_of, row_of, fields_then}
-use Rattle.csv.specs.Read.{Got, got, bad, push, plain_value, plain_rest, inner, closing, field_at, Row, row, malformed, front, row_end, ended, parted, next, values}
+use Rattle.rfc4180.specs.Csv.{is_text, NonEscaped, none, text, Inner, close, byte, twice, Field, escaped, non_escaped, RowEnd, lf, crlf, Record, last, more, LoneCr, here, later, quote, comma, carriage_return, line_feed}
+use Rattle.rfc4180.specs.Write.{special, any_special, doubled, field_of, row_of, fields_then}
+use Rattle.rfc4180.specs.Read.{Got, got, bad, push, plain_value, plain_rest, inner, closing, field_at, Row, row, malformed, front, row_end, ended, parted, next, values}
 
 -- ---- the reader is complete
 

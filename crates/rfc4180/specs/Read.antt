@@ -1,7 +1,7 @@
 -- How a row is read: exactly the rows of the grammar are (specs/Claims.antt: sound, complete).
 use Rattle.std.specs.Prelude.{ℕ, zero, suc, eqb, List, [], ◌∷◌, get_or, drop, ◌&&◌}
 use Rattle.base.specs.Number.{pick}
-use Rattle.csv.specs.Csv.{is_text, quote, comma, carriage_return, line_feed}
+use Rattle.rfc4180.specs.Csv.{is_text, quote, comma, carriage_return, line_feed}
 
 -- a value and what follows it
 pub data Got : Type 0 where

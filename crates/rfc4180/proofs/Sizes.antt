@@ -9,10 +9,10 @@ use mathlib.Core.List.{List, [], ◌∷◌, ◌++◌}
 use lib.Dec.{eqb}
 use lib.ListN.{length, length-append}
 use Rattle.base.specs.Number.{pick}
-use Rattle.csv.specs.Csv.{NonEscaped, none, text, Inner, close, byte, twice, Field, escaped, non_escaped, RowEnd, lf, crlf, Record, last, more, LoneCr, here, later, quote}
-use Rattle.csv.specs.Write.{special, any_special, doubled, field_of, row_of}
-use Rattle.csv.specs.Read.{row, values}
-use Rattle.csv.proofs.Grammar.{text-unquoted, sound}
+use Rattle.rfc4180.specs.Csv.{NonEscaped, none, text, Inner, close, byte, twice, Field, escaped, non_escaped, RowEnd, lf, crlf, Record, last, more, LoneCr, here, later, quote}
+use Rattle.rfc4180.specs.Write.{special, any_special, doubled, field_of, row_of}
+use Rattle.rfc4180.specs.Read.{row, values}
+use Rattle.rfc4180.proofs.Grammar.{text-unquoted, sound}
 
 plain-special : {bs v r : List ℕ} → NonEscaped bs v r → any_special v ≡ false
 unfolding any_special

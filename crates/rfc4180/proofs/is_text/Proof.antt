@@ -1,7 +1,7 @@
 use mathlib.Core.Path.{refl}
-use Rattle.csv.specs.Csv.{is_text}
-use Rattle.csv.proofs.is_text.Statement.{statement}
-use Rattle.csv.proofs.is_text.Tie as tie
+use Rattle.rfc4180.specs.Csv.{is_text}
+use Rattle.rfc4180.proofs.is_text.Statement.{statement}
+use Rattle.rfc4180.proofs.is_text.Tie as tie
 
 returns : tie.Need-returns
 unfolding is_text

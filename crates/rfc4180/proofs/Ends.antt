@@ -7,10 +7,10 @@ use mathlib.Core.Path.{◌≡◌, refl, sym, ap, ◌∙◌}
 use mathlib.Core.List.{List, [], ◌∷◌, ◌++◌, append_assoc}
 use lib.ListN.{length, take, length-append}
 use lib.Seq.{take-append_seam}
-use Rattle.csv.specs.Csv.{is_text, NonEscaped, none, text, Inner, close, byte, twice, Field, escaped, non_escaped, RowEnd, lf, crlf, Record, last, more, quote, comma, carriage_return, line_feed}
-use Rattle.csv.specs.Read.{row, values}
-use Rattle.csv.specs.Claims.{last_of}
-use Rattle.csv.proofs.Grammar.{sound, complete}
+use Rattle.rfc4180.specs.Csv.{is_text, NonEscaped, none, text, Inner, close, byte, twice, Field, escaped, non_escaped, RowEnd, lf, crlf, Record, last, more, quote, comma, carriage_return, line_feed}
+use Rattle.rfc4180.specs.Read.{row, values}
+use Rattle.rfc4180.specs.Claims.{last_of}
+use Rattle.rfc4180.proofs.Grammar.{sound, complete}
 
 abbrev Text : Type 0
 Text = List ℕ

@@ -1,8 +1,8 @@
 -- What is proved of the grammar, the writing and the reading (proofs/Grammar.antt, proofs/Frame.antt, proofs/Ends.antt, proofs/Sizes.antt).
 use Rattle.std.specs.Prelude.{ℕ, ◌+◌, ◌-◌, ◌≤◌, ◌≡◌, List, [], ◌∷◌, ◌++◌, length, take, drop, get_or, not}
-use Rattle.csv.specs.Csv.{Record, LoneCr, is_text, carriage_return, line_feed}
-use Rattle.csv.specs.Write.{special, row_of, fields_then}
-use Rattle.csv.specs.Read.{row, malformed, values}
+use Rattle.rfc4180.specs.Csv.{Record, LoneCr, is_text, carriage_return, line_feed}
+use Rattle.rfc4180.specs.Write.{special, row_of, fields_then}
+use Rattle.rfc4180.specs.Read.{row, malformed, values}
 
 -- bytes, a value, or what follows it
 abbrev Text : Type 0

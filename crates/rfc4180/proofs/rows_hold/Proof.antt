@@ -1,10 +1,10 @@
-use Rattle.csv.specs.Claims.{Claims}
-use Rattle.csv.proofs.Grammar.{writes, sound, complete, read_back, one-reading, reads-crlf, in-numbers, lone-cr, lone-crs, text-unquoted}
-use Rattle.csv.proofs.Frame.{row-in-front, front-in-row}
-use Rattle.csv.proofs.Ends.{lf-to-crlf, crlf-to-lf}
-use Rattle.csv.proofs.Sizes.{not-longer}
-use Rattle.csv.proofs.rows_hold.Statement.{statement}
-use Rattle.csv.proofs.rows_hold.Tie as tie
+use Rattle.rfc4180.specs.Claims.{Claims}
+use Rattle.rfc4180.proofs.Grammar.{writes, sound, complete, read_back, one-reading, reads-crlf, in-numbers, lone-cr, lone-crs, text-unquoted}
+use Rattle.rfc4180.proofs.Frame.{row-in-front, front-in-row}
+use Rattle.rfc4180.proofs.Ends.{lf-to-crlf, crlf-to-lf}
+use Rattle.rfc4180.proofs.Sizes.{not-longer}
+use Rattle.rfc4180.proofs.rows_hold.Statement.{statement}
+use Rattle.rfc4180.proofs.rows_hold.Tie as tie
 
 claims : Claims
 claims = record {

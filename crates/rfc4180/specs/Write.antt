@@ -1,7 +1,7 @@
 -- How a row is written. It is in the grammar (specs/Claims.antt: written).
 use Rattle.std.specs.Prelude.{ℕ, eqb, Bool, false, ◌||◌, List, [], ◌∷◌, ◌++◌}
 use Rattle.base.specs.Number.{pick}
-use Rattle.csv.specs.Csv.{quote, comma, carriage_return, line_feed}
+use Rattle.rfc4180.specs.Csv.{quote, comma, carriage_return, line_feed}
 
 -- a byte that makes a value quoted: "a quote, comma, CR or LF"
 unfoldable pub special : ℕ → Bool

@@ -1,7 +1,9 @@
 // Rows by RFC 4180: delimiters and limits.
+#![tactic(auto)]
+
 ghost use Rattle.std.specs.Prelude.{◌≡◌};
-ghost use Rattle.csv.specs.Csv.{is_text};
-ghost use Rattle.csv.specs.Claims.{Claims};
+ghost use Rattle.rfc4180.specs.Csv.{is_text};
+ghost use Rattle.rfc4180.specs.Claims.{Claims};
 
 pub const QUOTE: u8 = 34;
 
