@@ -29,7 +29,9 @@ module _ {A : Type 0} (f : List ℕ → ℕ → A) (step : ℕ) (shifts : Shifts
     unfolding many puts All
     all_back [] h q = refl
     all_back (x ∷ xs) h q =
-        rw (append_assoc (g x) (puts g xs) q, one x h.0 (puts g xs ++ q), zero-add step)
+        let e : puts g (x ∷ xs) ++ q ≡ g x ++ (puts g xs ++ q) = append_assoc (g x) (puts g xs) q in
+        ap (λ (l : List ℕ). many f step l 0 (suc (length xs))) e
+        ∙ rw (one x h.0 (puts g xs ++ q), zero-add step)
         (ap (λ t. x ∷ t) (many-at (length xs) (g x) (puts g xs ++ q) step (each x) ∙ all_back xs h.1 q))
 
     pub run-back : (xs : List A) → All Good xs → (p q : List ℕ) (k n : ℕ) → length p ≡ k → length xs ≡ n → many f step (p ++ (puts g xs ++ q)) k n ≡ xs

@@ -1,0 +1,21 @@
+use Rattle.std.proofs.Common.{rules, ◌≡◌, ◌-◌, ◌≤◌, length, ℕ, ◌+◌, ◌*◌, ◌<◌, ◌/◌, ◌%◌, Bool, true, false, nat_eq, nat_lt, List, [], ◌∷◌, ◌++◌, slice_index_or, slice_set, bit_and, bit_or, Fits, w8, w32, w64, Bor, MutBor}
+use Rattle.region.specs.Region.{last_bank}
+use Rattle.bank.specs.Bank as Banks
+use Rattle.bank.proofs.header.Goals as goal
+use Rattle.header.specs.Header.{header_of}
+use Rattle.bank.proofs.Laws.{no-region, no-bank, named-is}
+use borrow.Author.Tests.{eq-eqb, ne_eqb, lt-leb, le-leb}
+use mathlib.Core.Path.{ap, ◌∙◌}
+
+pub returns-then-region-ne-REGION_SIZE : goal.returns-then-region-ne-REGION_SIZE
+returns-then-region-ne-REGION_SIZE c = no-region c.args.region.now c.args.number (ne_eqb _ _ c.if-region-ne-REGION_SIZE.true)
+
+pub returns-then-number-gt-LAST_BANK : goal.returns-then-number-gt-LAST_BANK
+returns-then-number-gt-LAST_BANK c =
+    let a = c.args in
+    no-bank a.region.now a.number (eq-eqb _ _ c.if-region-ne-REGION_SIZE.false) (lt-leb _ _ c.if-number-gt-LAST_BANK.true)
+
+pub returns : goal.returns
+returns c =
+    let a = c.args in
+    c.header_of.ensures ∙ ap (header_of a.number) c.bank_of-l.ensures ∙ named-is a.region.now a.number (eq-eqb _ _ c.if-region-ne-REGION_SIZE.false) (le-leb _ _ c.if-number-gt-LAST_BANK.false)

@@ -1,0 +1,47 @@
+-- One case for each guard: the region's length, the state's ranges, the header; then the turn on the bank.
+use Rattle.std.proofs.Common.{rules, ◌≡◌, ◌+◌, ◌-◌, ◌≤◌, length, min, ℕ, ◌*◌, ◌<◌, ◌/◌, ◌%◌, Bool, true, false, nat_eq, nat_lt, List, [], ◌∷◌, ◌++◌, slice_index_or, slice_set, bit_and, bit_or, Fits, w8, w32, w64, Bor, MutBor}
+use Rattle.bank.specs.Claims.{Claims}
+use Rattle.bank.specs.Turns as Turns
+use Rattle.bank.proofs.turns.check_turn.Goals as goal
+use Rattle.header.specs.Header.{header_of}
+use borrow.Author.Tests.{not-true, not-false}
+use borrow.Author.Tests.{eq-eqb, ne_eqb}
+use Rattle.bank.proofs.Cases.{turn-no-region, turn-forged, turn-bank, turn-bad}
+use mathlib.Core.Path.{sym, ap, ◌∙◌}
+
+pub returns-then-region-ne-REGION_SIZE : goal.returns-then-region-ne-REGION_SIZE
+returns-then-region-ne-REGION_SIZE c =
+    let a = c.args in
+    c.stays.ensures ∙ turn-no-region a.region.now a.s a.n (ne_eqb _ _ c.if-region-ne-REGION_SIZE.true)
+
+pub returns-then-not-s : goal.returns-then-not-s
+returns-then-not-s c =
+    let f = c in
+    let a = f.args in
+    c.stays-then-not-s.ensures ∙ turn-forged a.region.now a.s a.n (eq-eqb _ _ f.if-region-ne-REGION_SIZE.false) (not-true _ c.if-not-s.true)
+
+pub returns-in-Good : goal.returns-in-Good
+returns-in-Good c =
+    let h = c in
+    let o = h in
+    let e = o in
+    let f = e in
+    let a = f.args in
+    let s = a.s in
+    let r = a.region.now in
+    c.on_bank.ensures
+    ∙ turn-bank r s a.n _ (eq-eqb _ _ f.if-region-ne-REGION_SIZE.false) (not-false _ e.if-not-s.false)
+    (ap (header_of s.bank) (sym o.bank_of-l.ensures) ∙ sym o.header_of-h.ensures ∙ h.in-Good.is)
+
+pub returns-in-Refused : goal.returns-in-Refused
+returns-in-Refused c =
+    let h = c in
+    let o = h in
+    let e = o in
+    let f = e in
+    let a = f.args in
+    let s = a.s in
+    let r = a.region.now in
+    c.stays-in-Refused.ensures
+    ∙ turn-bad r s a.n _ (eq-eqb _ _ f.if-region-ne-REGION_SIZE.false) (not-false _ e.if-not-s.false)
+    (ap (header_of s.bank) (sym o.bank_of-l.ensures) ∙ sym o.header_of-h.ensures ∙ h.in-Refused.is)

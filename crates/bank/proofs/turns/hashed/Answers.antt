@@ -1,0 +1,25 @@
+-- The next bytes, at most n, are a part of the data; hashing them continues the CRC, and the position goes on by as many.
+use Rattle.std.proofs.Common.{rules, ◌≡◌, ◌+◌, ◌-◌, ◌≤◌, length, min, ℕ, ◌*◌, ◌<◌, ◌/◌, ◌%◌, Bool, true, false, nat_eq, nat_lt, List, [], ◌∷◌, ◌++◌, slice_index_or, slice_set, bit_and, bit_or, Fits, w8, w32, w64, Bor, MutBor}
+use Rattle.bank.specs.Claims.{Claims}
+use Rattle.bank.specs.Turns as Turns
+use Rattle.bank.proofs.turns.hashed.Goals as goal
+use Rattle.bank.specs.Turns.{count_of, hashed}
+use Rattle.bank.specs.Bank.{data_in}
+use Rattle.bank.specs.declared.turns.Progress.TheVariants.{Hashed}
+use Rattle.leaf.specs.Crc.{crc32}
+use lib.ListN.{take, drop}
+use mathlib.Core.Path.{ap, ◌∙◌}
+
+pub returns : goal.returns
+unfolding hashed
+returns c =
+    let r = c in
+    let p = r in
+    let d = p in
+    let m = d in
+    let a = m.args in
+    let k = m.smaller-count.ensures.0 in
+    let s = a.s in
+    let e : r.crc32-crc.result ≡ crc32 s.crc (take (count_of a.b s a.n) (drop s.position (data_in a.region.now a.b))) =
+    r.crc32-crc.ensures ∙ ap (crc32 s.crc) (p.part-p.ensures ∙ (λ i. take (k i) (drop s.position (d.data_in-d.ensures i)))) in
+    c.stays.ensures ∙ (λ i. record { progress = Hashed (k i); next = record { bank = s.bank; position = s.position + k i; crc = e i } })

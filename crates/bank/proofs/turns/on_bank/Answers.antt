@@ -1,0 +1,34 @@
+-- By the position: past the data it is refused, at their end the CRCs decide, before it bytes are hashed.
+use Rattle.std.proofs.Common.{rules, ◌≡◌, ◌+◌, ◌-◌, ◌≤◌, length, min, ℕ, ◌*◌, ◌<◌, ◌/◌, ◌%◌, Bool, true, false, nat_eq, nat_lt, List, [], ◌∷◌, ◌++◌, slice_index_or, slice_set, bit_and, bit_or, Fits, w8, w32, w64, Bor, MutBor}
+use Rattle.bank.specs.Claims.{Claims}
+use Rattle.bank.specs.Turns as Turns
+use Rattle.bank.proofs.turns.on_bank.Goals as goal
+use borrow.Author.Tests.{eq-eqb, ne_eqb, lt-leb, le-leb}
+use Rattle.bank.proofs.Cases.{past-data, verdict-yes, verdict-no, some_left}
+use mathlib.Core.Path.{◌∙◌}
+
+pub returns-then-b-s : goal.returns-then-b-s
+returns-then-b-s c =
+    let a = c.args in
+    c.stays.ensures ∙ past-data a.region.now a.b a.s a.n (lt-leb _ _ c.if-b-s.true)
+
+pub returns-then-s-b-2 : goal.returns-then-s-b-2
+returns-then-s-b-2 c =
+    let y = c in
+    let f = y in
+    let a = f.args in
+    c.stays-then-s-b-2.ensures ∙ verdict-yes a.region.now a.b a.s a.n (le-leb _ _ f.if-b-s.false) (eq-eqb _ _ y.if-s-b.true) (eq-eqb _ _ c.if-s-b-2.true)
+
+pub returns-then-s-b : goal.returns-then-s-b
+returns-then-s-b c =
+    let y = c in
+    let f = y in
+    let a = f.args in
+    c.stays-then-s-b.ensures ∙ verdict-no a.region.now a.b a.s a.n (le-leb _ _ f.if-b-s.false) (eq-eqb _ _ y.if-s-b.true) (ne_eqb _ _ c.if-s-b-2.false)
+
+pub returns : goal.returns
+returns c =
+    let y = c in
+    let f = y in
+    let a = f.args in
+    c.hashed.ensures ∙ some_left a.region.now a.b a.s a.n (le-leb _ _ f.if-b-s.false) (ne_eqb _ _ y.if-s-b.false)

@@ -1,0 +1,23 @@
+-- Both registers after some bytes. Equal registers stay equal; after 256 bytes the second is the first and the 2048 steps of their
+-- difference, by linearity (`second`); else each is run by itself.
+use Rattle.std.proofs.Common.{rules, ◌≡◌, ◌+◌, ◌*◌, ◌%◌, ◌<◌, ℕ, ◌-◌, ◌≤◌, length, ◌/◌, Bool, true, false, nat_eq, nat_lt, List, [], ◌∷◌, ◌++◌, slice_index_or, slice_set, bit_and, bit_or, Fits, w8, w32, w64, Bor, MutBor}
+use Rattle.checksum.specs.Register.{steps, run}
+use Rattle.checksum.specs.Pending.{nibbles, nibble_bits}
+use Rattle.checksum.specs.Shift.{Shifts, shift_steps, first_steps, table_rows}
+use Rattle.checksum.proofs.pair.feed_both.Goals as goal
+use mathlib.Core.Path.{refl, ap, ap₂, ◌∙◌}
+use native.Mathlib.Omega.{arith}
+use lib.Bits.{bit_xor}
+use Rattle.checksum.specs.Register.{step}
+use Rattle.checksum.proofs.TableLaws.{follows}
+use Rattle.checksum.proofs.PairTable.{shifted, ahead, table, second}
+
+pub shift-requires : goal.shift-requires
+unfolding shifted ahead follows steps step
+shift-requires c = table _ tt refl
+
+pub returns-then-bytes-eq-SHIFTED : goal.returns-then-bytes-eq-SHIFTED
+returns-then-bytes-eq-SHIFTED c =
+    let a = c.args in
+    let f = c.feed-x.ensures in
+    (f, ap₂ bit_xor f c.shift.ensures ∙ second a.a a.b 2048 a.bytes.now (omega arith))

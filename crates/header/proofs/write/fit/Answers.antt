@@ -1,0 +1,42 @@
+-- The invariant: the two flags say whether the first i records pass 6 and have texts of allowed length. Only records below the count are
+-- looked at (`below-count`).
+use Rattle.std.proofs.Common.{rules, ◌≡◌, ◌*◌, ◌≤◌, min, length, take, ℕ, ◌+◌, ◌-◌, ◌<◌, ◌/◌, ◌%◌, Bool, true, false, nat_eq, nat_lt, List, [], ◌∷◌, ◌++◌, slice_index_or, slice_set, bit_and, bit_or, Fits, w8, w32, w64, Bor, MutBor}
+use Rattle.std.proofs.lemmas.List.Edits.{sets}
+use Rattle.record.specs.Types.{Sized}
+use Rattle.record.specs.Record.{record_size, table_words, source_bytes, stamp_size, id_size, validator_size}
+use Rattle.base.specs.Lists.{puts, fill}
+use Rattle.header.specs.Header.{header_size, max_sources, data_crc_offset, records_offset}
+use Rattle.header.specs.WriteHeader.{magic_to_length, crc_to_checked, header_bytes, blank_word, commit_bytes, text_ok, is_fit}
+use Rattle.base.specs.Table.{max_tables}
+use Rattle.header.proofs.write.fit.Goals as goal
+use mathlib.Core.Path.{refl, ap, ◌∙◌}
+use native.Mathlib.Omega.{arith}
+use Rattle.base.specs.Lists.{each}
+use Rattle.header.specs.Header.{source_ok}
+use Rattle.header.proofs.Laws.{each_take}
+use Rattle.header.proofs.Writing.{no_source, below-count, judge-is}
+
+pub loop-i-init : goal.loop-i-init
+unfolding each
+loop-i-init c = (omega arith, refl, refl)
+
+pub loop-i-preserved : goal.loop-i-preserved
+loop-i-preserved c =
+    let l = c.loop-i in
+    let a = c.args in
+    let k : l.i < length a.t2 = search rules in (
+      omega arith,
+      rw (l.invariant.1, c.source_ok-sources.ensures) (each_take (source_ok a.b) a.t2 l.i no_source k),
+      rw (l.invariant.2, c.text_ok-texts.ensures) (each_take text_ok a.t2 l.i no_source k),
+    )
+
+pub returns : goal.returns
+unfolding is_fit
+returns c =
+    let l = c.loop-i in
+    let r = c in
+    let a = r.args in
+    let k : length a.t2 ≡ 3 = search rules in
+    let e : l.i ≡ min a.b.count 3 = omega (arith, r.records-n.ensures) in
+    let t : take l.i a.t2 ≡ take a.b.count a.t2 = ap (λ (j : ℕ). take j a.t2) e ∙ below-count a.t2 a.b.count k in
+    rw (c.span_ok.ensures, l.invariant.1, l.invariant.2, t, judge-is a.b (take a.b.count a.t2))

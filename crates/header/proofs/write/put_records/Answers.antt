@@ -1,0 +1,37 @@
+-- The invariant: the first i records are written from 48 on, 384 bytes each (`puts-next`).
+use Rattle.std.proofs.Common.{rules, ◌≡◌, ◌*◌, ◌≤◌, min, length, take, ℕ, ◌+◌, ◌-◌, ◌<◌, ◌/◌, ◌%◌, Bool, true, false, nat_eq, nat_lt, List, [], ◌∷◌, ◌++◌, slice_index_or, slice_set, bit_and, bit_or, Fits, w8, w32, w64, Bor, MutBor}
+use Rattle.std.proofs.lemmas.List.Edits.{sets}
+use Rattle.record.specs.Types.{Sized}
+use Rattle.record.specs.Record.{record_size, table_words, source_bytes, stamp_size, id_size, validator_size}
+use Rattle.base.specs.Lists.{puts, fill}
+use Rattle.header.specs.Header.{header_size, max_sources, data_crc_offset, records_offset}
+use Rattle.header.specs.WriteHeader.{magic_to_length, crc_to_checked, header_bytes, blank_word, commit_bytes, text_ok, is_fit}
+use Rattle.base.specs.Table.{max_tables}
+use Rattle.header.proofs.write.put_records.Goals as goal
+use mathlib.Core.Path.{refl, ap, ◌∙◌}
+use native.Mathlib.Omega.{arith}
+use lib.ListN.{get_or}
+use lib.Seq.{length-sets}
+use Rattle.leaf.proofs.Laws.{written-sets}
+use Rattle.base.proofs.Lists.{puts-next, length-puts-next}
+use Rattle.record.proofs.Laws.{length-source}
+use Rattle.header.proofs.Writing.{no_source}
+
+pub loop-i-init : goal.loop-i-init
+unfolding puts
+loop-i-init c = (omega arith, c.requires.1, refl, refl)
+
+pub loop-i-preserved : goal.loop-i-preserved
+loop-i-preserved c =
+    let e = c in
+    let z = e in
+    let l = z.loop-i in
+    let a = z.args in
+    let k : l.i < length a.t2 = search rules in
+    let m = length-source (get_or a.t2 l.i no_source) z.is_sized.ensures in
+    let w = e.encode.ensures ∙ written-sets l.out (48 + l.i * 384) (source_bytes (get_or a.t2 l.i no_source)) (rw (m, l.invariant.1) (omega arith)) in (
+      omega arith,
+      ap length w ∙ length-sets l.out (48 + l.i * 384) (source_bytes (get_or a.t2 l.i no_source)) ∙ l.invariant.1,
+      length-puts-next source_bytes a.t2 l.i no_source k ∙ omega (arith, l.invariant.2, m),
+      w ∙ rw l.invariant.3 (puts-next source_bytes a.t2 l.i 48 (l.i * 384) no_source a.out.now k l.invariant.2),
+    )

@@ -1,0 +1,25 @@
+-- Preparation says that the picks are ready, or which refusal; writing the key then has its own contract.
+use Rattle.std.proofs.Common.{rules, ◌≡◌, ◌+◌, ◌*◌, length, ℕ, ◌-◌, ◌<◌, ◌≤◌, ◌/◌, ◌%◌, Bool, true, false, nat_eq, nat_lt, List, [], ◌∷◌, ◌++◌, slice_index_or, slice_set, bit_and, bit_or, Fits, w8, w32, w64, Bor, MutBor}
+use Rattle.key.specs.Claims.{Claims}
+use Rattle.key.specs.Picks.{passed_picks}
+use Rattle.key.specs.Layout.{entry, key_of, fit, key_answer, after}
+use Rattle.key.specs.Match.{match_answer}
+use Rattle.key.proofs.key.Goals as goal
+use mathlib.Core.Path.{subst, ◌∙◌}
+use native.Mathlib.Omega.{arith}
+use Rattle.key.specs.Steps.{Prepares}
+use mathlib.Core.Path.{refl}
+use Rattle.key.specs.Layout.{within}
+use Rattle.key.proofs.Answers.{key-refused, else-within}
+
+pub returns-in-Ready : goal.returns-in-Ready
+returns-in-Ready c =
+    let a = c.args in
+    let h = subst (Prepares _ _ _ _) c.in-Ready.is c.prepare-p.ensures in
+    let k = c.write_key in
+    (rw h.picks at k.ensures.0 ∙ else-within a.identity.now a.texts.now a.lengths.now (length a.out.now) h.fits h.named, rw h.picks at k.ensures.1)
+
+pub returns-in-Refused : goal.returns-in-Refused
+returns-in-Refused c =
+    let a = c.args in
+    (key-refused a.identity.now a.texts.now a.lengths.now (length a.out.now) _ (subst (Prepares _ _ _ _) c.in-Refused.is c.prepare-p.ensures), refl)

@@ -1,0 +1,47 @@
+-- The invariant: the bytes before i are equal, so the order is that of the rests. The first different byte, or the shorter text, decides.
+use Rattle.std.proofs.Common.{rules, ◌≡◌, true, [], ◌∷◌, ◌++◌, map, ◌+◌, ◌-◌, ◌*◌, ◌≤◌, ◌<◌, length, take, drop, get_or, ℕ, ◌/◌, ◌%◌, Bool, false, nat_eq, nat_lt, List, slice_set, bit_and, bit_or, Fits, w8, w32, w64, Bor, MutBor}
+use Rattle.key.specs.Order.{text_order, pick_order, field_count}
+use Rattle.key.specs.Picks.{firsts, insert, distinct}
+use Rattle.key.specs.Layout.{entry, sized, every}
+use Rattle.key.specs.Steps.{number, Offsets, Rising, between, pick_in, Goes, Ordered, Below, Prepares, starts_size}
+use Rattle.key.proofs.picks.order.Goals as goal
+use mathlib.Core.Path.{refl, ap, ◌∙◌, sym}
+use Prim.Native.Nat.{compare}
+use native.Mathlib.Omega.{arith}
+use Rattle.key.specs.Order.{lex}
+use Rattle.key.proofs.Walk.{less-at, more-at, same_at, longer, shorter, ended}
+
+pub returns-then-b-i : goal.returns-then-b-i
+unfolding text_order
+returns-then-b-i c =
+    let l = c.loop-i in
+    let a = c.args in
+    sym (ap number (l.invariant.2 ∙ longer compare 0 a.a.now a.b.now l.i (omega arith) (omega arith)))
+
+pub returns-then-a-i : goal.returns-then-a-i
+unfolding text_order
+returns-then-a-i c =
+    let l = c.loop-i in
+    let a = c.args in
+    sym (ap number (l.invariant.2 ∙ less-at a.a.now a.b.now l.i (omega arith) (omega arith) (omega arith)))
+
+pub returns-then-b-i-2 : goal.returns-then-b-i-2
+unfolding text_order
+returns-then-b-i-2 c =
+    let l = c.loop-i in
+    let a = c.args in
+    sym (ap number (l.invariant.2 ∙ more-at a.a.now a.b.now l.i (omega arith) (omega arith) (omega arith)))
+
+pub returns-then-i-b : goal.returns-then-i-b
+unfolding text_order
+returns-then-i-b c =
+    let l = c.loop-i in
+    let a = c.args in
+    sym (ap number (l.invariant.2 ∙ shorter compare 0 a.a.now a.b.now l.i (omega arith) (omega arith)))
+
+pub returns : goal.returns
+unfolding text_order
+returns c =
+    let l = c.loop-i in
+    let a = c.args in
+    sym (ap number (l.invariant.2 ∙ ended compare 0 a.a.now a.b.now l.i (omega arith) (omega arith)))

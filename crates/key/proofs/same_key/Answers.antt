@@ -1,0 +1,28 @@
+-- Preparation says that the picks are ready, or which refusal; matching the key then has its own contract.
+use Rattle.std.proofs.Common.{rules, ◌≡◌, ◌+◌, ◌*◌, length, ℕ, ◌-◌, ◌<◌, ◌≤◌, ◌/◌, ◌%◌, Bool, true, false, nat_eq, nat_lt, List, [], ◌∷◌, ◌++◌, slice_index_or, slice_set, bit_and, bit_or, Fits, w8, w32, w64, Bor, MutBor}
+use Rattle.key.specs.Claims.{Claims}
+use Rattle.key.specs.Picks.{passed_picks}
+use Rattle.key.specs.Layout.{entry, key_of, fit, key_answer, after}
+use Rattle.key.specs.Match.{match_answer}
+use Rattle.key.proofs.same_key.Goals as goal
+use mathlib.Core.Path.{subst, sym, ◌∙◌}
+use native.Mathlib.Omega.{arith}
+use Rattle.key.specs.Steps.{Prepares}
+use Rattle.key.proofs.Answers.{match-refused, is_same, is-other}
+
+pub returns-then-match_key : goal.returns-then-match_key
+returns-then-match_key c =
+    let a = c.args in
+    let h = subst (Prepares _ _ _ _) c.in-Ready.is c.prepare-p.ensures in
+    is_same a.stored.now a.identity.now a.texts.now a.lengths.now h.fits h.named (sym (rw h.picks at c.match_key.ensures) ∙ c.if-match_key.true)
+
+pub returns-else-match_key : goal.returns-else-match_key
+returns-else-match_key c =
+    let a = c.args in
+    let h = subst (Prepares _ _ _ _) c.in-Ready.is c.prepare-p.ensures in
+    is-other a.stored.now a.identity.now a.texts.now a.lengths.now h.fits h.named (sym (rw h.picks at c.match_key.ensures) ∙ c.if-match_key.false)
+
+pub returns-in-Refused : goal.returns-in-Refused
+returns-in-Refused c =
+    let a = c.args in
+    match-refused a.stored.now a.identity.now a.texts.now a.lengths.now _ (subst (Prepares _ _ _ _) c.in-Refused.is c.prepare-p.ensures)

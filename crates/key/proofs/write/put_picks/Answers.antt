@@ -1,0 +1,51 @@
+-- The invariant: the first k sorted picks are written, up to offset `to`. One more is `step-put`.
+use Rattle.std.proofs.Common.{rules, ◌≡◌, map, ◌+◌, ◌-◌, ◌*◌, ◌≤◌, ◌<◌, length, ℕ, ◌/◌, ◌%◌, Bool, true, false, nat_eq, nat_lt, List, [], ◌∷◌, ◌++◌, slice_index_or, slice_set, bit_and, bit_or, Fits, w8, w32, w64, Bor, MutBor}
+use Rattle.leaf.specs.Bytes.{written}
+use Rattle.key.specs.Picks.{firsts}
+use Rattle.key.specs.Layout.{field as field_of}
+use Rattle.key.specs.Layout.{entry, joined, key_of, prefix, max_identity, prefix_size, after, max_picks, longest_entry}
+use Rattle.key.specs.Steps.{Rising, pick_in, Below, Small}
+use Rattle.key.specs.Order.{field_count}
+use Rattle.key.proofs.write.put_picks.Goals as goal
+use mathlib.Core.Path.{refl, ap, ◌∙◌, sym}
+use native.Mathlib.Omega.{arith}
+use lib.ListN.{take, get_or, length-map}
+use Rattle.key.specs.Picks.{pick_of}
+use Rattle.key.specs.Steps.{between}
+use Rattle.key.proofs.Insert.{below_at, map_at}
+use Rattle.key.proofs.Put.{put-none, joined-none, joined-all, step-length, step_fits, step-put}
+
+pub loop-k-init : goal.loop-k-init
+loop-k-init c =
+    let a = c.args in
+    let e = joined-none entry (map (pick_of (between a.texts.now a.starts.now)) a.sorted.now) in
+    (omega arith, refl, omega (arith, ap length e), sym (ap (written a.out.now a.at) e ∙ put-none a.out.now a.at (omega arith)))
+
+pub put_pick-to-requires : goal.put_pick-to-requires
+put_pick-to-requires c =
+    let s = c in
+    let a = s.args in
+    let l = c.loop-k in
+    let f = pick_of (between a.texts.now a.starts.now) in
+    let w = length-map a.sorted.now f in
+    let h : l.k < length a.sorted.now = omega arith in
+    let b = below_at a.n a.sorted.now l.k s.requires.2 h in
+    let r = step_fits entry [] (map f a.sorted.now) l.k (omega arith) (f (get_or a.sorted.now l.k 0)) (map_at f a.sorted.now l.k h) in
+    (s.requires.0, omega (arith, s.requires.1, b), omega (arith, r, s.requires.3, l.invariant.1, l.invariant.2))
+
+pub loop-k-preserved : goal.loop-k-preserved
+loop-k-preserved c =
+    let s = c in
+    let a = s.args in
+    let l = c.loop-k in
+    let q = c.put_pick-to in
+    let f = pick_of (between a.texts.now a.starts.now) in
+    let w = length-map a.sorted.now f in
+    let h : l.k < length a.sorted.now = omega arith in
+    let e = map_at f a.sorted.now l.k h in
+    let g = f (get_or a.sorted.now l.k 0) in (
+      omega arith,
+      q.auto.0 ∙ l.invariant.1,
+      omega (arith, q.ensures.0, l.invariant.2, step-length entry [] (map f a.sorted.now) l.k (omega arith) g e),
+      step-put entry [] (map f a.sorted.now) l.k (omega arith) g e a.out.now l.out q.new.0 a.at l.to s.requires.3 l.invariant.2 l.invariant.3 q.ensures.1,
+    )

@@ -1,0 +1,25 @@
+-- Three cases: a year past 9999 is no date's; else the number's parts make a date, or they don't, and `is_date` says the same.
+use Rattle.std.proofs.Common.{rules, ◌≡◌, ◌∷◌, slice_index, ℕ, ◌+◌, ◌-◌, ◌*◌, ◌<◌, ◌≤◌, length, ◌/◌, ◌%◌, Bool, true, false, nat_eq, nat_lt, List, [], ◌++◌, slice_index_or, slice_set, bit_and, bit_or, Fits, w8, w32, w64, Bor, MutBor}
+use Rattle.leaf.specs.Claims.{Dates}
+use Rattle.leaf.specs.Date.{leap, month_days, new_date, valid_date}
+use Rattle.leaf.proofs.date.valid_date.Goals as goal
+use Rattle.std.proofs.Common.{sym, ◌∙◌, arith}
+use Rattle.leaf.proofs.Steps.{late, made-is, invalid-is}
+
+pub returns-then-year-gt-LAST_YEAR_32 : goal.returns-then-year-gt-LAST_YEAR_32
+unfolding valid_date
+returns-then-year-gt-LAST_YEAR_32 c =
+    let n = c.args.d in
+    late (n / 10000) (n / 100 % 100) (n % 100) (omega arith)
+
+pub returns-in-Made : goal.returns-in-Made
+unfolding valid_date
+returns-in-Made c =
+    let n = c.args.d in
+    made-is (n / 10000) (n / 100 % 100) (n % 100) _ (sym c.new-made.ensures ∙ c.in-Made.is)
+
+pub returns-in-InvalidDate : goal.returns-in-InvalidDate
+unfolding valid_date
+returns-in-InvalidDate c =
+    let n = c.args.d in
+    invalid-is (n / 10000) (n / 100 % 100) (n % 100) (sym c.new-made.ensures ∙ c.in-InvalidDate.is)

@@ -1,0 +1,19 @@
+-- The first n bytes, then those from `length v - n` on, which is at most n, are all of v (`copy-overlap`).
+use Rattle.std.proofs.Common.{rules, ◌≡◌, ◌+◌, ◌≤◌, ◌<◌, length, ℕ, ◌-◌, ◌*◌, ◌/◌, ◌%◌, Bool, true, false, nat_eq, nat_lt, List, [], ◌∷◌, ◌++◌, slice_index_or, slice_set, bit_and, bit_or, Fits, w8, w32, w64, Bor, MutBor}
+use Rattle.std.proofs.lemmas.List.Edits.{sets}
+use Rattle.row.specs.Steps.{block_size}
+use Rattle.row.proofs.copy.copy_ends.Goals as goal
+use mathlib.Core.Path.{ap, ◌∙◌}
+use native.Mathlib.Omega.{arith}
+use lib.ListN.{take, drop, length-take, length-drop}
+use lib.Seq.{length-sets}
+use Rattle.row.proofs.Laws.{copy-overlap, rest-is}
+
+pub returns : goal.returns
+returns c =
+    let a = c.args in
+    let p = c.requires in
+    let v = a.v.now in
+    let z : a.n - 0 ≡ a.n = omega arith in
+    let f = rw (rest-is v (length v - a.n), c.copy_block.ensures, z) at c.copy_block-2.ensures in
+    f ∙ copy-overlap a.out.now v a.to (length v - a.n) a.n (omega arith) p.0

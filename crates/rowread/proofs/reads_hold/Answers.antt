@@ -1,0 +1,20 @@
+use Rattle.std.proofs.Common.{rules, ◌≡◌, ◌+◌, ◌<◌, length, ℕ, ◌-◌, ◌*◌, ◌≤◌, ◌/◌, ◌%◌, Bool, true, false, nat_eq, nat_lt, List, [], ◌∷◌, ◌++◌, slice_index_or, slice_set, bit_and, bit_or, Fits, w8, w32, w64, Bor, MutBor}
+use Rattle.rowread.specs.Claims.{Claims}
+use Rattle.rowread.specs.Stored.{values_at, joined, ends_of, read_answer, after}
+use Rattle.rowread.proofs.reads_hold.Goals as goal
+use Rattle.rowread.proofs.Table.{reads-written, reads-table, stored-is-a-row, reads-rows, small-outputs, refuses-others, reads_end, reads_all, stored-limits, refuses-lone-cr}
+
+pub returns : goal.returns
+returns c =
+    record {
+      reads_written = reads-written;
+      reads_table = reads-table;
+      stored_is_aRow = stored-is-a-row;
+      reads_rows = reads-rows;
+      small_outputs = small-outputs;
+      refuses_others = refuses-others;
+      reads_end = reads_end;
+      reads_all = reads_all;
+      stored_limits = stored-limits;
+      refuses_lone_cr = refuses-lone-cr;
+    }

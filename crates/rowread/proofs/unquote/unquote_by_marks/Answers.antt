@@ -1,0 +1,71 @@
+-- The invariant: the value is read and written up to p, and m has the marks of the word at i from p on (`Unquoting`, `Grid`). A turn goes on or
+-- closes the value.
+use Rattle.std.proofs.Common.{rules, ◌≡◌, ◌+◌, ◌-◌, ◌≤◌, ◌<◌, length, drop, ℕ, ◌*◌, ◌/◌, ◌%◌, Bool, true, false, nat_eq, nat_lt, List, [], ◌∷◌, ◌++◌, slice_index_or, slice_set, bit_and, bit_or, Fits, w8, w32, w64, Bor, MutBor}
+use Rattle.rfc4180.specs.Read.{inner}
+use Rattle.rowread.specs.Steps.{piece_of, block_size, searched_bytes, Grid, Turned, Filled, Room, Inside, ReadByMarks, slack_of}
+use Rattle.rowread.proofs.unquote.unquote_by_marks.Goals as goal
+use native.Mathlib.Omega.{arith}
+use mathlib.Core.Logic.{⊎_elim}
+use mathlib.Core.Path.{refl, ◌∙◌}
+use lib.ListN.{take, length-take, length-drop}
+use lib.Seq.{sets}
+use Rattle.rowread.specs.Marks as M
+use Rattle.rowread.specs.Steps.{Unquoting}
+use Rattle.rowread.proofs.Search.{since-zero, word-eight, word_bytes}
+use Rattle.rowread.proofs.Quoted.{both_ways, written-block, written-length, block-fits, un-start, un-length, un-more, un-whole, un-room}
+
+pub loop-i-init : goal.loop-i-init
+loop-i-init c =
+    let s = c in
+    let a = s.args in
+    let t = a.t.now in
+    let b = c.load.ensures in
+    let h : a.from + 8 ≤ length t = omega (arith, s.requires.0.0) in
+    let e = c.quotes_of-m.ensures (take 8 (drop a.from t)) (word-eight t a.from h) (word_bytes t a.from b.1) b.0 ∙ since-zero (M.marks M.is_quote (take 8 (drop a.from t))) in
+    let z : a.from - a.from ≡ 0 = omega arith in
+    (omega (arith, h), record { low = omega arith; high = omega arith; inside = h; quotes = rw z e }, un-start 16 a.write t a.from a.out.now a.to (omega (arith, h)))
+
+pub copy_block-requires : goal.copy_block-requires
+copy_block-requires c =
+    let s = c in
+    let l = c.loop-i in
+    let h = c.loop-i-test.true in
+    let u = l.invariant.2 in
+    (omega (arith, h, l.invariant.1.high, l.invariant.0), block-fits s.args.write s.args.t.now l.p l.out l.n (omega (arith, u.grows, u.upto, s.requires.0.1)) u.inside (un-room u s.requires.1) c.if-write.true)
+
+pub returns-then-x : goal.returns-then-x
+returns-then-x c =
+    let s = c in
+    let a = s.args in
+    let t = a.t.now in
+    let l = c.loop-i in
+    let h = c.loop-i-test.true in
+    let x = c.search_on-x.result in
+    let e = c.search_on-x.ensures in
+    let u = l.invariant.2 in
+    let o = c.if-write.out in
+    let put : (a.write ≡ false → o ≡ l.out) × (a.write ≡ true → o ≡ sets l.out l.n (take 16 (drop l.p t))) =
+    ⊎_elim (λ y. (λ f. absurd (both_ways a.write y.0.taken f), λ f. y.5 ∙ y.2.ensures)) (λ y. (λ f. y.1, λ f. absurd (both_ways a.write f y.0.left))) c.if-write.branch in
+    let w = written-block a.write t l.out o l.p l.n x.copied put.0 put.1 (omega (arith, e.few)) (omega (arith, h, l.invariant.1.high, l.invariant.0)) in
+    let k : length (take x.copied (drop l.p t)) ≡ x.copied = omega (arith, length-take x.copied (drop l.p t), length-drop l.p t, e.few, h, l.invariant.1.high, l.invariant.0) in
+    let d = e.ends c.if-x.true in
+    let v = un-whole u (take x.copied (drop l.p t)) (x.p + 1) (l.n + x.copied - a.to) o d.0 (omega (arith, d.2)) (omega (arith, k, u.upto)) w in
+    (λ f. v, λ f. absurd (both_ways true refl f))
+
+pub loop-i-preserved : goal.loop-i-preserved
+loop-i-preserved c =
+    let s = c in
+    let a = s.args in
+    let t = a.t.now in
+    let l = c.loop-i in
+    let h = c.loop-i-test.true in
+    let x = c.search_on-x.result in
+    let e = c.search_on-x.ensures in
+    let u = l.invariant.2 in
+    let o = c.if-write.out in
+    let put : (a.write ≡ false → o ≡ l.out) × (a.write ≡ true → o ≡ sets l.out l.n (take 16 (drop l.p t))) =
+    ⊎_elim (λ y. (λ f. absurd (both_ways a.write y.0.taken f), λ f. y.5 ∙ y.2.ensures)) (λ y. (λ f. y.1, λ f. absurd (both_ways a.write f y.0.left))) c.if-write.branch in
+    let w = written-block a.write t l.out o l.p l.n x.copied put.0 put.1 (omega (arith, e.few)) (omega (arith, h, l.invariant.1.high, l.invariant.0)) in
+    let k : length (take x.copied (drop l.p t)) ≡ x.copied = omega (arith, length-take x.copied (drop l.p t), length-drop l.p t, e.few, h, l.invariant.1.high, l.invariant.0) in
+    let d = e.on c.if-x.false in
+    (omega (arith, d.4.inside), d.4, un-more u (take x.copied (drop l.p t)) x.p (l.n + x.copied) o d.0 (omega (arith, d.1, k)) d.2 (omega (arith, k)) w)

@@ -1,0 +1,14 @@
+use Rattle.std.proofs.Common.{rules, ◌≡◌, ◌&&◌, ℕ, ◌+◌, ◌-◌, ◌*◌, ◌<◌, ◌≤◌, length, ◌/◌, ◌%◌, Bool, true, false, nat_eq, nat_lt, List, [], ◌∷◌, ◌++◌, slice_index_or, slice_set, bit_and, bit_or, Fits, w8, w32, w64, Bor, MutBor}
+use Rattle.writer.specs.State as State
+use Rattle.writer.specs.Parts.{parts_of, whole_of, step_with, parts_did, parts_stay}
+use Rattle.writer.proofs.data_due.Goals as goal
+use borrow.Author.Tests.{eq-eqb, ne_eqb}
+use Rattle.writer.specs.State.{data_due}
+
+pub returns-then-t-eq0 : goal.returns-then-t-eq0
+unfolding data_due
+returns-then-t-eq0 c = rw (eq-eqb _ _ c.if-t-eq0.true)
+
+pub returns : goal.returns
+unfolding data_due
+returns c = rw (ne_eqb _ _ c.if-t-eq0.false)

@@ -1,0 +1,18 @@
+use Rattle.std.proofs.Common.{rules, ◌≡◌, ◌&&◌, ℕ, ◌+◌, ◌-◌, ◌*◌, ◌<◌, ◌≤◌, length, ◌/◌, ◌%◌, Bool, true, false, nat_eq, nat_lt, List, [], ◌∷◌, ◌++◌, slice_index_or, slice_set, bit_and, bit_or, Fits, w8, w32, w64, Bor, MutBor}
+use Rattle.writer.specs.State as State
+use Rattle.writer.specs.Parts.{parts_of, whole_of, step_with, parts_did, parts_stay}
+use Rattle.writer.proofs.first_due.Goals as goal
+use borrow.Author.Tests.{eq-eqb, ne_eqb}
+use Rattle.writer.specs.State.{first_due}
+
+pub returns-then-comparing : goal.returns-then-comparing
+unfolding first_due
+returns-then-comparing c = rw c.if-comparing.true
+
+pub returns-then-t-eq0 : goal.returns-then-t-eq0
+unfolding first_due
+returns-then-t-eq0 c = rw (c.if-comparing.false, eq-eqb _ _ c.if-t-eq0.true)
+
+pub returns : goal.returns
+unfolding first_due
+returns c = rw (c.if-comparing.false, ne_eqb _ _ c.if-t-eq0.false) c.data_due.ensures
