@@ -1,15 +1,9 @@
 -- Preparation says that the picks are ready, or which refusal; writing the key then has its own contract.
-use Rattle.std.proofs.Common.{rules, ◌≡◌, ◌+◌, ◌*◌, length, ℕ, ◌-◌, ◌<◌, ◌≤◌, ◌/◌, ◌%◌, Bool, true, false, nat_eq, nat_lt, List, [], ◌∷◌, ◌++◌, slice_index_or, slice_set, bit_and, bit_or, Fits, w8, w32, w64, Bor, MutBor}
-use Rattle.key.specs.Claims.{Claims}
-use Rattle.key.specs.Picks.{passed_picks}
-use Rattle.key.specs.Layout.{entry, key_of, fit, key_answer, after}
-use Rattle.key.specs.Match.{match_answer}
+use Rattle.std.proofs.Common.{length}
 use Rattle.key.proofs.key.Goals as goal
 use mathlib.Core.Path.{subst, ◌∙◌}
-use native.Mathlib.Omega.{arith}
 use Rattle.key.specs.Steps.{Prepares}
 use mathlib.Core.Path.{refl}
-use Rattle.key.specs.Layout.{within}
 use Rattle.key.proofs.Answers.{key-refused, else-within}
 
 pub returns-in-Ready : goal.returns-in-Ready

@@ -1,12 +1,6 @@
 -- Preparation says that the picks are ready, or which refusal; matching the key then has its own contract.
-use Rattle.std.proofs.Common.{rules, ◌≡◌, ◌+◌, ◌*◌, length, ℕ, ◌-◌, ◌<◌, ◌≤◌, ◌/◌, ◌%◌, Bool, true, false, nat_eq, nat_lt, List, [], ◌∷◌, ◌++◌, slice_index_or, slice_set, bit_and, bit_or, Fits, w8, w32, w64, Bor, MutBor}
-use Rattle.key.specs.Claims.{Claims}
-use Rattle.key.specs.Picks.{passed_picks}
-use Rattle.key.specs.Layout.{entry, key_of, fit, key_answer, after}
-use Rattle.key.specs.Match.{match_answer}
 use Rattle.key.proofs.same_key.Goals as goal
 use mathlib.Core.Path.{subst, sym, ◌∙◌}
-use native.Mathlib.Omega.{arith}
 use Rattle.key.specs.Steps.{Prepares}
 use Rattle.key.proofs.Answers.{match-refused, is_same, is-other}
 

@@ -1,19 +1,14 @@
 -- The stored key is compared by length, prefix, count byte and picks, in this order. The first that differs shows that the keys differ; if
 -- all match and the lengths are equal, the keys are the same (`all-match`).
-use Rattle.std.proofs.Common.{rules, ◌≡◌, true, [], ◌∷◌, map, ◌+◌, ◌-◌, ◌*◌, ◌≤◌, ◌<◌, length, ℕ, ◌/◌, ◌%◌, Bool, false, nat_eq, nat_lt, List, ◌++◌, slice_index_or, slice_set, bit_and, bit_or, Fits, w8, w32, w64, Bor, MutBor}
 use Rattle.key.specs.Picks.{firsts}
-use Rattle.key.specs.Layout.{field as field_of}
-use Rattle.key.specs.Layout.{entry, joined, key_of, prefix, max_identity, max_picks}
-use Rattle.base.specs.Same.{same}
-use Rattle.key.specs.Steps.{Rising, pick_in, Below, Small, stretch}
-use Rattle.key.specs.Order.{field_count}
+use Rattle.key.specs.Layout.{key_of}
 use Rattle.key.proofs.matching.match_key.Goals as goal
 use mathlib.Core.Path.{◌∙◌, sym}
 use native.Mathlib.Omega.{arith}
 use Rattle.key.specs.Picks.{pick_of}
 use Rattle.key.specs.Steps.{between}
 use Rattle.base.proofs.Same.{other_length}
-use Rattle.key.proofs.Answers.{part-is, part-below, part_length, part_count, total-is, prefix-differs, count-differs, picks-differ, all-match}
+use Rattle.key.proofs.Answers.{part-is, part_count, total-is, prefix-differs, count-differs, picks-differ, all-match}
 
 pub returns-then-stored-key_length : goal.returns-then-stored-key_length
 returns-then-stored-key_length c =
@@ -21,7 +16,7 @@ returns-then-stored-key_length c =
     let a = s.args in
     let f = pick_of (between a.texts.now a.starts.now) in
     let q = c.sort_picks-m in
-    let order = q.new.1.1.1.0 in
+    let order = q.new.order in
     let m = q.result in
     let o = q.ensures.1 in
     let k = c.key_length in
@@ -34,7 +29,7 @@ returns-in_default c =
     let a = s.args in
     let f = pick_of (between a.texts.now a.starts.now) in
     let q = c.sort_picks-m in
-    let order = q.new.1.1.1.0 in
+    let order = q.new.order in
     let m = q.result in
     let o = q.ensures.1 in
     prefix-differs a.stored.now a.identity.now (firsts a.n f) (sym c.match_prefix.ensures ∙ c.in_default.is)
@@ -45,7 +40,7 @@ returns-in_default-match_byte c =
     let a = s.args in
     let f = pick_of (between a.texts.now a.starts.now) in
     let q = c.sort_picks-m in
-    let order = q.new.1.1.1.0 in
+    let order = q.new.order in
     let m = q.result in
     let o = q.ensures.1 in
     count-differs a.stored.now a.identity.now (firsts a.n f) m (part_count f a.n order m o) _ (sym c.match_prefix.ensures ∙ c.in-To.is)
@@ -57,7 +52,7 @@ returns-in_default-match_picks c =
     let a = s.args in
     let f = pick_of (between a.texts.now a.starts.now) in
     let q = c.sort_picks-m in
-    let order = q.new.1.1.1.0 in
+    let order = q.new.order in
     let m = q.result in
     let o = q.ensures.1 in
     let w = c.match_picks in
@@ -70,7 +65,7 @@ returns c =
     let a = s.args in
     let f = pick_of (between a.texts.now a.starts.now) in
     let q = c.sort_picks-m in
-    let order = q.new.1.1.1.0 in
+    let order = q.new.order in
     let m = q.result in
     let o = q.ensures.1 in
     let w = c.match_picks in

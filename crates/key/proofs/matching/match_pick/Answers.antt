@@ -1,17 +1,10 @@
 -- The invariant: the first f fields match, up to offset `to`. A field more is `goes_on`, one that differs `stops`.
-use Rattle.std.proofs.Common.{rules, ◌≡◌, true, [], ◌∷◌, map, ◌+◌, ◌-◌, ◌*◌, ◌≤◌, ◌<◌, length, ℕ, ◌/◌, ◌%◌, Bool, false, nat_eq, nat_lt, List, ◌++◌, slice_index_or, slice_set, bit_and, bit_or, Fits, w8, w32, w64, Bor, MutBor}
-use Rattle.key.specs.Picks.{firsts}
-use Rattle.key.specs.Layout.{field as field_of}
-use Rattle.key.specs.Layout.{entry, joined, key_of, prefix, max_identity, max_picks}
-use Rattle.base.specs.Same.{same}
-use Rattle.key.specs.Steps.{Rising, pick_in, Below, Small, stretch}
-use Rattle.key.specs.Order.{field_count}
+use Rattle.std.proofs.Common.{[], length}
+use Rattle.key.specs.Steps.{stretch}
 use Rattle.key.proofs.matching.match_pick.Goals as goal
 use mathlib.Core.Path.{ap, ◌∙◌, sym}
 use native.Mathlib.Omega.{arith}
-use lib.ListN.{take}
 use Rattle.key.specs.Layout.{field}
-use Rattle.key.specs.declared.matching.Matched.TheVariants.{To}
 use Rattle.key.specs.Picks.{pick_of}
 use Rattle.key.specs.Steps.{between}
 use Rattle.key.proofs.TextOffsets.{five}

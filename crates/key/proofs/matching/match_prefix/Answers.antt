@@ -1,11 +1,5 @@
 -- No identity, no prefix. Else 255, the two length bytes and the identity are compared in turn (`then_to`, `then-not`).
-use Rattle.std.proofs.Common.{rules, ◌≡◌, true, [], ◌∷◌, map, ◌+◌, ◌-◌, ◌*◌, ◌≤◌, ◌<◌, length, ℕ, ◌/◌, ◌%◌, Bool, false, nat_eq, nat_lt, List, ◌++◌, slice_index_or, slice_set, bit_and, bit_or, Fits, w8, w32, w64, Bor, MutBor}
-use Rattle.key.specs.Picks.{firsts}
-use Rattle.key.specs.Layout.{field as field_of}
-use Rattle.key.specs.Layout.{entry, joined, key_of, prefix, max_identity, max_picks}
-use Rattle.base.specs.Same.{same}
-use Rattle.key.specs.Steps.{Rising, pick_in, Below, Small, stretch}
-use Rattle.key.specs.Order.{field_count}
+use Rattle.std.proofs.Common.{[], ◌∷◌, length, ◌/◌, ◌%◌}
 use Rattle.key.proofs.matching.match_prefix.Goals as goal
 use mathlib.Core.Path.{ap, ◌∙◌, sym}
 use native.Mathlib.Omega.{arith}

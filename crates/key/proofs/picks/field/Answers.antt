@@ -1,9 +1,6 @@
 -- Fields 0 to 3 are texts as they are; the fifth, the name, is empty if there is a code.
-use Rattle.std.proofs.Common.{rules, ◌≡◌, true, [], ◌∷◌, ◌++◌, map, ◌+◌, ◌-◌, ◌*◌, ◌≤◌, ◌<◌, length, take, drop, get_or, ℕ, ◌/◌, ◌%◌, Bool, false, nat_eq, nat_lt, List, slice_set, bit_and, bit_or, Fits, w8, w32, w64, Bor, MutBor}
-use Rattle.key.specs.Order.{text_order, pick_order, field_count}
-use Rattle.key.specs.Picks.{firsts, insert, distinct}
-use Rattle.key.specs.Layout.{entry, sized, every}
-use Rattle.key.specs.Steps.{number, Offsets, Rising, between, pick_in, Goes, Ordered, Below, Prepares, starts_size}
+use Rattle.std.proofs.Common.{◌≡◌}
+use Rattle.key.specs.Steps.{between}
 use Rattle.key.proofs.picks.field.Goals as goal
 use mathlib.Core.Path.{◌∙◌}
 use native.Mathlib.Omega.{arith}

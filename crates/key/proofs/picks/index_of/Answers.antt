@@ -1,12 +1,8 @@
 -- The invariant: inserting the pick leaves the first k as they are and inserts it among the rest. It goes before the first one that is
 -- larger, nowhere if it is there, else to the end.
-use Rattle.std.proofs.Common.{rules, ◌≡◌, true, [], ◌∷◌, ◌++◌, map, ◌+◌, ◌-◌, ◌*◌, ◌≤◌, ◌<◌, length, take, drop, get_or, ℕ, ◌/◌, ◌%◌, Bool, false, nat_eq, nat_lt, List, slice_set, bit_and, bit_or, Fits, w8, w32, w64, Bor, MutBor}
-use Rattle.key.specs.Order.{text_order, pick_order, field_count}
-use Rattle.key.specs.Picks.{firsts, insert, distinct}
-use Rattle.key.specs.Layout.{entry, sized, every}
-use Rattle.key.specs.Steps.{number, Offsets, Rising, between, pick_in, Goes, Ordered, Below, Prepares, starts_size}
+use Rattle.std.proofs.Common.{map, ◌<◌, length, get_or}
+use Rattle.key.specs.Steps.{between}
 use Rattle.key.proofs.picks.index_of.Goals as goal
-use mathlib.Core.Path.{refl}
 use native.Mathlib.Omega.{arith}
 use lib.ListN.{length-map}
 use Rattle.key.specs.Picks.{pick_of}

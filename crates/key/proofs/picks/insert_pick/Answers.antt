@@ -1,14 +1,11 @@
 -- `index_of` says that the pick is there already, and nothing changes, or its index, and `put_in` inserts it there.
-use Rattle.std.proofs.Common.{rules, ◌≡◌, true, [], ◌∷◌, ◌++◌, map, ◌+◌, ◌-◌, ◌*◌, ◌≤◌, ◌<◌, length, take, drop, get_or, ℕ, ◌/◌, ◌%◌, Bool, false, nat_eq, nat_lt, List, slice_set, bit_and, bit_or, Fits, w8, w32, w64, Bor, MutBor}
-use Rattle.key.specs.Order.{text_order, pick_order, field_count}
-use Rattle.key.specs.Picks.{firsts, insert, distinct}
-use Rattle.key.specs.Layout.{entry, sized, every}
-use Rattle.key.specs.Steps.{number, Offsets, Rising, between, pick_in, Goes, Ordered, Below, Prepares, starts_size}
+use Rattle.std.proofs.Common.{◌≡◌, map, ◌-◌, take}
+use Rattle.key.specs.Steps.{between, Goes}
 use Rattle.key.proofs.picks.insert_pick.Goals as goal
 use native.Mathlib.Omega.{arith}
 use Rattle.key.specs.Picks.{pick_of}
-use Rattle.key.specs.declared.picks.Index.TheVariants.{At, There}
-use Rattle.key.proofs.Insert.{stays, goes_in, index-low}
+use Rattle.key.specs.declared.picks.Index.TheVariants.{At}
+use Rattle.key.proofs.Insert.{goes_in}
 
 pub returns : goal.returns
 returns c =

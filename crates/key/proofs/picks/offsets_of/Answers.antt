@@ -1,10 +1,7 @@
 -- The invariant: the offsets before i are stored, and `at` is offset i. A length that reaches past the end gives the end.
-use Rattle.std.proofs.Common.{rules, ◌≡◌, true, [], ◌∷◌, ◌++◌, map, ◌+◌, ◌-◌, ◌*◌, ◌≤◌, ◌<◌, length, take, drop, get_or, ℕ, ◌/◌, ◌%◌, Bool, false, nat_eq, nat_lt, List, slice_set, bit_and, bit_or, Fits, w8, w32, w64, Bor, MutBor}
-use Rattle.key.specs.Order.{text_order, pick_order, field_count}
-use Rattle.key.specs.Picks.{firsts, insert, distinct}
-use Rattle.key.specs.Layout.{entry, sized, every}
-use Rattle.key.specs.Steps.{number, Offsets, Rising, between, pick_in, Goes, Ordered, Below, Prepares, starts_size}
+use Rattle.std.proofs.Common.{◌≡◌, ◌+◌, ◌≤◌, ◌<◌, length, get_or, ℕ, List}
 use Rattle.key.proofs.picks.offsets_of.Goals as goal
+use Rattle.key.proofs.picks.offsets_of.Goals.{then-i-lengths+then-n-texts, then-i-lengths+else-n-texts, else-i-lengths}
 use mathlib.Core.Path.{refl, ◌∙◌}
 use mathlib.Core.Logic.{⊎_elim}
 use native.Mathlib.Omega.{arith}
@@ -33,9 +30,13 @@ loop-i-preserved c =
     let l = c.loop-i in
     let a = c.args in
     let n = offset-next a.texts.now a.lengths.now l.i in
-    let w = offset-within a.texts.now a.lengths.now l.i in (
+    let inside = offset-within a.texts.now a.lengths.now l.i in (
       omega arith,
       simp length-set l.invariant.1,
-      ⊎_elim (λ v. omega arith) (λ v. ⊎_elim (λ u. omega arith) (λ u. omega (arith, offset-past a.texts.now a.lengths.now l.i (omega arith))) v) c.if-i-lengths.branch,
+      elim c.if-i-lengths.branch [
+        | then-i-lengths+then-n-texts w ↦ omega arith
+        | then-i-lengths+else-n-texts w ↦ omega arith
+        | else-i-lengths w ↦ omega (arith, offset-past a.texts.now a.lengths.now l.i (omega arith))
+      ],
       stored a.texts.now a.lengths.now l.starts l.i l.at (omega arith) l.invariant.2 l.invariant.3,
     )

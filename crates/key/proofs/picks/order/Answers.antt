@@ -1,15 +1,11 @@
 -- The invariant: the bytes before i are equal, so the order is that of the rests. The first different byte, or the shorter text, decides.
-use Rattle.std.proofs.Common.{rules, ◌≡◌, true, [], ◌∷◌, ◌++◌, map, ◌+◌, ◌-◌, ◌*◌, ◌≤◌, ◌<◌, length, take, drop, get_or, ℕ, ◌/◌, ◌%◌, Bool, false, nat_eq, nat_lt, List, slice_set, bit_and, bit_or, Fits, w8, w32, w64, Bor, MutBor}
-use Rattle.key.specs.Order.{text_order, pick_order, field_count}
-use Rattle.key.specs.Picks.{firsts, insert, distinct}
-use Rattle.key.specs.Layout.{entry, sized, every}
-use Rattle.key.specs.Steps.{number, Offsets, Rising, between, pick_in, Goes, Ordered, Below, Prepares, starts_size}
+use Rattle.key.specs.Order.{text_order}
+use Rattle.key.specs.Steps.{number}
 use Rattle.key.proofs.picks.order.Goals as goal
-use mathlib.Core.Path.{refl, ap, ◌∙◌, sym}
+use mathlib.Core.Path.{ap, ◌∙◌, sym}
 use Prim.Native.Nat.{compare}
 use native.Mathlib.Omega.{arith}
-use Rattle.key.specs.Order.{lex}
-use Rattle.key.proofs.Walk.{less-at, more-at, same_at, longer, shorter, ended}
+use Rattle.key.proofs.Walk.{less-at, more-at, longer, shorter, ended}
 
 pub returns-then-b-i : goal.returns-then-b-i
 unfolding text_order

@@ -1,15 +1,11 @@
 -- The tests are the definitions': the texts cut at the computed offsets are the texts passed. Three refusals in turn: too many texts, a
 -- text too long, an identity too long.
-use Rattle.std.proofs.Common.{rules, ◌≡◌, true, [], ◌∷◌, ◌++◌, map, ◌+◌, ◌-◌, ◌*◌, ◌≤◌, ◌<◌, length, take, drop, get_or, ℕ, ◌/◌, ◌%◌, Bool, false, nat_eq, nat_lt, List, slice_set, bit_and, bit_or, Fits, w8, w32, w64, Bor, MutBor}
-use Rattle.key.specs.Order.{text_order, pick_order, field_count}
-use Rattle.key.specs.Picks.{firsts, insert, distinct}
-use Rattle.key.specs.Layout.{entry, sized, every}
-use Rattle.key.specs.Steps.{number, Offsets, Rising, between, pick_in, Goes, Ordered, Below, Prepares, starts_size}
+use Rattle.std.proofs.Common.{◌*◌, ◌≤◌}
+use Rattle.key.specs.Order.{field_count}
 use Rattle.key.proofs.picks.prepare.Goals as goal
 use mathlib.Core.Logic.{inl, inr}
 use mathlib.Core.Path.{refl, ◌∙◌, sym}
 use native.Mathlib.Omega.{arith}
-use borrow.Author.Tests.{not-true, not-false}
 use Rattle.key.specs.Picks.{count}
 use Rattle.key.proofs.Answers.{fit-many, starts-rise, starts-length, fit-known, prepared}
 
@@ -23,7 +19,7 @@ sizes_fit-requires c =
     let a = c.args in
     let p = c.offsets_of in
     let h = c.if-lengths-gt-MAX_TEXTS.false in
-    let k = p.auto.1.1.1.0 ∙ c.requires in
+    let k = p.auto.starts ∙ c.requires in
     let w : count a.lengths.now * field_count ≤ 80 = omega (arith, h) in
     (starts-rise a.texts.now a.lengths.now _ _ k w p.ensures, starts-length a.texts.now a.lengths.now _ _ k w p.ensures)
 
@@ -32,21 +28,21 @@ returns-then-not-sizes_fit c =
     let a = c.args in
     let p = c.offsets_of in
     let h = c.if-lengths-gt-MAX_TEXTS.false in
-    let k = p.auto.1.1.1.0 ∙ c.requires in
-    inl (refl, sym (not-true _ c.if-not-sizes_fit.true) ∙ fit-known a.identity.now a.texts.now a.lengths.now _ k h p.ensures _ c.sizes_fit.ensures)
+    let k = p.auto.starts ∙ c.requires in
+    inl (refl, sym c.if-not-sizes_fit.true ∙ fit-known a.identity.now a.texts.now a.lengths.now _ k h p.ensures _ c.sizes_fit.ensures)
 
 pub returns-then-identity-gt-MAX_IDENTITY : goal.returns-then-identity-gt-MAX_IDENTITY
 returns-then-identity-gt-MAX_IDENTITY c =
     let a = c.args in
     let p = c.offsets_of in
     let h = c.if-lengths-gt-MAX_TEXTS.false in
-    let k = p.auto.1.1.1.0 ∙ c.requires in
-    inr (refl, sym (not-false _ c.if-not-sizes_fit.false) ∙ fit-known a.identity.now a.texts.now a.lengths.now _ k h p.ensures _ c.sizes_fit.ensures, c.if-identity-gt-MAX_IDENTITY.true)
+    let k = p.auto.starts ∙ c.requires in
+    inr (refl, sym c.if-not-sizes_fit.false ∙ fit-known a.identity.now a.texts.now a.lengths.now _ k h p.ensures _ c.sizes_fit.ensures, c.if-identity-gt-MAX_IDENTITY.true)
 
 pub returns : goal.returns
 returns c =
     let a = c.args in
     let p = c.offsets_of in
     let h = c.if-lengths-gt-MAX_TEXTS.false in
-    let k = p.auto.1.1.1.0 ∙ c.requires in
-    prepared a.identity.now a.texts.now a.lengths.now _ k h p.ensures (sym c.sizes_fit.ensures ∙ not-false _ c.if-not-sizes_fit.false) c.if-identity-gt-MAX_IDENTITY.false
+    let k = p.auto.starts ∙ c.requires in
+    prepared a.identity.now a.texts.now a.lengths.now _ k h p.ensures (sym c.sizes_fit.ensures ∙ c.if-not-sizes_fit.false) c.if-identity-gt-MAX_IDENTITY.false

@@ -1,9 +1,7 @@
 -- The invariant: the first k texts are within their sizes. The first one that isn't decides (`every-not`).
-use Rattle.std.proofs.Common.{rules, ◌≡◌, true, [], ◌∷◌, ◌++◌, map, ◌+◌, ◌-◌, ◌*◌, ◌≤◌, ◌<◌, length, take, drop, get_or, ℕ, ◌/◌, ◌%◌, Bool, false, nat_eq, nat_lt, List, slice_set, bit_and, bit_or, Fits, w8, w32, w64, Bor, MutBor}
-use Rattle.key.specs.Order.{text_order, pick_order, field_count}
-use Rattle.key.specs.Picks.{firsts, insert, distinct}
-use Rattle.key.specs.Layout.{entry, sized, every}
-use Rattle.key.specs.Steps.{number, Offsets, Rising, between, pick_in, Goes, Ordered, Below, Prepares, starts_size}
+use Rattle.std.proofs.Common.{◌≤◌, ◌<◌, length, get_or, ◌%◌}
+use Rattle.key.specs.Layout.{sized}
+use Rattle.key.specs.Steps.{between}
 use Rattle.key.proofs.picks.sizes_fit.Goals as goal
 use mathlib.Core.Path.{sym}
 use native.Mathlib.Omega.{arith}

@@ -1,7 +1,7 @@
 use mathlib.Core.Path.{◌≡◌}
 use mathlib.Core.Bool.{true}
 use Prim.Native.Nat.{◌≤◌, ◌-◌}
-use Rattle.key.specs.Layout.{every, sized, sizes}
+use Rattle.key.specs.Layout.{every, sized}
 use Rattle.key.specs.Steps.{between}
 use Rattle.key.proofs.picks.sizes_fit.Given as goal
 

@@ -1,10 +1,7 @@
 -- The invariant: the first m numbers mean the sorted, distinct picks from i on. Each turn inserts one more, from the last to the first
 -- (`one_more`).
-use Rattle.std.proofs.Common.{rules, ◌≡◌, true, [], ◌∷◌, ◌++◌, map, ◌+◌, ◌-◌, ◌*◌, ◌≤◌, ◌<◌, length, take, drop, get_or, ℕ, ◌/◌, ◌%◌, Bool, false, nat_eq, nat_lt, List, slice_set, bit_and, bit_or, Fits, w8, w32, w64, Bor, MutBor}
-use Rattle.key.specs.Order.{text_order, pick_order, field_count}
-use Rattle.key.specs.Picks.{firsts, insert, distinct}
-use Rattle.key.specs.Layout.{entry, sized, every}
-use Rattle.key.specs.Steps.{number, Offsets, Rising, between, pick_in, Goes, Ordered, Below, Prepares, starts_size}
+use Rattle.std.proofs.Common.{◌≡◌, ◌+◌, ◌-◌}
+use Rattle.key.specs.Steps.{between}
 use Rattle.key.proofs.picks.sort_picks.Goals as goal
 use mathlib.Core.Path.{refl, ◌∙◌}
 use native.Mathlib.Omega.{arith}
@@ -25,6 +22,6 @@ loop-i-preserved c =
     let o = l.invariant.3 in (
       omega arith,
       omega (arith, q.ensures.0),
-      q.auto.1.1.1.0 ∙ l.invariant.2,
-      one_more (pick_of (between a.texts.now a.starts.now)) a.n (l.i - 1) (omega arith) l.order q.new.1.1.1.0 l.m q.result (rw e o) q.ensures.1,
+      q.auto.order ∙ l.invariant.2,
+      one_more (pick_of (between a.texts.now a.starts.now)) a.n (l.i - 1) (omega arith) l.order q.new.order l.m q.result (rw e o) q.ensures.1,
     )

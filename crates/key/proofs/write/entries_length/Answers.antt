@@ -1,22 +1,17 @@
 -- The invariant: `bytes` is the length of the first k entries joined, at most 141 k.
-use Rattle.std.proofs.Common.{rules, ◌≡◌, map, ◌+◌, ◌-◌, ◌*◌, ◌≤◌, ◌<◌, length, ℕ, ◌/◌, ◌%◌, Bool, true, false, nat_eq, nat_lt, List, [], ◌∷◌, ◌++◌, slice_index_or, slice_set, bit_and, bit_or, Fits, w8, w32, w64, Bor, MutBor}
-use Rattle.leaf.specs.Bytes.{written}
-use Rattle.key.specs.Picks.{firsts}
-use Rattle.key.specs.Layout.{field as field_of}
-use Rattle.key.specs.Layout.{entry, joined, key_of, prefix, max_identity, prefix_size, after, max_picks, longest_entry}
-use Rattle.key.specs.Steps.{Rising, pick_in, Below, Small}
-use Rattle.key.specs.Order.{field_count}
+use Rattle.std.proofs.Common.{◌≡◌, map, ◌+◌, ◌≤◌, ◌<◌, length, []}
+use Rattle.key.specs.Layout.{entry, joined, longest_entry}
 use Rattle.key.proofs.write.entries_length.Goals as goal
-use mathlib.Core.Path.{ap, ◌∙◌}
+use mathlib.Core.Path.{ap}
 use native.Mathlib.Omega.{arith}
 use lib.ListN.{take, get_or, length-map}
 use Rattle.key.specs.Picks.{pick_of}
 use Rattle.key.specs.Steps.{between}
 use Rattle.key.proofs.Insert.{below_at, map_at}
-use Rattle.key.proofs.Put.{joined-none, joined-all, step-length}
+use Rattle.key.proofs.Put.{joined-none, step-length}
 
 -- one more pick is counted
-step : (c : tie.After-entry-length invariant-loop decreases-loop) → (let a = c.args in let l = c.loop-k in
+step : (c : goal.After-entry_length-bytes) → (let a = c.args in let l = c.loop-k in
     l.bytes + c.entry_length-bytes.result ≡ length (joined entry (take (l.k + 1) (map (pick_of (between a.texts.now a.starts.now)) a.sorted.now))))
 step c =
     let a = c.args in
@@ -27,7 +22,7 @@ step c =
     let e = step-length entry [] (map f a.sorted.now) l.k (omega arith) (f (get_or a.sorted.now l.k 0)) (map_at f a.sorted.now l.k h) in
     omega (arith, e, c.entry_length-bytes.ensures, l.invariant.1)
 
-small : (c : tie.After-entry-length invariant-loop decreases-loop) → c.entry_length-bytes.result ≤ longest_entry
+small : (c : goal.After-entry_length-bytes) → c.entry_length-bytes.result ≤ longest_entry
 small c =
     let s = c in
     let l = c.loop-k in

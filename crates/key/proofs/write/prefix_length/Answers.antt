@@ -1,10 +1,4 @@
-use Rattle.std.proofs.Common.{rules, ◌≡◌, map, ◌+◌, ◌-◌, ◌*◌, ◌≤◌, ◌<◌, length, ℕ, ◌/◌, ◌%◌, Bool, true, false, nat_eq, nat_lt, List, [], ◌∷◌, ◌++◌, slice_index_or, slice_set, bit_and, bit_or, Fits, w8, w32, w64, Bor, MutBor}
-use Rattle.leaf.specs.Bytes.{written}
-use Rattle.key.specs.Picks.{firsts}
-use Rattle.key.specs.Layout.{field as field_of}
-use Rattle.key.specs.Layout.{entry, joined, key_of, prefix, max_identity, prefix_size, after, max_picks, longest_entry}
-use Rattle.key.specs.Steps.{Rising, pick_in, Below, Small}
-use Rattle.key.specs.Order.{field_count}
+use Rattle.std.proofs.Common.{length}
 use Rattle.key.proofs.write.prefix_length.Goals as goal
 use mathlib.Core.Path.{ap}
 use native.Mathlib.Omega.{arith}

@@ -1,19 +1,15 @@
 -- The invariant: the first k sorted picks are written, up to offset `to`. One more is `step-put`.
-use Rattle.std.proofs.Common.{rules, ◌≡◌, map, ◌+◌, ◌-◌, ◌*◌, ◌≤◌, ◌<◌, length, ℕ, ◌/◌, ◌%◌, Bool, true, false, nat_eq, nat_lt, List, [], ◌∷◌, ◌++◌, slice_index_or, slice_set, bit_and, bit_or, Fits, w8, w32, w64, Bor, MutBor}
+use Rattle.std.proofs.Common.{map, ◌<◌, length, []}
 use Rattle.leaf.specs.Bytes.{written}
-use Rattle.key.specs.Picks.{firsts}
-use Rattle.key.specs.Layout.{field as field_of}
-use Rattle.key.specs.Layout.{entry, joined, key_of, prefix, max_identity, prefix_size, after, max_picks, longest_entry}
-use Rattle.key.specs.Steps.{Rising, pick_in, Below, Small}
-use Rattle.key.specs.Order.{field_count}
+use Rattle.key.specs.Layout.{entry}
 use Rattle.key.proofs.write.put_picks.Goals as goal
 use mathlib.Core.Path.{refl, ap, ◌∙◌, sym}
 use native.Mathlib.Omega.{arith}
-use lib.ListN.{take, get_or, length-map}
+use lib.ListN.{get_or, length-map}
 use Rattle.key.specs.Picks.{pick_of}
 use Rattle.key.specs.Steps.{between}
 use Rattle.key.proofs.Insert.{below_at, map_at}
-use Rattle.key.proofs.Put.{put-none, joined-none, joined-all, step-length, step_fits, step-put}
+use Rattle.key.proofs.Put.{put-none, joined-none, step-length, step_fits, step-put}
 
 pub loop-k-init : goal.loop-k-init
 loop-k-init c =
@@ -45,7 +41,7 @@ loop-k-preserved c =
     let e = map_at f a.sorted.now l.k h in
     let g = f (get_or a.sorted.now l.k 0) in (
       omega arith,
-      q.auto.0 ∙ l.invariant.1,
+      q.auto.out ∙ l.invariant.1,
       omega (arith, q.ensures.0, l.invariant.2, step-length entry [] (map f a.sorted.now) l.k (omega arith) g e),
-      step-put entry [] (map f a.sorted.now) l.k (omega arith) g e a.out.now l.out q.new.0 a.at l.to s.requires.3 l.invariant.2 l.invariant.3 q.ensures.1,
+      step-put entry [] (map f a.sorted.now) l.k (omega arith) g e a.out.now l.out q.new.out a.at l.to s.requires.3 l.invariant.2 l.invariant.3 q.ensures.1,
     )

@@ -1,19 +1,14 @@
 -- The computed length is the key's; a smaller output is refused. Else prefix, count byte and picks, written one after the other, are the
 -- key (`whole`).
-use Rattle.std.proofs.Common.{rules, ◌≡◌, map, ◌+◌, ◌-◌, ◌*◌, ◌≤◌, ◌<◌, length, ℕ, ◌/◌, ◌%◌, Bool, true, false, nat_eq, nat_lt, List, [], ◌∷◌, ◌++◌, slice_index_or, slice_set, bit_and, bit_or, Fits, w8, w32, w64, Bor, MutBor}
-use Rattle.leaf.specs.Bytes.{written}
+use Rattle.std.proofs.Common.{length}
 use Rattle.key.specs.Picks.{firsts}
-use Rattle.key.specs.Layout.{field as field_of}
-use Rattle.key.specs.Layout.{entry, joined, key_of, prefix, max_identity, prefix_size, after, max_picks, longest_entry}
-use Rattle.key.specs.Steps.{Rising, pick_in, Below, Small}
-use Rattle.key.specs.Order.{field_count}
+use Rattle.key.specs.Layout.{key_of}
 use Rattle.key.proofs.write.write_key.Goals as goal
-use mathlib.Core.Path.{refl, ◌∙◌}
+use mathlib.Core.Path.{refl}
 use native.Mathlib.Omega.{arith}
-use lib.ListN.{length-set}
 use Rattle.key.specs.Picks.{pick_of}
 use Rattle.key.specs.Steps.{between}
-use Rattle.key.proofs.Answers.{too_small, fits_in, whole, part-is, part-below, part_length, part_count, total-is}
+use Rattle.key.proofs.Answers.{too_small, fits_in, whole, part-is, part_count, total-is}
 
 pub returns-then-out-total : goal.returns-then-out-total
 returns-then-out-total c =
@@ -21,7 +16,7 @@ returns-then-out-total c =
     let a = s.args in
     let f = pick_of (between a.texts.now a.starts.now) in
     let q = c.sort_picks-m in
-    let order = q.new.1.1.1.0 in
+    let order = q.new.order in
     let m = q.result in
     let o = q.ensures.1 in
     let k = c.key_length-total in
@@ -34,7 +29,7 @@ returns c =
     let a = s.args in
     let f = pick_of (between a.texts.now a.starts.now) in
     let q = c.sort_picks-m in
-    let order = q.new.1.1.1.0 in
+    let order = q.new.order in
     let m = q.result in
     let o = q.ensures.1 in
     let k = c.key_length-total in
@@ -43,6 +38,6 @@ returns c =
     let left = c.if-out-total.false in
     let e = total-is f a.n order m o a.identity.now k.result k.ensures in (
       fits_in (length a.out.now) (key_of a.identity.now (firsts a.n f)) k.result e left,
-      whole a.out.now p.new.0 w.new.0 a.identity.now (firsts a.n f) p.result m (omega (arith, e, left)) p.ensures.0
+      whole a.out.now p.new.out w.new.out a.identity.now (firsts a.n f) p.result m (omega (arith, e, left)) p.ensures.0
           (part_count f a.n order m o) p.ensures.1 (rw (part-is f a.n order m o) at w.ensures),
     )
