@@ -30,18 +30,6 @@ columns-past t h = get_or-eq_default columns [] {n = t} (omega (arith, eight-tab
 pub count_past : (t : ℕ) → last_table < t → 0 ≡ column_count t
 count_past t h = sym (ap length (columns-past t h))
 
--- a number that is none of 0 to 7 is above 7
-pub none-of-eight : (t : ℕ) → (t ≡ 0 → ⊥) → (t ≡ 1 → ⊥) → (t ≡ 2 → ⊥) → (t ≡ 3 → ⊥) → (t ≡ 4 → ⊥) → (t ≡ 5 → ⊥) → (t ≡ 6 → ⊥) → (t ≡ 7 → ⊥) → last_table < t
-none-of-eight zero a b c d e f g h = absurd (a refl)
-none-of-eight (suc zero) a b c d e f g h = absurd (b refl)
-none-of-eight (suc (suc zero)) a b c d e f g h = absurd (c refl)
-none-of-eight (suc (suc (suc zero))) a b c d e f g h = absurd (d refl)
-none-of-eight (suc (suc (suc (suc zero)))) a b c d e f g h = absurd (e refl)
-none-of-eight (suc (suc (suc (suc (suc zero))))) a b c d e f g h = absurd (f refl)
-none-of-eight (suc (suc (suc (suc (suc (suc zero)))))) a b c d e f g h = absurd (g refl)
-none-of-eight (suc (suc (suc (suc (suc (suc (suc zero))))))) a b c d e f g h = absurd (h refl)
-none-of-eight (suc (suc (suc (suc (suc (suc (suc (suc n)))))))) a b c d e f g h = omega arith
-
 -- what holds of 0 to 7 holds below eight
 below : (P : ℕ → Type 0) → P 0 → P 1 → P 2 → P 3 → P 4 → P 5 → P 6 → P 7 → (t : ℕ) → t < 8 → P t
 below P a b c d e f g i zero h = a

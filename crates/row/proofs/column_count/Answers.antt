@@ -1,15 +1,9 @@
 -- The table's rule is one law, `count-is`; each arm is its table's number.
-use Rattle.std.proofs.Common.{rules, ◌≡◌, ◌+◌, ◌<◌, length, ℕ, ◌-◌, ◌*◌, ◌≤◌, ◌/◌, ◌%◌, Bool, true, false, nat_eq, nat_lt, List, [], ◌∷◌, ◌++◌, slice_index_or, slice_set, bit_and, bit_or, Fits, w8, w32, w64, Bor, MutBor}
-use Rattle.row.specs.Claims.{Claims}
-use Rattle.rfc4180.specs.Write.{row_of}
-use Rattle.row.specs.Columns.{column_count, names_line}
-use Rattle.row.specs.Write.{passed_values, after, names_answer, row_answer}
-use Rattle.row.specs.Steps.{all_lines}
-use Rattle.base.specs.Table.{max_tables}
+use Rattle.row.specs.Columns.{column_count}
 use Rattle.row.proofs.column_count.Goals as goal
 use mathlib.Core.Path.{sym, ap, ◌∙◌}
 use native.Mathlib.Omega.{arith}
-use Rattle.row.proofs.Names.{count_past, count-is, none-of-eight}
+use Rattle.row.proofs.Names.{count_past, count-is}
 
 pub returns-in-0 : goal.returns-in-0
 returns-in-0 c = count-is 0 (omega arith) ∙ ap column_count (sym c.in-0.is)
@@ -36,4 +30,4 @@ pub returns-in-7 : goal.returns-in-7
 returns-in-7 c = count-is 7 (omega arith) ∙ ap column_count (sym c.in-7.is)
 
 pub returns-in_default : goal.returns-in_default
-returns-in_default c = count_past c.args.table (none-of-eight c.args.table c.in-0.rest.0.0.0.0.0.0.0.1 c.in-0.rest.0.0.0.0.0.0.1 c.in-0.rest.0.0.0.0.0.1 c.in-0.rest.0.0.0.0.1 c.in-0.rest.0.0.0.1 c.in-0.rest.0.0.1 c.in-0.rest.0.1 c.in-0.rest.1)
+returns-in_default c = count_past c.args.table (omega arith)

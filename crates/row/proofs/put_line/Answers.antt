@@ -1,12 +1,7 @@
 -- The slice between two offsets of the constant is the table's names line (`line_at`). An output that is too small is refused and unchanged
 -- (`too_small`), else the line is copied (`put-there`).
-use Rattle.std.proofs.Common.{rules, ◌≡◌, ◌+◌, ◌<◌, length, ℕ, ◌-◌, ◌*◌, ◌≤◌, ◌/◌, ◌%◌, Bool, true, false, nat_eq, nat_lt, List, [], ◌∷◌, ◌++◌, slice_index_or, slice_set, bit_and, bit_or, Fits, w8, w32, w64, Bor, MutBor}
-use Rattle.row.specs.Claims.{Claims}
-use Rattle.rfc4180.specs.Write.{row_of}
-use Rattle.row.specs.Columns.{column_count, names_line}
-use Rattle.row.specs.Write.{passed_values, after, names_answer, row_answer}
-use Rattle.row.specs.Steps.{all_lines}
-use Rattle.base.specs.Table.{max_tables}
+use Rattle.std.proofs.Common.{◌≡◌, ◌+◌, length, ◌-◌}
+use Rattle.row.specs.Columns.{names_line}
 use Rattle.row.proofs.put_line.Goals as goal
 use mathlib.Core.Path.{ap, ◌∙◌}
 use native.Mathlib.Omega.{arith}

@@ -1,15 +1,7 @@
 -- One case for each guard (`row-past`, `row_count`, `row-long`, `row_small`), and `row_fits` if the row is written. On the fast path it fits
 -- because the longest row does (`row-bound`). `row_size` gives at most 8,193, so the comparison with 8,192 is exact.
-use Rattle.std.proofs.Common.{rules, ◌≡◌, ◌+◌, ◌<◌, length, ℕ, ◌-◌, ◌*◌, ◌≤◌, ◌/◌, ◌%◌, Bool, true, false, nat_eq, nat_lt, List, [], ◌∷◌, ◌++◌, slice_index_or, slice_set, bit_and, bit_or, Fits, w8, w32, w64, Bor, MutBor}
-use Rattle.row.specs.Claims.{Claims}
-use Rattle.rfc4180.specs.Write.{row_of}
-use Rattle.row.specs.Columns.{column_count, names_line}
-use Rattle.row.specs.Write.{passed_values, after, names_answer, row_answer}
-use Rattle.row.specs.Steps.{all_lines}
-use Rattle.base.specs.Table.{max_tables}
 use Rattle.row.proofs.row.Goals as goal
 use mathlib.Core.Path.{sym, ◌∙◌}
-use mathlib.Core.Bool.{true≢false}
 use native.Mathlib.Omega.{arith}
 use Rattle.row.proofs.Names.{count_most}
 use Rattle.row.proofs.Laws.{row-bound}

@@ -1,13 +1,10 @@
 -- The invariant: the first i bytes are stored. The last block, from `length v - 16` on, overlaps them or follows them (`copy-overlap`).
-use Rattle.std.proofs.Common.{rules, ◌≡◌, ◌+◌, ◌≤◌, ◌<◌, length, ℕ, ◌-◌, ◌*◌, ◌/◌, ◌%◌, Bool, true, false, nat_eq, nat_lt, List, [], ◌∷◌, ◌++◌, slice_index_or, slice_set, bit_and, bit_or, Fits, w8, w32, w64, Bor, MutBor}
-use Rattle.std.proofs.lemmas.List.Edits.{sets}
-use Rattle.row.specs.Steps.{block_size}
+use Rattle.std.proofs.Common.{length, ◌-◌}
 use Rattle.row.proofs.copy.copy.Goals as goal
-use mathlib.Core.Path.{refl, ap, ◌∙◌}
+use mathlib.Core.Path.{ap, ◌∙◌}
 use native.Mathlib.Omega.{arith}
-use lib.ListN.{take, drop, length-drop}
 use lib.Seq.{length-sets}
-use Rattle.row.proofs.Laws.{copy_more, copy-overlap, part_length, rest-is}
+use Rattle.row.proofs.Laws.{copy_more, copy-overlap, rest-is}
 
 pub loop-i-preserved : goal.loop-i-preserved
 loop-i-preserved c =

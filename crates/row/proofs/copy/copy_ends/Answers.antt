@@ -1,12 +1,8 @@
 -- The first n bytes, then those from `length v - n` on, which is at most n, are all of v (`copy-overlap`).
-use Rattle.std.proofs.Common.{rules, ◌≡◌, ◌+◌, ◌≤◌, ◌<◌, length, ℕ, ◌-◌, ◌*◌, ◌/◌, ◌%◌, Bool, true, false, nat_eq, nat_lt, List, [], ◌∷◌, ◌++◌, slice_index_or, slice_set, bit_and, bit_or, Fits, w8, w32, w64, Bor, MutBor}
-use Rattle.std.proofs.lemmas.List.Edits.{sets}
-use Rattle.row.specs.Steps.{block_size}
+use Rattle.std.proofs.Common.{◌≡◌, length, ◌-◌}
 use Rattle.row.proofs.copy.copy_ends.Goals as goal
-use mathlib.Core.Path.{ap, ◌∙◌}
+use mathlib.Core.Path.{◌∙◌}
 use native.Mathlib.Omega.{arith}
-use lib.ListN.{take, drop, length-take, length-drop}
-use lib.Seq.{length-sets}
 use Rattle.row.proofs.Laws.{copy-overlap, rest-is}
 
 pub returns : goal.returns

@@ -1,11 +1,6 @@
 -- The invariant: storing the doubled rest from n on gives what storing it after the blocks without a quote gives, which is all of v doubled
 -- (`plain-left`). A word is a part of it (`part-size`, `part-sets`).
-use Rattle.std.proofs.Common.{rules, ◌≡◌, ◌++◌, ◌+◌, ◌≤◌, eqb, length, take, drop, ℕ, ◌-◌, ◌*◌, ◌<◌, ◌/◌, ◌%◌, Bool, true, false, nat_lt, List, [], ◌∷◌, slice_index_or, slice_set, bit_and, bit_or, Fits, w8, w32, w64, Bor, MutBor}
-use Rattle.std.proofs.lemmas.List.Edits.{sets}
-use Rattle.base.specs.Number.{pick}
-use Rattle.rfc4180.specs.Csv.{quote}
-use Rattle.rfc4180.specs.Write.{doubled}
-use Rattle.row.specs.Steps.{block_size, quoted_of}
+use Rattle.std.proofs.Common.{length}
 use Rattle.row.proofs.quoted.put_doubled.Goals as goal
 use mathlib.Core.Path.{refl, sym, ap, ◌∙◌}
 use native.Mathlib.Omega.{arith}

@@ -1,15 +1,12 @@
 -- The invariant: storing the doubled rest from `n + i` on gives what storing all of v doubled at `to` gives. n is `to` and the quotes before i.
-use Rattle.std.proofs.Common.{rules, ◌≡◌, ◌++◌, ◌+◌, ◌≤◌, eqb, length, take, drop, ℕ, ◌-◌, ◌*◌, ◌<◌, ◌/◌, ◌%◌, Bool, true, false, nat_lt, List, [], ◌∷◌, slice_index_or, slice_set, bit_and, bit_or, Fits, w8, w32, w64, Bor, MutBor}
-use Rattle.std.proofs.lemmas.List.Edits.{sets}
+use Rattle.std.proofs.Common.{rules, ◌+◌, eqb, length}
 use Rattle.base.specs.Number.{pick}
 use Rattle.rfc4180.specs.Csv.{quote}
-use Rattle.rfc4180.specs.Write.{doubled}
-use Rattle.row.specs.Steps.{block_size, quoted_of}
 use Rattle.row.proofs.quoted.put_each.Goals as goal
 use mathlib.Core.Path.{refl, sym, ap, ◌∙◌}
 use native.Mathlib.Omega.{arith}
 use lib.ListN.{get_or, length-set}
-use Rattle.row.proofs.Laws.{copy_start, doubled-out, each-size, each_turn}
+use Rattle.row.proofs.Laws.{doubled-out, each-size, each_turn}
 
 pub bounds-out-n : goal.bounds-out-n
 bounds-out-n c =

@@ -1,15 +1,10 @@
 -- The invariant: the first i bytes are stored and have no quote, so doubling leaves them as they are (`plain_more`).
-use Rattle.std.proofs.Common.{rules, ◌≡◌, ◌++◌, ◌+◌, ◌≤◌, eqb, length, take, drop, ℕ, ◌-◌, ◌*◌, ◌<◌, ◌/◌, ◌%◌, Bool, true, false, nat_lt, List, [], ◌∷◌, slice_index_or, slice_set, bit_and, bit_or, Fits, w8, w32, w64, Bor, MutBor}
-use Rattle.std.proofs.lemmas.List.Edits.{sets}
-use Rattle.base.specs.Number.{pick}
-use Rattle.rfc4180.specs.Csv.{quote}
-use Rattle.rfc4180.specs.Write.{doubled}
-use Rattle.row.specs.Steps.{block_size, quoted_of}
+use Rattle.std.proofs.Common.{length}
 use Rattle.row.proofs.quoted.put_plain_blocks.Goals as goal
-use mathlib.Core.Path.{refl, sym, ap, ◌∙◌}
+use mathlib.Core.Path.{sym, ap, ◌∙◌}
 use native.Mathlib.Omega.{arith}
 use lib.Seq.{length-sets}
-use Rattle.row.proofs.Laws.{copy_more, plain_more, part_length}
+use Rattle.row.proofs.Laws.{copy_more, plain_more}
 
 pub loop-i-preserved : goal.loop-i-preserved
 loop-i-preserved c =

@@ -1,15 +1,9 @@
 -- The invariant: n is the length of all bytes and of the quotes before i. A block's quotes are what its bytes grow by when doubled
 -- (`count_turn`, `count-end`).
-use Rattle.std.proofs.Common.{rules, ◌≡◌, true, ◌+◌, ◌*◌, ◌≤◌, min, length, ℕ, ◌-◌, ◌<◌, ◌/◌, ◌%◌, Bool, false, nat_eq, nat_lt, List, [], ◌∷◌, ◌++◌, slice_index_or, slice_set, bit_and, bit_or, Fits, w8, w32, w64, Bor, MutBor}
-use Rattle.rfc4180.specs.Csv.{max_columns, max_row}
-use Rattle.rfc4180.specs.Write.{doubled, field_of, row_of}
-use Rattle.row.specs.Steps.{counted_size, value_ends}
-use Rattle.row.specs.Write.{passed_values}
+use Rattle.std.proofs.Common.{rules}
 use Rattle.row.proofs.size.doubled_size.Goals as goal
-use mathlib.Core.Path.{ap}
 use native.Mathlib.Omega.{arith}
-use lib.ListN.{drop, length-drop}
-use Rattle.row.proofs.Laws.{doubled-most, part_length, rest-is, count_turn, count-end}
+use Rattle.row.proofs.Laws.{doubled-most, count_turn, count-end}
 
 pub overflow_add-n : goal.overflow_add-n
 overflow_add-n c =

@@ -1,9 +1,5 @@
 -- A value with a special byte gets its quotes doubled and two around it; any other stays as it is.
-use Rattle.std.proofs.Common.{rules, ◌≡◌, true, ◌+◌, ◌*◌, ◌≤◌, min, length, ℕ, ◌-◌, ◌<◌, ◌/◌, ◌%◌, Bool, false, nat_eq, nat_lt, List, [], ◌∷◌, ◌++◌, slice_index_or, slice_set, bit_and, bit_or, Fits, w8, w32, w64, Bor, MutBor}
-use Rattle.rfc4180.specs.Csv.{max_columns, max_row}
-use Rattle.rfc4180.specs.Write.{doubled, field_of, row_of}
-use Rattle.row.specs.Steps.{counted_size, value_ends}
-use Rattle.row.specs.Write.{passed_values}
+use Rattle.std.proofs.Common.{length}
 use Rattle.row.proofs.size.field_size.Goals as goal
 use mathlib.Core.Path.{sym, ap, ◌∙◌}
 use native.Mathlib.Omega.{arith}

@@ -1,14 +1,10 @@
 -- The invariant: the row has `total` bytes and those of the values left. A value over 8,192 bytes, or a total over it, makes the row longer
 -- than that whatever follows (`field-less`).
-use Rattle.std.proofs.Common.{rules, ◌≡◌, true, ◌+◌, ◌*◌, ◌≤◌, min, length, ℕ, ◌-◌, ◌<◌, ◌/◌, ◌%◌, Bool, false, nat_eq, nat_lt, List, [], ◌∷◌, ◌++◌, slice_index_or, slice_set, bit_and, bit_or, Fits, w8, w32, w64, Bor, MutBor}
-use Rattle.rfc4180.specs.Csv.{max_columns, max_row}
-use Rattle.rfc4180.specs.Write.{doubled, field_of, row_of}
-use Rattle.row.specs.Steps.{counted_size, value_ends}
-use Rattle.row.specs.Write.{passed_values}
+use Rattle.std.proofs.Common.{◌≡◌, ◌+◌, length, ℕ, ◌-◌, ◌<◌, List}
 use Rattle.row.proofs.size.row_size.Goals as goal
 use native.Mathlib.Omega.{arith}
 use lib.ListN.{take, drop}
-use Rattle.row.proofs.Laws.{left, size-turn, value-size, none-size, field-less, field_bound}
+use Rattle.row.proofs.Laws.{size-turn, value-size, none-size, field-less, field_bound}
 
 pub returns-then-n-gt-MAX_ROW : goal.returns-then-n-gt-MAX_ROW
 returns-then-n-gt-MAX_ROW c =

@@ -1,12 +1,10 @@
 -- The invariant: none of the first i bytes is special. The last block, from `length v - 16` on, overlaps them or follows them
 -- (`special-overlap`).
-use Rattle.std.proofs.Common.{rules, ◌≡◌, ◌+◌, ◌≤◌, ◌<◌, length, ℕ, ◌-◌, ◌*◌, ◌/◌, ◌%◌, Bool, true, false, nat_eq, nat_lt, List, [], ◌∷◌, ◌++◌, slice_index_or, slice_set, bit_and, bit_or, Fits, w8, w32, w64, Bor, MutBor}
+use Rattle.std.proofs.Common.{◌+◌, length, ◌-◌}
 use Rattle.rfc4180.specs.Write.{any_special}
-use Rattle.row.specs.Steps.{has, block_size}
 use Rattle.row.proofs.special.any_special.Goals as goal
 use mathlib.Core.Path.{refl, sym, ◌∙◌}
 use native.Mathlib.Omega.{arith}
-use lib.ListN.{take}
 use Rattle.row.proofs.Laws.{special-overlap, special-more, special-inside, rest-is}
 
 pub loop-i-init : goal.loop-i-init

@@ -1,8 +1,5 @@
 -- 8 bytes and more are the first 8 and the last 8, 4 to 7 the first 4 and the last 4; of fewer the first, the middle and the last are all
 -- (`special-three`).
-use Rattle.std.proofs.Common.{rules, ◌≡◌, ◌+◌, ◌≤◌, ◌<◌, length, ℕ, ◌-◌, ◌*◌, ◌/◌, ◌%◌, Bool, true, false, nat_eq, nat_lt, List, [], ◌∷◌, ◌++◌, slice_index_or, slice_set, bit_and, bit_or, Fits, w8, w32, w64, Bor, MutBor}
-use Rattle.rfc4180.specs.Write.{any_special}
-use Rattle.row.specs.Steps.{has, block_size}
 use Rattle.row.proofs.special.special_in_short.Goals as goal
 use mathlib.Core.Path.{◌∙◌}
 use native.Mathlib.Omega.{arith}

@@ -1,13 +1,10 @@
 -- A value with a special byte is quoted (`field-quoted`), any other is its field (`field-same`): it was tested, or none was there to begin with.
-use Rattle.std.proofs.Common.{rules, ◌≡◌, false, ◌+◌, ◌≤◌, eqb, length, ℕ, ◌-◌, ◌*◌, ◌<◌, ◌/◌, ◌%◌, Bool, true, nat_lt, List, [], ◌∷◌, ◌++◌, slice_index_or, slice_set, bit_and, bit_or, Fits, w8, w32, w64, Bor, MutBor}
+use Rattle.std.proofs.Common.{◌≡◌, false, length}
 use Rattle.std.proofs.lemmas.List.Edits.{sets}
-use Rattle.base.specs.Number.{pick}
-use Rattle.rfc4180.specs.Csv.{comma, line_feed}
-use Rattle.rfc4180.specs.Write.{any_special, field_of, row_of}
-use Rattle.row.specs.Write.{passed_values}
+use Rattle.rfc4180.specs.Write.{any_special}
 use Rattle.row.proofs.write.put_field.Goals as goal
 use mathlib.Core.Path.{sym, ap, ◌∙◌}
-use mathlib.Core.Logic.{⊎_elim}
+use Rattle.row.proofs.write.put_field.Goals.{then-test+else-any_special, else-test}
 use native.Mathlib.Omega.{arith}
 use Rattle.row.proofs.Laws.{field-quoted, field-same}
 
@@ -26,13 +23,17 @@ returns-then-any_special c =
 pub copy-requires : goal.copy-requires
 copy-requires c =
     let a = c.args in
-    let s = ⊎_elim (λ w. sym w.1.ensures ∙ w.2.left) (λ w. c.requires.0 w.left) c.if-test.branch in
+    let s : any_special a.v.now ≡ false =
+    elim c.if-test.branch [ then-test+else-any_special w ↦ sym w.any_special.ensures ∙ w.if-any_special.false | else-test w ↦ c.requires.0 w.if-test.false ]
+    in
     let q = field-same a.v.now s in
     omega (arith, c.requires.1, ap length q)
 
 pub returns : goal.returns
 returns c =
     let a = c.args in
-    let s = ⊎_elim (λ w. sym w.1.ensures ∙ w.2.left) (λ w. c.requires.0 w.left) c.if-test.branch in
+    let s : any_special a.v.now ≡ false =
+    elim c.if-test.branch [ then-test+else-any_special w ↦ sym w.any_special.ensures ∙ w.if-any_special.false | else-test w ↦ c.requires.0 w.if-test.false ]
+    in
     let q = field-same a.v.now s in
     (omega (arith, ap length q), c.copy.ensures ∙ ap (sets a.out.now a.to) (sym q))

@@ -1,13 +1,10 @@
 -- The invariant: storing the row of the values left from `to` on gives what storing the whole row at 0 gives. A turn is a field and the byte
 -- after it (`put-turn`). If the texts have no special byte, neither has a value (`special-part`).
-use Rattle.std.proofs.Common.{rules, ◌≡◌, false, ◌+◌, ◌≤◌, eqb, length, ℕ, ◌-◌, ◌*◌, ◌<◌, ◌/◌, ◌%◌, Bool, true, nat_lt, List, [], ◌∷◌, ◌++◌, slice_index_or, slice_set, bit_and, bit_or, Fits, w8, w32, w64, Bor, MutBor}
+use Rattle.std.proofs.Common.{◌≡◌, ◌+◌, ◌≤◌, length, ℕ, ◌-◌, ◌<◌, List}
 use Rattle.std.proofs.lemmas.List.Edits.{sets}
-use Rattle.base.specs.Number.{pick}
-use Rattle.rfc4180.specs.Csv.{comma, line_feed}
-use Rattle.rfc4180.specs.Write.{any_special, field_of, row_of}
-use Rattle.row.specs.Write.{passed_values}
+use Rattle.rfc4180.specs.Write.{field_of}
 use Rattle.row.proofs.write.put_row.Goals as goal
-use mathlib.Core.Path.{refl, sym, ap, ◌∙◌}
+use mathlib.Core.Path.{sym, ap, ◌∙◌}
 use native.Mathlib.Omega.{arith}
 use lib.ListN.{take, drop, length-set}
 use lib.Seq.{length-sets}
