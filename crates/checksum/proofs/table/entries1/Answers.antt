@@ -522,4 +522,3 @@ returns-in-126 c = at c.in-126.is
 pub returns-in-127 : goal.returns-in-127
 unfolding steps step
 returns-in-127 c = at c.in-127.is
-
