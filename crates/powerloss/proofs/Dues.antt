@@ -26,7 +26,7 @@ use Rattle.writer.specs.declared.Answer.TheVariants.{Done, Appended, NoneDue, Sa
 use Rattle.writer.specs.declared.Contents.{Contents}
 use Rattle.writer.specs.declared.Writer.{Writer}
 use Rattle.writer.specs.declared.Step.{Step}
-use Rattle.writer.specs.State.{position, is_due, write_due, data_due, target, operation_ok, stage_ok, tail_size}
+use Rattle.writer.specs.State.{is_due, write_due, data_due, target, operation_ok, stage_ok, tail_size}
 use Rattle.writer.proofs.Laws.{Ranged, ranged, fill-fits, position-fits}
 use Rattle.due.specs.Due.{padded, ops_of, due_ops, differs, emptied, with_stage, with_emptied, operated, step_of, due_step}
 use Rattle.run.specs.Run.{due}

@@ -38,7 +38,7 @@ use Rattle.due.specs.Due.{with_stage}
 use Rattle.commit.specs.Commit.{is_header_written, word_step, word_ops}
 use Rattle.run.specs.Run.{Lower, source, table, bytes, end, close, due, unchanged, commit, word, lower_step, lower_ops}
 use Rattle.powerloss.specs.History.{Update, opened, with_appended, records_after, update_after, is_word, is_done, any_done, committed, after_lower, after_lower_cut, after_begin}
-use Rattle.powerloss.specs.Machine.{cut_at, done_at, Image, Run, begin, cut, image_after, on_call, on_cut, state_after, next}
+use Rattle.powerloss.specs.Machine.{cut_at, done_at, Image, Run, begin, image_after, on_call, on_cut, state_after, next}
 use Rattle.powerloss.specs.Claim.{LowerTyped}
 use Rattle.powerloss.proofs.Bytes.{bytes-fill}
 use Rattle.powerloss.proofs.Cuts.{cut-none, cut_inside, cut-after, done_none, done-inside, done_at_end, done-after}

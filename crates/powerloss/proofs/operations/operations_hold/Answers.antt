@@ -1,10 +1,10 @@
+-- Each part of the contract is a theorem of the lemma files; what each says is in specs/Operations.antt. The lengths are computed.
 use mathlib.Core.Path.{refl}
 use Rattle.powerloss.proofs.Exactly.{reached-exactly}
 use Rattle.powerloss.proofs.Events.{committed-operations, comparing-operations, lower-operations}
-use Rattle.powerloss.proofs.operations.operations_hold.Statement.{statement}
-use Rattle.powerloss.proofs.operations.operations_hold.Tie as tie
+use Rattle.powerloss.proofs.operations.operations_hold.Goals as goal
 
-returns : tie.Need-returns
+pub returns : goal.returns
 returns c =
     record {
       due_exactly = reached-exactly;
@@ -13,6 +13,3 @@ returns c =
       lower = lower-operations;
       lengths = (refl, refl, refl);
     }
-
-pub operations-hold-spec : {M : Type 1} → statement M
-operations-hold-spec = tie.close (tie.spec returns)

@@ -1,8 +1,8 @@
+-- Each instance is computed in proofs/Computed.antt; what each says is in specs/Instances.antt.
 use Rattle.powerloss.proofs.Computed.{whole_update, cut_before_the_word, cut_after_the_word, cut_in_the_word, three_bytes_written, cut_at_the_words_end, cut_in_the_erase, whole_update_loads, cut_before_the_word_loads, cut_after_the_word_loads, cut_in_the_word_loads, cut_at_the_words_end_loads, cut_in_the_erase_loads, whole_update_data, cut_at_the_words_end_data, last_committed, five_operations, erased_has_none, erased_update}
-use Rattle.powerloss.proofs.instances.instances_hold.Statement.{statement}
-use Rattle.powerloss.proofs.instances.instances_hold.Tie as tie
+use Rattle.powerloss.proofs.instances.instances_hold.Goals as goal
 
-returns : tie.Need-returns
+pub returns : goal.returns
 returns c =
     record {
       whole = whole_update;
@@ -25,6 +25,3 @@ returns c =
       erased = erased_has_none;
       erased_update = erased_update;
     }
-
-pub instances-hold-spec : {M : Type 1} → statement M
-instances-hold-spec = tie.close (tie.spec returns)

@@ -1,8 +1,8 @@
+-- Each instance is computed in proofs/UpperComputed.antt; what each says is in specs/UpperInstances.antt.
 use Rattle.powerloss.proofs.UpperComputed.{stamp_after_now, stamp_before_now, five_operations, cut_beginning, cut_in_the_key, cut_closing, same_row, other_row}
-use Rattle.powerloss.proofs.instances.upper_instances_hold.Statement.{statement}
-use Rattle.powerloss.proofs.instances.upper_instances_hold.Tie as tie
+use Rattle.powerloss.proofs.instances.upper_instances_hold.Goals as goal
 
-returns : tie.Need-returns
+pub returns : goal.returns
 returns c =
     record {
       stamp_after_now = stamp_after_now;
@@ -14,6 +14,3 @@ returns c =
       same_row = same_row;
       other_row = other_row;
     }
-
-pub upper-instances-hold-spec : {M : Type 1} → statement M
-upper-instances-hold-spec = tie.close (tie.spec returns)
