@@ -5,7 +5,7 @@ use mathlib.Core.List.{List, [], ◌∷◌, ◌++◌, append_assoc, append-nil}
 use Prim.Native.Nat.{ℕ, ◌+◌, ◌≤◌}
 use native.Mathlib.Omega.{arith}
 use native.Mathlib.Nat.{add_assoc}
-use lib.ListN.{length, length-append, length-take, take, get_or, get_or-eq_default}
+use lib.ListN.{length, length-append, length-take, take, get_or-eq_default}
 use lib.Seq.{get_or_at, take_at}
 use Rattle.leaf.specs.Bytes.{word, time, le32, le64}
 use Rattle.base.specs.Lists.{many, puts, fill, byte}

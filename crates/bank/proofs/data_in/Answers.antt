@@ -9,6 +9,5 @@ use mathlib.Core.Path.{ap, ◌∙◌}
 pub returns : goal.returns
 unfolding data_of
 returns c =
-    let b = c in
-    let a = b.args in
-    c.part.ensures ∙ ap (λ (l : List ℕ). take a.b.length (drop sector_size l)) b.bank_of-l.ensures
+    let a = c.args in
+    c.part.ensures ∙ ap (λ (l : List ℕ). take a.b.length (drop sector_size l)) c.bank_of-l.ensures

@@ -14,30 +14,20 @@ returns-then-region-ne-REGION_SIZE c = load-no-region c.args.region.now (ne_eqb 
 
 pub returns-in_default-validate : goal.returns-in_default-validate
 returns-in_default-validate c =
-    let v2 = c in
-    let t = v2 in
-    let v1 = t in
-    let f = v1 in
-    let r = f.args.region.now in
-    let e : validated r (first_tried r) ≡ _ = ap (validated r) (sym f.first_tried-first.ensures.0) ∙ sym v1.validate.ensures ∙ t.in_default.is in
-    let g : validated r (1 - first_tried r) ≡ _ = ap (λ (k : ℕ). validated r (1 - k)) (sym f.first_tried-first.ensures.0) ∙ sym v2.validate-in_default.ensures ∙ c.in_default-validate.is in
-    load-none r _ _ (eq-eqb _ _ f.if-region-ne-REGION_SIZE.false) e g
+    let r = c.args.region.now in
+    let e : validated r (first_tried r) ≡ _ = ap (validated r) (sym c.first_tried-first.ensures.0) ∙ sym c.validate.ensures ∙ c.in_default.is in
+    let g : validated r (1 - first_tried r) ≡ _ = ap (λ (k : ℕ). validated r (1 - k)) (sym c.first_tried-first.ensures.0) ∙ sym c.validate-in_default.ensures ∙ c.in_default-validate.is in
+    load-none r _ _ (eq-eqb _ _ c.if-region-ne-REGION_SIZE.false) e g
 
 pub returns-in_default : goal.returns-in_default
 returns-in_default c =
-    let v2 = c in
-    let t = v2 in
-    let v1 = t in
-    let f = v1 in
-    let r = f.args.region.now in
-    let e : validated r (first_tried r) ≡ _ = ap (validated r) (sym f.first_tried-first.ensures.0) ∙ sym v1.validate.ensures ∙ t.in_default.is in
-    let g : validated r (1 - first_tried r) ≡ _ = ap (λ (k : ℕ). validated r (1 - k)) (sym f.first_tried-first.ensures.0) ∙ sym v2.validate-in_default.ensures ∙ c.in-Good-validate.is in
-    load-second r _ _ (eq-eqb _ _ f.if-region-ne-REGION_SIZE.false) e g
+    let r = c.args.region.now in
+    let e : validated r (first_tried r) ≡ _ = ap (validated r) (sym c.first_tried-first.ensures.0) ∙ sym c.validate.ensures ∙ c.in_default.is in
+    let g : validated r (1 - first_tried r) ≡ _ = ap (λ (k : ℕ). validated r (1 - k)) (sym c.first_tried-first.ensures.0) ∙ sym c.validate-in_default.ensures ∙ c.in-Good-validate.is in
+    load-second r _ _ (eq-eqb _ _ c.if-region-ne-REGION_SIZE.false) e g
 
 pub returns : goal.returns
 returns c =
-    let v = c in
-    let f = v in
-    let r = f.args.region.now in
-    let e : validated r (first_tried r) ≡ _ = ap (validated r) (sym f.first_tried-first.ensures.0) ∙ sym v.validate.ensures ∙ c.in-Good.is in
-    load-first r _ (eq-eqb _ _ f.if-region-ne-REGION_SIZE.false) e
+    let r = c.args.region.now in
+    let e : validated r (first_tried r) ≡ _ = ap (validated r) (sym c.first_tried-first.ensures.0) ∙ sym c.validate.ensures ∙ c.in-Good.is in
+    load-first r _ (eq-eqb _ _ c.if-region-ne-REGION_SIZE.false) e

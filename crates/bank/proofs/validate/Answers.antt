@@ -8,23 +8,15 @@ use mathlib.Core.Path.{sym, ◌∙◌}
 
 pub returns-then-data_ok : goal.returns-then-data_ok
 returns-then-data_ok c =
-    let d = c in
-    let h = d in
-    let k = h in
-    let a = k.args in
-    data-good a.region.now a.number _ (sym k.header-h.ensures ∙ h.in-Good.is) (sym d.data_ok.ensures ∙ c.if-data_ok.true)
+    let a = c.args in
+    data-good a.region.now a.number _ (sym c.header-h.ensures ∙ c.in-Good.is) (sym c.data_ok.ensures ∙ c.if-data_ok.true)
 
 pub returns-else-data_ok : goal.returns-else-data_ok
 returns-else-data_ok c =
-    let d = c in
-    let h = d in
-    let k = h in
-    let a = k.args in
-    data-bad a.region.now a.number _ (sym k.header-h.ensures ∙ h.in-Good.is) (sym d.data_ok.ensures ∙ c.if-data_ok.false)
+    let a = c.args in
+    data-bad a.region.now a.number _ (sym c.header-h.ensures ∙ c.in-Good.is) (sym c.data_ok.ensures ∙ c.if-data_ok.false)
 
 pub returns-in-Refused : goal.returns-in-Refused
 returns-in-Refused c =
-    let h = c in
-    let k = h in
-    let a = k.args in
-    header-bad a.region.now a.number _ (sym k.header-h.ensures ∙ h.in-Refused.is)
+    let a = c.args in
+    header-bad a.region.now a.number _ (sym c.header-h.ensures ∙ c.in-Refused.is)

@@ -20,4 +20,4 @@ pub loop-j-preserved : goal.loop-j-preserved
 loop-j-preserved c =
     let l = c.loop-j in
     let a = c.args in
-    (omega arith, rw (l.invariant.1, c.block_ok-ok.ensures) (each_take (block_ok a.b) a.t2 l.j no_block (search rules)))
+    (omega arith, rw (l.invariant.1, c.block_ok-ok.ensures) (each_take (block_ok a.b) a.ts l.j no_block (search rules)))

@@ -8,59 +8,43 @@ use Rattle.record.specs.Record.{record_size}
 use Rattle.header.proofs.header_of.Goals as goal
 use Rattle.header.proofs.Laws.{span-count, not-marked, not-sealed, not-spanned, bad-source, all-good}
 use Rattle.header.specs.declared.Validated.TheVariants.{Good}
-use borrow.Author.Tests.{not-true, not-false}
 use mathlib.Core.Path.{sym, ap, ◌∙◌}
 
 pub returns-then-not-is_marked : goal.returns-then-not-is_marked
-returns-then-not-is_marked c = not-marked c.args.number c.args.l.now (sym c.is_marked.ensures ∙ not-true _ c.if-not-is_marked.true)
+returns-then-not-is_marked c = not-marked c.args.number c.args.l.now (sym c.is_marked.ensures ∙ c.if-not-is_marked.true)
 
 pub returns-then-not-is_sealed : goal.returns-then-not-is_sealed
 returns-then-not-is_sealed c =
-    let q = c in
-    let m = q in
-    let a = m.args in
-    not-sealed a.number a.l.now (sym m.is_marked.ensures ∙ not-false _ q.if-not-is_marked.false) (sym q.is_sealed.ensures ∙ not-true _ c.if-not-is_sealed.true)
+    let marks = sym c.is_marked.ensures ∙ c.if-not-is_marked.false in
+    not-sealed c.args.number c.args.l.now marks (sym c.is_sealed.ensures ∙ c.if-not-is_sealed.true)
 
 pub returns-then-not-span_ok : goal.returns-then-not-span_ok
 returns-then-not-span_ok c =
-    let s = c in
-    let n = s in
-    let q = n in
-    let m = q in
-    let a = m.args in
-    let marks = sym m.is_marked.ensures ∙ not-false _ q.if-not-is_marked.false in
-    let seals = sym q.is_sealed.ensures ∙ not-false _ n.if-not-is_sealed.false in
-    not-spanned a.number a.l.now marks seals (ap span_ok (sym n.numbers_of-b.ensures) ∙ sym s.span_ok.ensures ∙ not-true _ c.if-not-span_ok.true)
+    let marks = sym c.is_marked.ensures ∙ c.if-not-is_marked.false in
+    let seals = sym c.is_sealed.ensures ∙ c.if-not-is_sealed.false in
+    not-spanned c.args.number c.args.l.now marks seals (ap span_ok (sym c.numbers_of-b.ensures) ∙ sym c.span_ok.ensures ∙ c.if-not-span_ok.true)
 
 pub records_ok-requires : goal.records_ok-requires
-records_ok-requires c =
-    let s = c in
-    span-count s.numbers_of-b.result (sym s.span_ok.ensures ∙ not-false _ c.if-not-span_ok.false)
+records_ok-requires c = span-count c.numbers_of-b.result (sym c.span_ok.ensures ∙ c.if-not-span_ok.false)
 
 pub returns-then-not-records_ok : goal.returns-then-not-records_ok
 unfolding numbers_of
 returns-then-not-records_ok c =
-    let s = c in
-    let n = s in
-    let q = n in
-    let m = q in
-    let a = m.args in
-    let marks = sym m.is_marked.ensures ∙ not-false _ q.if-not-is_marked.false in
-    let seals = sym q.is_sealed.ensures ∙ not-false _ n.if-not-is_sealed.false in
-    let spans = ap span_ok (sym n.numbers_of-b.ensures) ∙ sym s.span_ok.ensures ∙ not-false _ c.if-not-span_ok.false in
-    let good = ap (λ h. each (source_ok h) (records_of h.version a.l.now h.count)) (sym n.numbers_of-b.ensures) ∙ sym c.records_ok.ensures ∙ not-true _ c.if-not-records_ok.true in
-    bad-source a.number a.l.now marks seals spans good
+    let l = c.args.l.now in
+    let marks = sym c.is_marked.ensures ∙ c.if-not-is_marked.false in
+    let seals = sym c.is_sealed.ensures ∙ c.if-not-is_sealed.false in
+    let spans = ap span_ok (sym c.numbers_of-b.ensures) ∙ sym c.span_ok.ensures ∙ c.if-not-span_ok.false in
+    let bad =
+    ap (λ h. each (source_ok h) (records_of h.version l h.count)) (sym c.numbers_of-b.ensures) ∙ sym c.records_ok.ensures ∙ c.if-not-records_ok.true in
+    bad-source c.args.number l marks seals spans bad
 
 pub returns : goal.returns
 unfolding numbers_of
 returns c =
-    let s = c in
-    let n = s in
-    let q = n in
-    let m = q in
-    let a = m.args in
-    let marks = sym m.is_marked.ensures ∙ not-false _ q.if-not-is_marked.false in
-    let seals = sym q.is_sealed.ensures ∙ not-false _ n.if-not-is_sealed.false in
-    let spans = ap span_ok (sym n.numbers_of-b.ensures) ∙ sym s.span_ok.ensures ∙ not-false _ c.if-not-span_ok.false in
-    let good = ap (λ h. each (source_ok h) (records_of h.version a.l.now h.count)) (sym n.numbers_of-b.ensures) ∙ sym c.records_ok.ensures ∙ not-false _ c.if-not-records_ok.false in
-    ap Good n.numbers_of-b.ensures ∙ all-good a.number a.l.now marks seals spans good
+    let l = c.args.l.now in
+    let marks = sym c.is_marked.ensures ∙ c.if-not-is_marked.false in
+    let seals = sym c.is_sealed.ensures ∙ c.if-not-is_sealed.false in
+    let spans = ap span_ok (sym c.numbers_of-b.ensures) ∙ sym c.span_ok.ensures ∙ c.if-not-span_ok.false in
+    let good =
+    ap (λ h. each (source_ok h) (records_of h.version l h.count)) (sym c.numbers_of-b.ensures) ∙ sym c.records_ok.ensures ∙ c.if-not-records_ok.false in
+    ap Good c.numbers_of-b.ensures ∙ all-good c.args.number l marks seals spans good

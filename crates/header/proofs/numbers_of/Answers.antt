@@ -11,7 +11,7 @@ use mathlib.Core.Path.{◌∙◌}
 pub returns : goal.returns
 unfolding numbers_of
 returns c =
-    let u = to_z-of_z w64 c.get_time.result (record { sfits = c.get_time.type-inv }) ∙ c.get_time.ensures in
+    let u = to_z-of_z w64 c.get_time.result (record { sfits = c.get_time.type_inv }) ∙ c.get_time.ensures in
     λ i. record {
       number = c.args.number;
       version = c.get.ensures i;

@@ -1,6 +1,6 @@
 use Rattle.base.specs.Lists.{many, byte}
 use lib.ListN.{drop}
-use Prim.Native.Nat.{◌≤◌, ◌-◌, ◌+◌}
+use Prim.Native.Nat.{◌≤◌, ◌-◌}
 use mathlib.Core.List.{◌++◌}
 use mathlib.Core.Path.{◌≡◌}
 use Rattle.record.proofs.copy_there.Given as goal

@@ -1,19 +1,13 @@
 -- Size and number of tables follow from the version; the first bytes are cut to that size and read.
-use Rattle.std.proofs.Common.{rules, ◌≡◌, ◌++◌, ◌+◌, ◌-◌, ◌*◌, ◌≤◌, length, drop, take, set, ℕ, ◌<◌, ◌/◌, ◌%◌, Bool, true, false, nat_eq, nat_lt, List, [], ◌∷◌, slice_index_or, bit_and, bit_or, Fits, w8, w32, w64, Bor, MutBor}
-use Rattle.record.specs.Claims.{Claims}
-use Rattle.std.proofs.lemmas.List.Edits.{sets}
-use Rattle.leaf.specs.Bytes.{word, le32, le64, written, word_size, time_size}
-use Rattle.base.specs.Lists.{many, puts, fill, byte}
-use Rattle.record.specs.Record.{source_size, table_count, no_block, no_source, block_at, block_bytes, source_of, decoded, head_bytes, table_bytes, tail_bytes, source_bytes, record_size, block_size, table_words, original_size, table_size, tables_offset, stamp_offset, validator_offset, stamp_size, id_size, validator_size}
-use Rattle.base.specs.Table.{max_tables}
+use Rattle.std.proofs.Common.{take}
+use Rattle.record.specs.Record.{table_count, source_of, decoded}
 use Rattle.record.proofs.decode.Goals as goal
 use mathlib.Core.Path.{ap, ◌∙◌}
 
 pub returns : goal.returns
 unfolding decoded
 returns c =
-    let b = c in
-    let a = b.args in
+    let a = c.args in
     c.read.ensures
     ∙ (λ i. source_of (c.table_count-tables.ensures.0 i) (c.first-r.ensures i))
-    ∙ ap (λ n. source_of (table_count a.version) (take n a.bytes.now)) b.source_size-size.ensures.0
+    ∙ ap (λ n. source_of (table_count a.version) (take n a.bytes.now)) c.source_size-size.ensures.0

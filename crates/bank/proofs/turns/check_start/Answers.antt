@@ -8,14 +8,10 @@ use mathlib.Core.Path.{sym, ◌∙◌}
 
 pub returns-in-Good : goal.returns-in-Good
 returns-in-Good c =
-    let t = c in
-    let h = t in
-    let a = h.args in
-    c.stays.ensures ∙ start-good a.region.now a.number _ (sym h.header-h.ensures ∙ t.in-Good.is)
+    let a = c.args in
+    c.stays.ensures ∙ start-good a.region.now a.number _ (sym c.header-h.ensures ∙ c.in-Good.is)
 
 pub returns-in-Refused : goal.returns-in-Refused
 returns-in-Refused c =
-    let t = c in
-    let h = t in
-    let a = h.args in
-    c.stays-in-Refused.ensures ∙ start-bad a.region.now a.number _ (sym h.header-h.ensures ∙ t.in-Refused.is)
+    let a = c.args in
+    c.stays-in-Refused.ensures ∙ start-bad a.region.now a.number _ (sym c.header-h.ensures ∙ c.in-Refused.is)

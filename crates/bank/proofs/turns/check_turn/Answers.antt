@@ -16,32 +16,23 @@ returns-then-region-ne-REGION_SIZE c =
 
 pub returns-then-not-s : goal.returns-then-not-s
 returns-then-not-s c =
-    let f = c in
-    let a = f.args in
-    c.stays-then-not-s.ensures ∙ turn-forged a.region.now a.s a.n (eq-eqb _ _ f.if-region-ne-REGION_SIZE.false) (not-true _ c.if-not-s.true)
+    let a = c.args in
+    c.stays-then-not-s.ensures ∙ turn-forged a.region.now a.s a.n (eq-eqb _ _ c.if-region-ne-REGION_SIZE.false) c.if-not-s.true
 
 pub returns-in-Good : goal.returns-in-Good
 returns-in-Good c =
-    let h = c in
-    let o = h in
-    let e = o in
-    let f = e in
-    let a = f.args in
+    let a = c.args in
     let s = a.s in
     let r = a.region.now in
     c.on_bank.ensures
-    ∙ turn-bank r s a.n _ (eq-eqb _ _ f.if-region-ne-REGION_SIZE.false) (not-false _ e.if-not-s.false)
-    (ap (header_of s.bank) (sym o.bank_of-l.ensures) ∙ sym o.header_of-h.ensures ∙ h.in-Good.is)
+    ∙ turn-bank r s a.n _ (eq-eqb _ _ c.if-region-ne-REGION_SIZE.false) c.if-not-s.false
+    (ap (header_of s.bank) (sym c.bank_of-l.ensures) ∙ sym c.header_of-h.ensures ∙ c.in-Good.is)
 
 pub returns-in-Refused : goal.returns-in-Refused
 returns-in-Refused c =
-    let h = c in
-    let o = h in
-    let e = o in
-    let f = e in
-    let a = f.args in
+    let a = c.args in
     let s = a.s in
     let r = a.region.now in
     c.stays-in-Refused.ensures
-    ∙ turn-bad r s a.n _ (eq-eqb _ _ f.if-region-ne-REGION_SIZE.false) (not-false _ e.if-not-s.false)
-    (ap (header_of s.bank) (sym o.bank_of-l.ensures) ∙ sym o.header_of-h.ensures ∙ h.in-Refused.is)
+    ∙ turn-bad r s a.n _ (eq-eqb _ _ c.if-region-ne-REGION_SIZE.false) c.if-not-s.false
+    (ap (header_of s.bank) (sym c.bank_of-l.ensures) ∙ sym c.header_of-h.ensures ∙ c.in-Refused.is)

@@ -13,13 +13,9 @@ use mathlib.Core.Path.{ap, ◌∙◌}
 pub returns : goal.returns
 unfolding hashed
 returns c =
-    let r = c in
-    let p = r in
-    let d = p in
-    let m = d in
-    let a = m.args in
-    let k = m.smaller-count.ensures.0 in
+    let a = c.args in
+    let k = c.smaller-count.ensures.0 in
     let s = a.s in
-    let e : r.crc32-crc.result ≡ crc32 s.crc (take (count_of a.b s a.n) (drop s.position (data_in a.region.now a.b))) =
-    r.crc32-crc.ensures ∙ ap (crc32 s.crc) (p.part-p.ensures ∙ (λ i. take (k i) (drop s.position (d.data_in-d.ensures i)))) in
+    let e : c.crc32-crc.result ≡ crc32 s.crc (take (count_of a.b s a.n) (drop s.position (data_in a.region.now a.b))) =
+    c.crc32-crc.ensures ∙ ap (crc32 s.crc) (c.part-p.ensures ∙ (λ i. take (k i) (drop s.position (c.data_in-d.ensures i)))) in
     c.stays.ensures ∙ (λ i. record { progress = Hashed (k i); next = record { bank = s.bank; position = s.position + k i; crc = e i } })

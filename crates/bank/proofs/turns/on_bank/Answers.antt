@@ -14,21 +14,15 @@ returns-then-b-s c =
 
 pub returns-then-s-b-2 : goal.returns-then-s-b-2
 returns-then-s-b-2 c =
-    let y = c in
-    let f = y in
-    let a = f.args in
-    c.stays-then-s-b-2.ensures ∙ verdict-yes a.region.now a.b a.s a.n (le-leb _ _ f.if-b-s.false) (eq-eqb _ _ y.if-s-b.true) (eq-eqb _ _ c.if-s-b-2.true)
+    let a = c.args in
+    c.stays-then-s-b-2.ensures ∙ verdict-yes a.region.now a.b a.s a.n (le-leb _ _ c.if-b-s.false) (eq-eqb _ _ c.if-s-b.true) (eq-eqb _ _ c.if-s-b-2.true)
 
 pub returns-then-s-b : goal.returns-then-s-b
 returns-then-s-b c =
-    let y = c in
-    let f = y in
-    let a = f.args in
-    c.stays-then-s-b.ensures ∙ verdict-no a.region.now a.b a.s a.n (le-leb _ _ f.if-b-s.false) (eq-eqb _ _ y.if-s-b.true) (ne_eqb _ _ c.if-s-b-2.false)
+    let a = c.args in
+    c.stays-then-s-b.ensures ∙ verdict-no a.region.now a.b a.s a.n (le-leb _ _ c.if-b-s.false) (eq-eqb _ _ c.if-s-b.true) (ne_eqb _ _ c.if-s-b-2.false)
 
 pub returns : goal.returns
 returns c =
-    let y = c in
-    let f = y in
-    let a = f.args in
-    c.hashed.ensures ∙ some_left a.region.now a.b a.s a.n (le-leb _ _ f.if-b-s.false) (ne_eqb _ _ y.if-s-b.false)
+    let a = c.args in
+    c.hashed.ensures ∙ some_left a.region.now a.b a.s a.n (le-leb _ _ c.if-b-s.false) (ne_eqb _ _ c.if-s-b.false)

@@ -24,19 +24,18 @@ pub loop-i-preserved : goal.loop-i-preserved
 loop-i-preserved c =
     let l = c.loop-i in
     let a = c.args in
-    let k : l.i < length a.t2 = search rules in (
+    let k : l.i < length a.ss = search rules in (
       omega arith,
-      rw (l.invariant.1, c.source_ok-sources.ensures) (each_take (source_ok a.b) a.t2 l.i no_source k),
-      rw (l.invariant.2, c.text_ok-texts.ensures) (each_take text_ok a.t2 l.i no_source k),
+      rw (l.invariant.1, c.source_ok-sources.ensures) (each_take (source_ok a.b) a.ss l.i no_source k),
+      rw (l.invariant.2, c.text_ok-texts.ensures) (each_take text_ok a.ss l.i no_source k),
     )
 
 pub returns : goal.returns
 unfolding is_fit
 returns c =
     let l = c.loop-i in
-    let r = c in
-    let a = r.args in
-    let k : length a.t2 ≡ 3 = search rules in
-    let e : l.i ≡ min a.b.count 3 = omega (arith, r.records-n.ensures) in
-    let t : take l.i a.t2 ≡ take a.b.count a.t2 = ap (λ (j : ℕ). take j a.t2) e ∙ below-count a.t2 a.b.count k in
-    rw (c.span_ok.ensures, l.invariant.1, l.invariant.2, t, judge-is a.b (take a.b.count a.t2))
+    let a = c.args in
+    let k : length a.ss ≡ 3 = search rules in
+    let e : l.i ≡ min a.b.count 3 = omega (arith, c.records-n.ensures) in
+    let t : take l.i a.ss ≡ take a.b.count a.ss = ap (λ (j : ℕ). take j a.ss) e ∙ below-count a.ss a.b.count k in
+    rw (c.span_ok.ensures, l.invariant.1, l.invariant.2, t, judge-is a.b (take a.b.count a.ss))

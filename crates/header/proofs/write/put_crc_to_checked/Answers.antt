@@ -14,11 +14,5 @@ use Rattle.header.proofs.Writing.{crc-to-checked-written}
 
 pub returns : goal.returns
 returns c =
-    let p₅ = c in
-    let p₄ = p₅ in
-    let p₃ = p₄ in
-    let p₂ = p₃ in
-    let p₁ = p₂ in
-    let s = p₁ in
-    let u : to_z w64 (of_z w64 s.args.b.checked) ≡ s.args.b.checked = to_z-of_z w64 s.args.b.checked (record { sfits = p₅.struct_told-1.given.1.1.1.1.1.1.1.0.1 }) in
-    p₅.put_time.ensures ∙ rw (u, p₄.put-4.ensures, p₃.put-3.ensures, p₂.put-2.ensures, p₁.put.ensures) (crc-to-checked-written s.args.out.now s.args.b s.requires)
+    let u : to_z w64 (of_z w64 c.args.b.checked) ≡ c.args.b.checked = to_z-of_z w64 c.args.b.checked (record { sfits = c.struct_told-1.given.1.1.1.1.1.1.1.0.1 }) in
+    c.put_time.ensures ∙ rw (u, c.put-4.ensures, c.put-3.ensures, c.put-2.ensures, c.put.ensures) (crc-to-checked-written c.args.out.now c.args.b c.requires)

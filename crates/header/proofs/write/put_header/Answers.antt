@@ -14,15 +14,7 @@ use Rattle.header.proofs.Writing.{header-written}
 
 pub returns : goal.returns
 returns c =
-    let w = c in
-    let p = w in
-    let h = p in
-    let r = h in
-    let n = r in
-    let t = n in
-    let f = t in
-    let s = f in
-    w.put-2.ensures
-    ∙ rw (p.put.ensures, h.crc32-crc.ensures)
-    (header-written s.args.b s.args.ss n.records-n.result r.put_records.new.out r.put_records.ensures.2 n.records-n.ensures r.put_records.ensures.1
-    (r.put_records.ensures.0 ∙ rw (t.put_crc_to_checked.ensures, f.put_magic_to_length.ensures, s.requires.1)))
+    c.put-2.ensures
+    ∙ rw (c.put.ensures, c.crc32-crc.ensures)
+    (header-written c.args.b c.args.ss c.records-n.result c.put_records.new.out c.put_records.ensures.2 c.records-n.ensures c.put_records.ensures.1
+    (c.put_records.ensures.0 ∙ rw (c.put_crc_to_checked.ensures, c.put_magic_to_length.ensures, c.requires.1)))

@@ -13,9 +13,4 @@ use Rattle.header.proofs.Writing.{magic-to-length-written}
 
 pub returns : goal.returns
 returns c =
-    let p₄ = c in
-    let p₃ = p₄ in
-    let p₂ = p₃ in
-    let p₁ = p₂ in
-    let s = p₁ in
-    p₄.put-4.ensures ∙ rw (p₃.put-3.ensures, p₂.put-2.ensures, p₁.put.ensures) (magic-to-length-written s.args.out.now s.args.b s.requires)
+    c.put-4.ensures ∙ rw (c.put-3.ensures, c.put-2.ensures, c.put.ensures) (magic-to-length-written c.args.out.now c.args.b c.requires)

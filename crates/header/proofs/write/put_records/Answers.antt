@@ -23,15 +23,13 @@ loop-i-init c = (omega arith, c.requires.1, refl, refl)
 
 pub loop-i-preserved : goal.loop-i-preserved
 loop-i-preserved c =
-    let e = c in
-    let z = e in
-    let l = z.loop-i in
-    let a = z.args in
-    let k : l.i < length a.t2 = search rules in
-    let m = length-source (get_or a.t2 l.i no_source) z.is_sized.ensures in
-    let w = e.encode.ensures ∙ written-sets l.out (48 + l.i * 384) (source_bytes (get_or a.t2 l.i no_source)) (rw (m, l.invariant.1) (omega arith)) in (
+    let l = c.loop-i in
+    let a = c.args in
+    let k : l.i < length a.ss = search rules in
+    let m = length-source (get_or a.ss l.i no_source) c.is_sized.ensures in
+    let w = c.encode.ensures ∙ written-sets l.out (48 + l.i * 384) (source_bytes (get_or a.ss l.i no_source)) (rw (m, l.invariant.1) (omega arith)) in (
       omega arith,
-      ap length w ∙ length-sets l.out (48 + l.i * 384) (source_bytes (get_or a.t2 l.i no_source)) ∙ l.invariant.1,
-      length-puts-next source_bytes a.t2 l.i no_source k ∙ omega (arith, l.invariant.2, m),
-      w ∙ rw l.invariant.3 (puts-next source_bytes a.t2 l.i 48 (l.i * 384) no_source a.out.now k l.invariant.2),
+      ap length w ∙ length-sets l.out (48 + l.i * 384) (source_bytes (get_or a.ss l.i no_source)) ∙ l.invariant.1,
+      length-puts-next source_bytes a.ss l.i no_source k ∙ omega (arith, l.invariant.2, m),
+      w ∙ rw l.invariant.3 (puts-next source_bytes a.ss l.i 48 (l.i * 384) no_source a.out.now k l.invariant.2),
     )

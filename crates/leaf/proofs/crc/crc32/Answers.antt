@@ -8,5 +8,4 @@ use Rattle.leaf.proofs.Shift.{crc32-run}
 
 pub returns : goal.returns
 returns c =
-    let a = c in
-    cc (crc32-run a.args.start a.args.bytes.now, mod-eq_of_lt a.ranges.start.fits)
+    cc (crc32-run c.args.start c.args.bytes.now, mod-eq_of_lt c.ranges.start.fits)

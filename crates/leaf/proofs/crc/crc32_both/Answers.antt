@@ -13,7 +13,6 @@ complemented start s h = ap (λ (x : ℕ). (2 ^ 32 - 1) - run ((2 ^ 32 - 1) - x)
 
 pub returns : goal.returns
 returns c =
-    let a = c in
     let f = c.feed_both-r.ensures in
-    let s = a.args.bytes.now in
-    (ap (λ (x : ℕ). (2 ^ 32 - 1) - x) f.0 ∙ complemented a.args.a s a.ranges.a.fits, ap (λ (x : ℕ). (2 ^ 32 - 1) - x) f.1 ∙ complemented a.args.b s a.ranges.b.fits)
+    let s = c.args.bytes.now in
+    (ap (λ (x : ℕ). (2 ^ 32 - 1) - x) f.0 ∙ complemented c.args.a s c.ranges.a.fits, ap (λ (x : ℕ). (2 ^ 32 - 1) - x) f.1 ∙ complemented c.args.b s c.ranges.b.fits)
