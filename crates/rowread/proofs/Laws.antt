@@ -8,7 +8,6 @@ use native.Mathlib.Nat.{add-zero}
 use mathlib.Core.Bool.{Bool, true, false}
 use mathlib.Core.Path.{◌≡◌, refl, sym, ap, ◌∙◌}
 use mathlib.Core.List.{List, [], ◌∷◌, ◌++◌}
-use lib.Dec.{eqb}
 use lib.ListN.{length, take, drop, get_or, drop_of_length-le, length-drop, length-append, get_or-eq_default}
 use lib.Seq.{drop-cons, get_or-drop, drop-drop, take_at}
 use borrow.Author.Tests.{eq-eqb, ne_eqb}

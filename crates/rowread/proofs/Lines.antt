@@ -1,6 +1,6 @@
 -- Rows without quotes: what a turn of their loops does to what is left, and why the result is a row of the grammar. The bytes before the
 -- first quote, CR or LF are plain values with commas between them: with a row end after them they are a row.
-use Prim.Native.Nat.{ℕ, zero, suc, ◌+◌, ◌-◌, ◌≤◌, ◌<◌}
+use Prim.Native.Nat.{ℕ, suc, ◌+◌, ◌-◌, ◌≤◌, ◌<◌}
 use native.Mathlib.Omega.{arith}
 use native.Mathlib.Numerals.{add-one}
 use native.Mathlib.Nat.{add-zero}

@@ -15,7 +15,7 @@ use Rattle.rfc4180.specs.Csv.{quote}
 use Rattle.rfc4180.specs.Read.{Got, got, bad, push, inner}
 use Rattle.rowread.specs.declared.exact.Piece.TheVariants.{Value, Bad}
 use Rattle.base.specs.Little.{little}
-use Rattle.rowread.specs.Marks.{marks, Marks, is_quote, first_mark, cleared, since, FirstOf, ClearedOf}
+use Rattle.rowread.specs.Marks.{marks, Marks, is_quote, first_mark, since, FirstOf, ClearedOf}
 use mathlib.Core.Logic.{◌⊎◌, inl, inr}
 use Rattle.rowread.specs.Steps.{piece_of, value_of, IsGot, prefixed, Written, Filled, Ample, Fitting, Room, Grid, Turned, Unquoting}
 use Rattle.rowread.proofs.Laws.{inner-byte, inner-twice, inner-close, inner_out, past}

@@ -1,8 +1,6 @@
 -- One case for each path: past the end, at the end, read by the fast path, no row, an output too small (either one), a row. In each the
 -- answer and both outputs are those of Calls.antt.
-use Rattle.std.proofs.Common.{rules, ◌≡◌, ◌+◌, ◌<◌, length, ℕ, ◌-◌, ◌*◌, ◌≤◌, ◌/◌, ◌%◌, Bool, true, false, nat_eq, nat_lt, List, [], ◌∷◌, ◌++◌, slice_index_or, slice_set, bit_and, bit_or, Fits, w8, w32, w64, Bor, MutBor}
-use Rattle.rowread.specs.Claims.{Claims}
-use Rattle.rowread.specs.Stored.{values_at, joined, ends_of, read_answer, after}
+use Rattle.std.proofs.Common.{◌≡◌, length, ◌≤◌}
 use Rattle.rowread.proofs.read_row.Goals as goal
 use native.Mathlib.Omega.{arith}
 use mathlib.Core.Path.{refl, sym, ap, ◌∙◌}
@@ -11,7 +9,6 @@ use Rattle.rfc4180.specs.Csv.{max_row}
 use Rattle.rowread.specs.declared.exact.Scan.TheVariants.{Whole}
 use Rattle.rowread.specs.Stored.{part_at}
 use Rattle.rowread.specs.Steps.{scan_of}
-use Rattle.rowread.proofs.Quoted.{both_ways}
 use Rattle.rowread.proofs.Calls.{scan-inside, since, read_past, read-end, read-broken, is_row, row-bytes, read_short, read-few, read_whole, read-quick}
 
 pub returns-then-table-offset : goal.returns-then-table-offset
@@ -28,20 +25,17 @@ returns-then-offset-table c =
 
 pub returns-in-Read : goal.returns-in-Read
 returns-in-Read c =
-    let s = c in
-    let a = s.args in
+    let a = c.args in
     let h : a.offset ≤ length a.table.now = c.if-table-offset.false in
     let n : a.offset ≡ length a.table.now → ⊥ = c.if-offset-table.false in
     let e = c.part-t.ensures in
-    let g = c.quick-1.given in
-    let x = rw e at (rw g.1 at c.fast_row-quick.ensures) in
+    let x = rw e at (rw c.in-Read.is at c.fast_row-quick.ensures) in
     let w = read-quick a.table.now a.width a.offset a.out.now a.ends.now h n x in
     (w.is, w.bytes, w.marks)
 
 pub returns-in_default-scan : goal.returns-in_default-scan
 returns-in_default-scan c =
-    let s = c in
-    let a = s.args in
+    let a = c.args in
     let h : a.offset ≤ length a.table.now = c.if-table-offset.false in
     let n : a.offset ≡ length a.table.now → ⊥ = c.if-offset-table.false in
     let e = c.part-t.ensures in
@@ -53,75 +47,65 @@ returns-in_default-scan c =
 
 pub returns-then-out-size : goal.returns-then-out-size
 returns-then-out-size c =
-    let s = c in
-    let a = s.args in
+    let a = c.args in
     let h : a.offset ≤ length a.table.now = c.if-table-offset.false in
     let n : a.offset ≡ length a.table.now → ⊥ = c.if-offset-table.false in
     let e = c.part-t.ensures in
     let k = rw c.in_default.is at c.fast_row-quick.ensures in
     let d = c.row-scan.ensures in
     let m = d.1.kept refl in
-    let g = c.scan-1.given in
-    let q : Whole g.0.0 g.0.1.0 ≡ scan_of a.width (part_at a.table.now a.offset) = sym g.1 ∙ d.0 ∙ ap (scan_of a.width) e in
-    let w = since (m.0 ∙ k.0) (m.1 ∙ k.1) (read_short a.table.now a.width a.offset _ _ h n g.0.0 g.0.1.0 q c.if-out-size.true) in
+    let q : Whole c.in-Whole.next c.in-Whole.size ≡ scan_of a.width (part_at a.table.now a.offset) = sym c.in-Whole.is ∙ d.0 ∙ ap (scan_of a.width) e in
+    let w = since (m.0 ∙ k.0) (m.1 ∙ k.1) (read_short a.table.now a.width a.offset _ _ h n c.in-Whole.next c.in-Whole.size q c.if-out-size.true) in
     (w.is, w.bytes, w.marks)
 
 pub returns-then-ends-width : goal.returns-then-ends-width
 returns-then-ends-width c =
-    let s = c in
-    let a = s.args in
+    let a = c.args in
     let h : a.offset ≤ length a.table.now = c.if-table-offset.false in
     let n : a.offset ≡ length a.table.now → ⊥ = c.if-offset-table.false in
     let e = c.part-t.ensures in
     let k = rw c.in_default.is at c.fast_row-quick.ensures in
     let d = c.row-scan.ensures in
     let m = d.1.kept refl in
-    let g = c.scan-1.given in
-    let q : Whole g.0.0 g.0.1.0 ≡ scan_of a.width (part_at a.table.now a.offset) = sym g.1 ∙ d.0 ∙ ap (scan_of a.width) e in
-    let w = since (m.0 ∙ k.0) (m.1 ∙ k.1) (read-few a.table.now a.width a.offset _ _ h n g.0.0 g.0.1.0 q c.if-out-size.false c.if-ends-width.true) in
+    let q : Whole c.in-Whole.next c.in-Whole.size ≡ scan_of a.width (part_at a.table.now a.offset) = sym c.in-Whole.is ∙ d.0 ∙ ap (scan_of a.width) e in
+    let w = since (m.0 ∙ k.0) (m.1 ∙ k.1) (read-few a.table.now a.width a.offset _ _ h n c.in-Whole.next c.in-Whole.size q c.if-out-size.false c.if-ends-width.true) in
     (w.is, w.bytes, w.marks)
 
 pub write_row-requires : goal.write_row-requires
 write_row-requires c =
-    let s = c in
-    let a = s.args in
+    let a = c.args in
     let h : a.offset ≤ length a.table.now = c.if-table-offset.false in
     let n : a.offset ≡ length a.table.now → ⊥ = c.if-offset-table.false in
     let e = c.part-t.ensures in
     let k = rw c.in_default.is at c.fast_row-quick.ensures in
     let d = c.row-scan.ensures in
     let m = d.1.kept refl in
-    let g = c.scan-1.given in
-    let q : Whole g.0.0 g.0.1.0 ≡ scan_of a.width (part_at a.table.now a.offset) = sym g.1 ∙ d.0 ∙ ap (scan_of a.width) e in
-    let y = row-bytes a.table.now a.width a.offset a.out.now a.ends.now h n g.0.0 g.0.1.0 q in
-    rw e (is_row a.table.now a.width a.offset a.out.now a.ends.now h n g.0.0 g.0.1.0 q, omega (arith, y), c.if-out-size.false, c.if-ends-width.false)
+    let q : Whole c.in-Whole.next c.in-Whole.size ≡ scan_of a.width (part_at a.table.now a.offset) = sym c.in-Whole.is ∙ d.0 ∙ ap (scan_of a.width) e in
+    let y = row-bytes a.table.now a.width a.offset a.out.now a.ends.now h n c.in-Whole.next c.in-Whole.size q in
+    rw e (is_row a.table.now a.width a.offset a.out.now a.ends.now h n c.in-Whole.next c.in-Whole.size q, omega (arith, y), c.if-out-size.false, c.if-ends-width.false)
 
 pub overflow_add-result-2 : goal.overflow_add-result-2
 overflow_add-result-2 c =
-    let s = c in
-    let a = s.args in
+    let a = c.args in
     let h : a.offset ≤ length a.table.now = c.if-table-offset.false in
     let n : a.offset ≡ length a.table.now → ⊥ = c.if-offset-table.false in
     let e = c.part-t.ensures in
     let k = rw c.in_default.is at c.fast_row-quick.ensures in
     let d = c.row-scan.ensures in
     let m = d.1.kept refl in
-    let g = c.scan-1.given in
-    let x = scan-inside a.width _ g.0.0 g.0.1.0 (sym g.1 ∙ d.0) in
+    let x = scan-inside a.width _ c.in-Whole.next c.in-Whole.size (sym c.in-Whole.is ∙ d.0) in
     omega (arith, x, ap length e, length-take max_row (drop a.offset a.table.now), length-drop a.offset a.table.now, h)
 
 pub returns : goal.returns
 returns c =
-    let s = c in
-    let a = s.args in
+    let a = c.args in
     let h : a.offset ≤ length a.table.now = c.if-table-offset.false in
     let n : a.offset ≡ length a.table.now → ⊥ = c.if-offset-table.false in
     let e = c.part-t.ensures in
     let k = rw c.in_default.is at c.fast_row-quick.ensures in
     let d = c.row-scan.ensures in
     let m = d.1.kept refl in
-    let g = c.scan-1.given in
-    let q : Whole g.0.0 g.0.1.0 ≡ scan_of a.width (part_at a.table.now a.offset) = sym g.1 ∙ d.0 ∙ ap (scan_of a.width) e in
+    let q : Whole c.in-Whole.next c.in-Whole.size ≡ scan_of a.width (part_at a.table.now a.offset) = sym c.in-Whole.is ∙ d.0 ∙ ap (scan_of a.width) e in
     let v = c.write_row.ensures in
-    let w = since (m.0 ∙ k.0) (m.1 ∙ k.1) (read_whole a.table.now a.width a.offset _ _ h n g.0.0 g.0.1.0 q c.if-out-size.false c.if-ends-width.false _ _ (v.0 ∙ rw e) (v.1 ∙ rw e)) in
+    let w = since (m.0 ∙ k.0) (m.1 ∙ k.1) (read_whole a.table.now a.width a.offset _ _ h n c.in-Whole.next c.in-Whole.size q c.if-out-size.false c.if-ends-width.false _ _ (v.0 ∙ rw e) (v.1 ∙ rw e)) in
     (w.is, w.bytes, w.marks)

@@ -1,6 +1,3 @@
-use Rattle.std.proofs.Common.{rules, ◌≡◌, ◌+◌, ◌<◌, length, ℕ, ◌-◌, ◌*◌, ◌≤◌, ◌/◌, ◌%◌, Bool, true, false, nat_eq, nat_lt, List, [], ◌∷◌, ◌++◌, slice_index_or, slice_set, bit_and, bit_or, Fits, w8, w32, w64, Bor, MutBor}
-use Rattle.rowread.specs.Claims.{Claims}
-use Rattle.rowread.specs.Stored.{values_at, joined, ends_of, read_answer, after}
 use Rattle.rowread.proofs.reads_hold.Goals as goal
 use Rattle.rowread.proofs.Table.{reads-written, reads-table, stored-is-a-row, reads-rows, small-outputs, refuses-others, reads_end, reads_all, stored-limits, refuses-lone-cr}
 

@@ -8,9 +8,8 @@ use Rattle.row.proofs.Laws.{doubled-most, count_turn, count-end}
 pub overflow_add-n : goal.overflow_add-n
 overflow_add-n c =
     let l = c.loop-i in
-    let s = c in
-    let v = s.args.v.now in
-    omega (arith, s.requires, doubled-most v, count_turn v l.i l.n _ (search rules) c.quotes.ensures l.invariant.1)
+    let v = c.args.v.now in
+    omega (arith, c.requires, doubled-most v, count_turn v l.i l.n _ (search rules) c.quotes.ensures l.invariant.1)
 
 pub loop-i-preserved : goal.loop-i-preserved
 loop-i-preserved c =
@@ -21,6 +20,5 @@ loop-i-preserved c =
 pub overflow_add-result : goal.overflow_add-result
 overflow_add-result c =
     let l = c.loop-i in
-    let s = c in
-    let v = s.args.v.now in
-    omega (arith, s.requires, doubled-most v, count-end v l.i l.n _ l.invariant.0 c.quotes-2.ensures l.invariant.1)
+    let v = c.args.v.now in
+    omega (arith, c.requires, doubled-most v, count-end v l.i l.n _ l.invariant.0 c.quotes-2.ensures l.invariant.1)

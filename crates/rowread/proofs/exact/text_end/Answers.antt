@@ -1,14 +1,9 @@
 -- The invariant: the value from `from` on ends where the value from i on ends. The first delimiter ends it, found by marks or byte by byte.
-use Rattle.std.proofs.Common.{rules, ◌≡◌, ◌+◌, ◌-◌, ◌≤◌, length, drop, ℕ, ◌*◌, ◌<◌, ◌/◌, ◌%◌, Bool, true, false, nat_eq, nat_lt, List, [], ◌∷◌, ◌++◌, slice_index_or, slice_set, bit_and, bit_or, Fits, w8, w32, w64, Bor, MutBor}
-use Rattle.std.proofs.lemmas.List.Edits.{sets}
-use Rattle.rfc4180.specs.Read.{plain_value, field_at, row_end, values}
-use Rattle.rowread.specs.Stored.{values_of, joined, ends_of}
-use Rattle.rowread.specs.Steps.{piece_of, scan_of, IsRow, slack_of, Filled, FieldRoom, RowRoom, RowWritten, Quickly}
+use Rattle.std.proofs.Common.{◌+◌, ◌≤◌, length, drop, ◌<◌, true}
 use Rattle.rowread.proofs.exact.text_end.Goals as goal
 use native.Mathlib.Omega.{arith}
-use mathlib.Core.Path.{refl, sym, ◌∙◌}
+use mathlib.Core.Path.{sym, ◌∙◌}
 use lib.ListN.{take, get_or}
-use borrow.Author.Tests.{not-true, not-false}
 use Rattle.rowread.specs.Marks as M
 use Rattle.rowread.proofs.Laws.{plain_out, plain-stop, plain_turn}
 use Rattle.rowread.proofs.Search.{marks-all, word-eight, word_bytes, word_first, word-plain, text-not, plain-skip}
@@ -57,14 +52,14 @@ pub returns-then-not-is_text : goal.returns-then-not-is_text
 returns-then-not-is_text c =
     let l = c.loop-i-2 in
     let t = c.args.t.now in
-    plain-stop t l.i (omega (arith, c.loop-i-2-test.true)) (sym c.is_text.ensures ∙ not-true _ c.if-not-is_text.true) ∙ sym l.invariant.1
+    plain-stop t l.i (omega (arith, c.loop-i-2-test.true)) (sym c.is_text.ensures ∙ c.if-not-is_text.true) ∙ sym l.invariant.1
 
 pub loop-i-2-preserved : goal.loop-i-2-preserved
 loop-i-2-preserved c =
     let l = c.loop-i-2 in
     let t = c.args.t.now in
     let h : l.i < length t = c.loop-i-2-test.true in
-    (omega (arith, h), l.invariant.1 ∙ plain_turn t l.i h (sym c.is_text.ensures ∙ not-false _ c.if-not-is_text.false))
+    (omega (arith, h), l.invariant.1 ∙ plain_turn t l.i h (sym c.is_text.ensures ∙ c.if-not-is_text.false))
 
 pub returns : goal.returns
 returns c =

@@ -2,7 +2,6 @@ use Prim.Native.Nat.{◌+◌, ◌-◌, ◌≤◌}
 use mathlib.Core.Path.{◌≡◌}
 use lib.ListN.{length, drop}
 use Rattle.rfc4180.specs.Read.{plain_value}
-use Rattle.rowread.specs.Marks as M
 use Rattle.rowread.proofs.exact.text_end.Given as goal
 
 abbrev pub invariant-loop-i : goal.invariant-loop-i

@@ -1,9 +1,7 @@
 -- The search found a row end before any quote, and one comma fewer than values: the values between the commas are the row's (`line-holds`). Where it found no
 -- row end, what is read is what `short_row` reads. On every other path nothing was written.
-use Rattle.std.proofs.Common.{rules, ◌≡◌, ◌+◌, ◌-◌, ◌≤◌, ◌<◌, length, take, drop, ℕ, ◌*◌, ◌/◌, ◌%◌, Bool, true, false, nat_eq, nat_lt, List, [], ◌∷◌, ◌++◌, slice_index_or, slice_set, bit_and, bit_or, Fits, w8, w32, w64, Bor, MutBor}
-use Rattle.std.proofs.lemmas.List.Edits.{sets}
-use Rattle.base.specs.Little.{long_bytes}
-use Rattle.rowread.specs.Steps.{commas_in, text_in, cuts_in, marks_in, block_size, Ahead, WordSearched, LineFound, Quickly}
+use Rattle.std.proofs.Common.{◌≡◌, ◌+◌, ◌≤◌, length, take}
+use Rattle.rowread.specs.Steps.{cuts_in}
 use Rattle.rowread.proofs.line.fast_row.Goals as goal
 use native.Mathlib.Omega.{arith}
 use mathlib.Core.Path.{sym, ap, ◌∙◌}
@@ -15,28 +13,43 @@ use Rattle.rowread.proofs.Blocks.{take-sets}
 
 pub overflow_add-commas : goal.overflow_add-commas
 overflow_add-commas c =
-    let s = c in
-    let t = s.args.t.now in
-    let g = c.found-1.given in
-    let x = rw g.1 at c.search_line-found.ensures in
-    let e = g.0.0 in
-    let n = g.0.1.0 in
+    let t = c.args.t.now in
+    let x = rw c.in-Stop.is at c.search_line-found.ensures in
+    let e = c.in-Stop.end in
+    let n = c.in-Stop.commas in
     let f : n ≤ e = omega (arith, x.0.many, text-size (take e t), length-take e t) in
     omega (arith, f, x.1.0)
 
 pub overflow_sub-size : goal.overflow_sub-size
 overflow_sub-size c =
-    let s = c in
-    let t = s.args.t.now in
-    let g = c.found-1.given in
-    let x = rw g.1 at c.search_line-found.ensures in
-    let e = g.0.0 in
-    let n = g.0.1.0 in
+    let t = c.args.t.now in
+    let x = rw c.in-Stop.is at c.search_line-found.ensures in
+    let e = c.in-Stop.end in
+    let n = c.in-Stop.commas in
     omega (arith, x.0.many, text-size (take e t), length-take e t)
 
 pub copy_line-requires-clause-block_size_in_bounds :
     goal.copy_line-requires-clause-block_size_in_bounds
-copy_line-requires-clause-block_size_in_bounds c = ?
+copy_line-requires-clause-block_size_in_bounds c =
+    let t = c.args.t.now in
+    let x = rw c.in-Stop.is at c.search_line-found.ensures in
+    let e = c.in-Stop.end in
+    let n = c.in-Stop.commas in
+    let w : n + 1 ≡ c.args.width = c.if-commas-width.false in
+    let m : c.args.width ≤ 10 = c.if-width-gt-MAX_COLUMNS.false in
+    let c' = cuts_in 0 (take e t) in
+    let z : n ≡ length c' = x.0.many ∙ sym (cuts-size 0 (take e t)) in
+    let k = ap (take n) (x.0.ends (omega (arith, w, m))) ∙ take-sets _ c' n z (omega (arith, w, m)) in
+    (omega (arith, c.if-t-end-lt-BLOCK.false, x.0.inside), x.0.many, k)
+
+pub copy_line-requires-clause-n_in_bounds :
+    goal.copy_line-requires-clause-n_in_bounds
+copy_line-requires-clause-n_in_bounds c =
+    let x = rw c.in-Stop.is at c.search_line-found.ensures in
+    let n = c.in-Stop.commas in
+    let w : n + 1 ≡ c.args.width = c.if-commas-width.false in
+    let m : c.args.width ≤ 10 = c.if-width-gt-MAX_COLUMNS.false in
+    (omega (arith, w, m, x.0.same), c.if-out-size.false, omega (arith, w, c.if-ends-width.false))
 
 pub overflow_add-result : goal.overflow_add-result
 overflow_add-result c =
@@ -46,13 +59,11 @@ overflow_add-result c =
 
 pub returns : goal.returns
 returns c =
-    let s = c in
-    let t = s.args.t.now in
-    let g = c.found-1.given in
-    let x = rw g.1 at c.search_line-found.ensures in
-    let e = g.0.0 in
-    let n = g.0.1.0 in
-    let w = c.Copy-Line.ensures in
+    let t = c.args.t.now in
+    let x = rw c.in-Stop.is at c.search_line-found.ensures in
+    let e = c.in-Stop.end in
+    let n = c.in-Stop.commas in
+    let w = c.copy_line.ensures in
     let r = c.row_end-e in
     let l : e ≡ length (line_of t) = line-stop t e x.1.0 x.1.1 ∙ sym x.0.line in
-    line-holds t e r.result n s.args.width s.args.out.now s.args.ends.now _ _ l r.ensures c.if-e-eq0.false x.0.many c.if-commas-width.false (omega (arith, c.if-out-size.false)) c.if-ends-width.false w.0 w.1
+    line-holds t e r.result n c.args.width c.args.out.now c.args.ends.now _ _ l r.ensures c.if-e-eq0.false x.0.many c.if-commas-width.false (omega (arith, c.if-out-size.false)) c.if-ends-width.false w.0 w.1

@@ -1,7 +1,5 @@
 -- The invariant: the digits counted and those left are the digits of x. Halving takes one digit away.
-use Rattle.std.proofs.Common.{rules, ◌≡◌, ◌+◌, ◌<◌, ◌≤◌, length, take, drop, ℕ, ◌-◌, ◌*◌, ◌/◌, ◌%◌, Bool, true, false, nat_eq, nat_lt, List, [], ◌∷◌, ◌++◌, slice_index_or, slice_set, bit_and, bit_or, Fits, w8, w32, w64, Bor, MutBor}
-use Rattle.base.specs.Little.{little, long_bytes}
-use Rattle.rowread.specs.Marks.{Bytes, is_quote, is_delimiter, HasMarks, MarksOf, FirstOf, ClearedOf, bits_of}
+use Rattle.std.proofs.Common.{◌≡◌, ◌+◌, ◌<◌, ℕ, ◌-◌, ◌/◌}
 use Rattle.rowread.proofs.marks.bits.Goals as goal
 use Prim.Native.Nat.{zero, suc, ◌^◌}
 use native.Mathlib.Nat.{pow-suc}

@@ -1,7 +1,5 @@
 -- The marks without the lowest, computed for all eight marks (Words.antt).
-use Rattle.std.proofs.Common.{rules, ◌≡◌, ◌+◌, ◌<◌, ◌≤◌, length, take, drop, ℕ, ◌-◌, ◌*◌, ◌/◌, ◌%◌, Bool, true, false, nat_eq, nat_lt, List, [], ◌∷◌, ◌++◌, slice_index_or, slice_set, bit_and, bit_or, Fits, w8, w32, w64, Bor, MutBor}
-use Rattle.base.specs.Little.{little, long_bytes}
-use Rattle.rowread.specs.Marks.{Bytes, is_quote, is_delimiter, HasMarks, MarksOf, FirstOf, ClearedOf, bits_of}
+use Rattle.std.proofs.Common.{◌-◌}
 use Rattle.rowread.proofs.marks.clear_first.Goals as goal
 use native.Mathlib.Omega.{arith}
 use lib.Bits.{and_le_r}

@@ -1,7 +1,5 @@
 -- Each byte of the expression is computed from that byte of w (Words.antt).
-use Rattle.std.proofs.Common.{rules, ◌≡◌, ◌+◌, ◌<◌, ◌≤◌, length, take, drop, ℕ, ◌-◌, ◌*◌, ◌/◌, ◌%◌, Bool, true, false, nat_eq, nat_lt, List, [], ◌∷◌, ◌++◌, slice_index_or, slice_set, bit_and, bit_or, Fits, w8, w32, w64, Bor, MutBor}
-use Rattle.base.specs.Little.{little, long_bytes}
-use Rattle.rowread.specs.Marks.{Bytes, is_quote, is_delimiter, HasMarks, MarksOf, FirstOf, ClearedOf, bits_of}
+use Rattle.std.proofs.Common.{◌+◌, ◌<◌, ℕ, bit_and}
 use Rattle.rowread.proofs.marks.delimiters_of.Goals as goal
 use native.Mathlib.Omega.{arith}
 use lib.Bits.{bit_xor, and_le_r, xor_lt}
@@ -24,4 +22,4 @@ pub overflow_add-result-2 : goal.overflow_add-result-2
 overflow_add-result-2 c = omega (arith, sum_lt c.args.w 3182967604875373612 (omega arith))
 
 pub returns : goal.returns
-returns c = rw w (delimiters-told bs e h)
+returns c = λ bs e h w. rw w (delimiters-told bs e h)

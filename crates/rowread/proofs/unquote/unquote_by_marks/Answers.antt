@@ -1,42 +1,36 @@
 -- The invariant: the value is read and written up to p, and m has the marks of the word at i from p on (`Unquoting`, `Grid`). A turn goes on or
 -- closes the value.
-use Rattle.std.proofs.Common.{rules, ◌≡◌, ◌+◌, ◌-◌, ◌≤◌, ◌<◌, length, drop, ℕ, ◌*◌, ◌/◌, ◌%◌, Bool, true, false, nat_eq, nat_lt, List, [], ◌∷◌, ◌++◌, slice_index_or, slice_set, bit_and, bit_or, Fits, w8, w32, w64, Bor, MutBor}
-use Rattle.rfc4180.specs.Read.{inner}
-use Rattle.rowread.specs.Steps.{piece_of, block_size, searched_bytes, Grid, Turned, Filled, Room, Inside, ReadByMarks, slack_of}
+use Rattle.std.proofs.Common.{◌≡◌, ◌+◌, ◌-◌, ◌≤◌, length, drop, true, false}
 use Rattle.rowread.proofs.unquote.unquote_by_marks.Goals as goal
 use native.Mathlib.Omega.{arith}
-use mathlib.Core.Logic.{⊎_elim}
+use Rattle.rowread.proofs.unquote.unquote_by_marks.Goals.{then-write, else-write}
 use mathlib.Core.Path.{refl, ◌∙◌}
 use lib.ListN.{take, length-take, length-drop}
 use lib.Seq.{sets}
 use Rattle.rowread.specs.Marks as M
-use Rattle.rowread.specs.Steps.{Unquoting}
 use Rattle.rowread.proofs.Search.{since-zero, word-eight, word_bytes}
-use Rattle.rowread.proofs.Quoted.{both_ways, written-block, written-length, block-fits, un-start, un-length, un-more, un-whole, un-room}
+use Rattle.rowread.proofs.Quoted.{both_ways, written-block, block-fits, un-start, un-more, un-whole, un-room}
 
 pub loop-i-init : goal.loop-i-init
 loop-i-init c =
-    let s = c in
-    let a = s.args in
+    let a = c.args in
     let t = a.t.now in
     let b = c.load.ensures in
-    let h : a.from + 8 ≤ length t = omega (arith, s.requires.0.0) in
+    let h : a.from + 8 ≤ length t = omega (arith, c.requires.searched_bytes_in_bounds.0) in
     let e = c.quotes_of-m.ensures (take 8 (drop a.from t)) (word-eight t a.from h) (word_bytes t a.from b.1) b.0 ∙ since-zero (M.marks M.is_quote (take 8 (drop a.from t))) in
     let z : a.from - a.from ≡ 0 = omega arith in
     (omega (arith, h), record { low = omega arith; high = omega arith; inside = h; quotes = rw z e }, un-start 16 a.write t a.from a.out.now a.to (omega (arith, h)))
 
 pub copy_block-requires : goal.copy_block-requires
 copy_block-requires c =
-    let s = c in
     let l = c.loop-i in
     let h = c.loop-i-test.true in
     let u = l.invariant.2 in
-    (omega (arith, h, l.invariant.1.high, l.invariant.0), block-fits s.args.write s.args.t.now l.p l.out l.n (omega (arith, u.grows, u.upto, s.requires.0.1)) u.inside (un-room u s.requires.1) c.if-write.true)
+    (omega (arith, h, l.invariant.1.high, l.invariant.0), block-fits c.args.write c.args.t.now l.p l.out l.n (omega (arith, u.grows, u.upto, c.requires.searched_bytes_in_bounds.1)) u.inside (un-room u c.requires.room) c.if-write.true)
 
 pub returns-then-x : goal.returns-then-x
 returns-then-x c =
-    let s = c in
-    let a = s.args in
+    let a = c.args in
     let t = a.t.now in
     let l = c.loop-i in
     let h = c.loop-i-test.true in
@@ -45,7 +39,10 @@ returns-then-x c =
     let u = l.invariant.2 in
     let o = c.if-write.out in
     let put : (a.write ≡ false → o ≡ l.out) × (a.write ≡ true → o ≡ sets l.out l.n (take 16 (drop l.p t))) =
-    ⊎_elim (λ y. (λ f. absurd (both_ways a.write y.0.taken f), λ f. y.5 ∙ y.2.ensures)) (λ y. (λ f. y.1, λ f. absurd (both_ways a.write f y.0.left))) c.if-write.branch in
+    elim c.if-write.branch [
+      | then-write y ↦ (λ f. absurd (both_ways a.write y.if-write.true f), λ f. y.out-is ∙ y.copy_block.ensures)
+      | else-write y ↦ (λ f. y.out-is, λ f. absurd (both_ways a.write f y.if-write.false))
+    ] in
     let w = written-block a.write t l.out o l.p l.n x.copied put.0 put.1 (omega (arith, e.few)) (omega (arith, h, l.invariant.1.high, l.invariant.0)) in
     let k : length (take x.copied (drop l.p t)) ≡ x.copied = omega (arith, length-take x.copied (drop l.p t), length-drop l.p t, e.few, h, l.invariant.1.high, l.invariant.0) in
     let d = e.ends c.if-x.true in
@@ -54,8 +51,7 @@ returns-then-x c =
 
 pub loop-i-preserved : goal.loop-i-preserved
 loop-i-preserved c =
-    let s = c in
-    let a = s.args in
+    let a = c.args in
     let t = a.t.now in
     let l = c.loop-i in
     let h = c.loop-i-test.true in
@@ -64,7 +60,10 @@ loop-i-preserved c =
     let u = l.invariant.2 in
     let o = c.if-write.out in
     let put : (a.write ≡ false → o ≡ l.out) × (a.write ≡ true → o ≡ sets l.out l.n (take 16 (drop l.p t))) =
-    ⊎_elim (λ y. (λ f. absurd (both_ways a.write y.0.taken f), λ f. y.5 ∙ y.2.ensures)) (λ y. (λ f. y.1, λ f. absurd (both_ways a.write f y.0.left))) c.if-write.branch in
+    elim c.if-write.branch [
+      | then-write y ↦ (λ f. absurd (both_ways a.write y.if-write.true f), λ f. y.out-is ∙ y.copy_block.ensures)
+      | else-write y ↦ (λ f. y.out-is, λ f. absurd (both_ways a.write f y.if-write.false))
+    ] in
     let w = written-block a.write t l.out o l.p l.n x.copied put.0 put.1 (omega (arith, e.few)) (omega (arith, h, l.invariant.1.high, l.invariant.0)) in
     let k : length (take x.copied (drop l.p t)) ≡ x.copied = omega (arith, length-take x.copied (drop l.p t), length-drop l.p t, e.few, h, l.invariant.1.high, l.invariant.0) in
     let d = e.on c.if-x.false in

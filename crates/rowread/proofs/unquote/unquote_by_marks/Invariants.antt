@@ -1,6 +1,5 @@
 use Prim.Native.Nat.{◌+◌, ◌-◌, ◌≤◌}
 use lib.ListN.{length}
-use Rattle.rowread.specs.Marks as M
 use Rattle.rowread.specs.Steps.{Grid, Unquoting}
 use Rattle.rowread.proofs.unquote.unquote_by_marks.Given as goal
 
