@@ -1,0 +1,29 @@
+use Rattle.std.proofs.Common.{rules, ◌≡◌, List, ℕ, ◌+◌, ◌-◌, ◌*◌, ◌<◌, ◌≤◌, length, ◌/◌, ◌%◌, Bool, true, false, nat_eq, nat_lt, [], ◌∷◌, ◌++◌, slice_index_or, slice_set, bit_and, bit_or, Fits, w8, w32, w64, Bor, MutBor}
+use Rattle.record.specs.declared.Source.{Source}
+use Rattle.writer.specs.Parts.{whole_of, step_with}
+use Rattle.writer.specs.State.{is_done}
+use Rattle.lower.specs.Sources as Sources
+use Rattle.lower.specs.Lower as Lower
+use Rattle.lower.proofs.source.emptied.Goals as goal
+use mir.ValLaws.{to_z-of_z}
+use Rattle.record.specs.Record.{no_block}
+use Rattle.base.proofs.Lists.{replicate-fill}
+use Rattle.base.specs.Table.{max_tables}
+
+pub returns : goal.returns
+returns c =
+    let a = c.args in
+    let u = to_z-of_z w64 a.s.updated (record { sfits = c.struct_told-1.given.1.1.1.0.1 }) in
+    let t = replicate-fill no_block max_tables in
+    λ i. record {
+      start = a.s.start;
+      end = a.s.end;
+      present = a.s.present;
+      updated = u i;
+      original = a.s.original;
+      tables = t i;
+      stamp = a.s.stamp;
+      idlen = a.s.idlen;
+      id = a.s.id;
+      validator = a.s.validator;
+    }
