@@ -1,0 +1,27 @@
+-- With a bank found it is compared; without one the update isn't what the bank has.
+use Rattle.std.proofs.Common.{rules, ◌≡◌, ◌≤◌, take, ℕ, ◌+◌, ◌-◌, ◌*◌, ◌<◌, length, ◌/◌, ◌%◌, Bool, true, false, nat_eq, nat_lt, List, [], ◌∷◌, ◌++◌, slice_index_or, slice_set, bit_and, bit_or, Fits, w8, w32, w64, Bor, MutBor}
+use Rattle.base.specs.Number.{pick}
+use Rattle.header.specs.Header.{records_of, max_sources}
+use Rattle.writer.specs.declared.Answer.TheVariants as Answers
+use Rattle.commit.specs.Unchanged as Unchanged
+use Rattle.commit.proofs.unchanged.is_unchanged.Goals as goal
+use mathlib.Core.Path.{sym, ap, ◌∙◌}
+use Rattle.commit.specs.Unchanged.{is_unchanged}
+
+pub returns-in-Found : goal.returns-in-Found
+unfolding is_unchanged
+returns-in-Found c =
+    let a = c.args in
+    c.same_bank.ensures ∙ sym (ap (is_unchanged a.region.now a.w) c.in-Found.is)
+
+pub returns-in-Nothing : goal.returns-in-Nothing
+unfolding is_unchanged
+returns-in-Nothing c =
+    let a = c.args in
+    sym (ap (is_unchanged a.region.now a.w) c.in-Nothing.is)
+
+pub returns-in-Refused : goal.returns-in-Refused
+unfolding is_unchanged
+returns-in-Refused c =
+    let a = c.args in
+    sym (ap (is_unchanged a.region.now a.w) c.in-Refused.is)
