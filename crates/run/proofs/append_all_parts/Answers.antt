@@ -1,0 +1,26 @@
+-- The invariant: running the appends of the bytes from i on, from the state and region so far, ends as running all of them from the start
+-- does. Each chunk keeps it (`fed-more`).
+use Rattle.std.proofs.Common.{rules, ◌≡◌, true, false, ◌+◌, ◌≤◌, ◌<◌, ◌∷◌, [], ◌++◌, length, ℕ, ◌-◌, ◌*◌, ◌/◌, ◌%◌, Bool, nat_eq, nat_lt, List, slice_index_or, slice_set, bit_and, bit_or, Fits, w8, w32, w64, Bor, MutBor}
+use Rattle.run.specs.Run as Run
+use Rattle.run.specs.Appends as Appends
+use Rattle.run.specs.PartsRun as PartsRun
+use Rattle.run.specs.Run.{ran_writer, ran_region}
+use Rattle.writer.specs.State.{tail_size}
+use Rattle.run.proofs.append_all_parts.Goals as goal
+use Rattle.record.specs.declared.Source.{Source}
+use Rattle.writer.specs.Parts.{whole_of}
+use mathlib.Core.Path.{refl, ap, ◌∙◌}
+use native.Mathlib.Omega.{arith}
+use lib.ListN.{drop, length-drop}
+use Rattle.run.specs.Appends.{appends}
+use Rattle.run.proofs.Laws.{rest-is, fed-more, fed-all-writer, fed-all-region}
+
+pub returns : goal.returns
+returns c =
+    let a = c.args in
+    let l = c.loop-i in
+    let bs = a.bytes.now in
+    λ ss. (
+      fed-all-writer l.region (whole_of a.b l.q ss l.tail) bs l.i (omega arith) (ran_writer a.region.now (whole_of a.b a.p ss a.tail.now) (appends bs)) (l.invariant.3 ss).0,
+      fed-all-region l.region (whole_of a.b l.q ss l.tail) bs l.i (omega arith) (ran_region a.region.now (whole_of a.b a.p ss a.tail.now) (appends bs)) (l.invariant.3 ss).1,
+    )

@@ -1,0 +1,21 @@
+-- With an operation due two calls are made; in the other stages they change nothing (`quiet-two`).
+use Rattle.std.proofs.Common.{rules, ◌≡◌, true, false, ◌+◌, ◌≤◌, ◌<◌, ◌∷◌, [], ◌++◌, length, ℕ, ◌-◌, ◌*◌, ◌/◌, ◌%◌, Bool, nat_eq, nat_lt, List, slice_index_or, slice_set, bit_and, bit_or, Fits, w8, w32, w64, Bor, MutBor}
+use Rattle.run.specs.Run as Run
+use Rattle.run.specs.Appends as Appends
+use Rattle.run.specs.PartsRun as PartsRun
+use Rattle.run.specs.Run.{ran_writer, ran_region}
+use Rattle.writer.specs.State.{tail_size}
+use Rattle.run.proofs.flush_two.Goals as goal
+use mathlib.Core.Path.{refl}
+use Rattle.writer.specs.Parts.{whole_of}
+use Rattle.writer.specs.declared.Stage.TheVariants.{Idle, HeaderWritten, Committed}
+use Rattle.run.proofs.Laws.{quiet-two}
+
+pub returns-in-Idle : goal.returns-in-Idle
+returns-in-Idle c = let a = c.args in λ ss. quiet-two a.region.now (whole_of a.b a.p ss a.tail.now) Idle c.in-Idle.is refl
+
+pub returns-in-HeaderWritten : goal.returns-in-HeaderWritten
+returns-in-HeaderWritten c = let a = c.args in λ ss. quiet-two a.region.now (whole_of a.b a.p ss a.tail.now) HeaderWritten c.in-HeaderWritten.is refl
+
+pub returns-in-Committed : goal.returns-in-Committed
+returns-in-Committed c = let a = c.args in λ ss. quiet-two a.region.now (whole_of a.b a.p ss a.tail.now) Committed c.in-Committed.is refl
