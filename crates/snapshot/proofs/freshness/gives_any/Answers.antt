@@ -1,0 +1,6 @@
+use Rattle.snapshot.proofs.freshness.gives_any.Goals as goal
+use Rattle.snapshot.specs.Freshness.{gives_any}
+
+pub returns : goal.returns
+unfolding gives_any
+returns c = rw (c.has_day.ensures, c.has_day-2.ensures, c.has_day-3.ensures)

@@ -1,0 +1,10 @@
+use Rattle.snapshot.proofs.rows.bank_rows_hold.Goals as goal
+use Rattle.snapshot.proofs.Tables.{reads-bank}
+use Rattle.snapshot.proofs.Data.{in-data}
+
+pub returns : goal.returns
+returns c =
+    record {
+      reads_bank = reads-bank;
+      in_data = in-data;
+    }
