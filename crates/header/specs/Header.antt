@@ -1,5 +1,5 @@
 -- A bank's header, and its tests: refusals 3 to 6.
-use Rattle.std.specs.Prelude.{Bool, false, ◌&&◌, ◌||◌, List, [], ◌∷◌, ◌++◌, ℕ, ◌+◌, ◌-◌, ◌*◌, leb, eqb, ℤ, pos, negsuc, length, take, drop}
+use Rattle.std.specs.Prelude.{Bool, false, ◌&&◌, ◌||◌, List, [], ◌∷◌, ◌++◌, ℕ, ◌+◌, ◌-◌, ◌*◌, leb, eqb, ℤ, pos, negsuc, take, drop}
 use Rattle.std.specs.Int.Signed.{le_z}
 use Rattle.base.specs.Number.{pick, max_signed}
 use Rattle.leaf.specs.Bytes.{word, time}

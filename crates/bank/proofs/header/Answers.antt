@@ -1,6 +1,3 @@
-use Rattle.std.proofs.Common.{rules, ◌≡◌, ◌-◌, ◌≤◌, length, ℕ, ◌+◌, ◌*◌, ◌<◌, ◌/◌, ◌%◌, Bool, true, false, nat_eq, nat_lt, List, [], ◌∷◌, ◌++◌, slice_index_or, slice_set, bit_and, bit_or, Fits, w8, w32, w64, Bor, MutBor}
-use Rattle.region.specs.Region.{last_bank}
-use Rattle.bank.specs.Bank as Banks
 use Rattle.bank.proofs.header.Goals as goal
 use Rattle.header.specs.Header.{header_of}
 use Rattle.bank.proofs.Laws.{no-region, no-bank, named-is}

@@ -1,8 +1,6 @@
 -- By cases: no region, the first bank passes, the second does, neither does. `validate` answers for each bank, and the bank tried first is
 -- the definition's.
-use Rattle.std.proofs.Common.{rules, ◌≡◌, ◌-◌, ◌≤◌, length, ℕ, ◌+◌, ◌*◌, ◌<◌, ◌/◌, ◌%◌, Bool, true, false, nat_eq, nat_lt, List, [], ◌∷◌, ◌++◌, slice_index_or, slice_set, bit_and, bit_or, Fits, w8, w32, w64, Bor, MutBor}
-use Rattle.region.specs.Region.{last_bank}
-use Rattle.bank.specs.Bank as Banks
+use Rattle.std.proofs.Common.{◌≡◌, ◌-◌, ℕ}
 use Rattle.bank.proofs.load.Goals as goal
 use Rattle.bank.specs.Bank.{validated, first_tried}
 use Rattle.bank.proofs.Laws.{load-no-region, load-first, load-second, load-none}

@@ -1,7 +1,4 @@
 -- The header's answer, and for a good one the data's CRC: three cases of Laws.antt.
-use Rattle.std.proofs.Common.{rules, ◌≡◌, ◌-◌, ◌≤◌, length, ℕ, ◌+◌, ◌*◌, ◌<◌, ◌/◌, ◌%◌, Bool, true, false, nat_eq, nat_lt, List, [], ◌∷◌, ◌++◌, slice_index_or, slice_set, bit_and, bit_or, Fits, w8, w32, w64, Bor, MutBor}
-use Rattle.region.specs.Region.{last_bank}
-use Rattle.bank.specs.Bank as Banks
 use Rattle.bank.proofs.validate.Goals as goal
 use Rattle.bank.proofs.Laws.{data-good, data-bad, header-bad}
 use mathlib.Core.Path.{sym, ◌∙◌}

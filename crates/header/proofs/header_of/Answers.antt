@@ -1,10 +1,7 @@
 -- One case for each guard, in the order of the definition: mark, seal, span, source; and good if all pass. Test 5 bounds the count, which
 -- the loop over the records needs.
-use Rattle.std.proofs.Common.{rules, ◌≡◌, ◌+◌, ◌*◌, ◌≤◌, length, ℕ, ◌-◌, ◌<◌, ◌/◌, ◌%◌, Bool, true, false, nat_eq, nat_lt, List, [], ◌∷◌, ◌++◌, slice_index_or, slice_set, bit_and, bit_or, Fits, w8, w32, w64, Bor, MutBor}
-use Rattle.header.specs.Claims.{Claims, SealClaims}
 use Rattle.base.specs.Lists.{each}
-use Rattle.header.specs.Header.{numbers_of, record_at, records_of, marked, seal_of, header_crc, sealed, span_ok, is_unknown, updated_ok, block_ok, source_ok, header_of, max_sources}
-use Rattle.record.specs.Record.{record_size}
+use Rattle.header.specs.Header.{numbers_of, records_of, span_ok, source_ok}
 use Rattle.header.proofs.header_of.Goals as goal
 use Rattle.header.proofs.Laws.{span-count, not-marked, not-sealed, not-spanned, bad-source, all-good}
 use Rattle.header.specs.declared.Validated.TheVariants.{Good}

@@ -1,9 +1,6 @@
 -- The stored CRC is compared with that of the header, whose size follows from the version.
-use Rattle.std.proofs.Common.{rules, ◌≡◌, ◌+◌, ◌*◌, ◌≤◌, length, ℕ, ◌-◌, ◌<◌, ◌/◌, ◌%◌, Bool, true, false, nat_eq, nat_lt, List, [], ◌∷◌, ◌++◌, slice_index_or, slice_set, bit_and, bit_or, Fits, w8, w32, w64, Bor, MutBor}
-use Rattle.header.specs.Claims.{Claims, SealClaims}
-use Rattle.base.specs.Lists.{each}
-use Rattle.header.specs.Header.{numbers_of, record_at, records_of, marked, seal_of, header_crc, sealed, span_ok, is_unknown, updated_ok, block_ok, source_ok, header_of, max_sources}
-use Rattle.record.specs.Record.{record_size}
+use Rattle.std.proofs.Common.{◌≡◌}
+use Rattle.header.specs.Header.{header_crc, sealed}
 use Rattle.header.proofs.is_sealed.Goals as goal
 use Rattle.record.specs.Record.{source_size}
 use Rattle.leaf.specs.Bytes.{word}

@@ -1,9 +1,6 @@
 -- Each number is read at its offset; the time fits an i64, so it is held as it is.
-use Rattle.std.proofs.Common.{rules, ◌≡◌, ◌+◌, ◌*◌, ◌≤◌, length, ℕ, ◌-◌, ◌<◌, ◌/◌, ◌%◌, Bool, true, false, nat_eq, nat_lt, List, [], ◌∷◌, ◌++◌, slice_index_or, slice_set, bit_and, bit_or, Fits, w8, w32, w64, Bor, MutBor, ℤ, pos, ◌+ℤ◌, ◌-ℤ◌, ◌*ℤ◌, ◌≤ℤ◌, ◌<ℤ◌, FitsSigned, to_z, of_z}
-use Rattle.header.specs.Claims.{Claims, SealClaims}
-use Rattle.base.specs.Lists.{each}
-use Rattle.header.specs.Header.{numbers_of, record_at, records_of, marked, seal_of, header_crc, sealed, span_ok, is_unknown, updated_ok, block_ok, source_ok, header_of, max_sources}
-use Rattle.record.specs.Record.{record_size}
+use Rattle.std.proofs.Common.{w64}
+use Rattle.header.specs.Header.{numbers_of}
 use Rattle.header.proofs.numbers_of.Goals as goal
 use mir.ValLaws.{to_z-of_z}
 use mathlib.Core.Path.{◌∙◌}

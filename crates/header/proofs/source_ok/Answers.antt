@@ -1,9 +1,6 @@
 -- The five tests of a source are those of the definition; the times are held as they are, since they fit an i64.
-use Rattle.std.proofs.Common.{rules, ◌≡◌, ◌+◌, ◌*◌, ◌≤◌, length, ℕ, ◌-◌, ◌<◌, ◌/◌, ◌%◌, Bool, true, false, nat_eq, nat_lt, List, [], ◌∷◌, ◌++◌, slice_index_or, slice_set, bit_and, bit_or, Fits, w8, w32, w64, Bor, MutBor, ℤ, pos, ◌+ℤ◌, ◌-ℤ◌, ◌*ℤ◌, ◌≤ℤ◌, ◌<ℤ◌, FitsSigned, to_z, of_z}
-use Rattle.header.specs.Claims.{Claims, SealClaims}
-use Rattle.base.specs.Lists.{each}
-use Rattle.header.specs.Header.{numbers_of, record_at, records_of, marked, seal_of, header_crc, sealed, span_ok, is_unknown, updated_ok, block_ok, source_ok, header_of, max_sources}
-use Rattle.record.specs.Record.{record_size}
+use Rattle.std.proofs.Common.{rules, ◌≡◌, w64}
+use Rattle.header.specs.Header.{updated_ok, source_ok}
 use Rattle.header.proofs.source_ok.Goals as goal
 use mir.ValLaws.{to_z-of_z}
 use mathlib.Core.Path.{◌∙◌}
@@ -12,7 +9,7 @@ pub returns : goal.returns
 unfolding source_ok
 returns c =
     let a = c.args in
-    let x = to_z-of_z w64 a.b.checked (record { sfits = c.struct_told-1.given.1.1.1.1.1.1.1.0.1 }) in
-    let y = to_z-of_z w64 a.s.updated (record { sfits = c.struct_told-2-1.given.1.1.1.0.1 }) in
+    let x = to_z-of_z w64 a.b.checked (record { sfits = search rules }) in
+    let y = to_z-of_z w64 a.s.updated (record { sfits = search rules }) in
     let t : c.updated_ok.result ≡ updated_ok a.b.checked a.s.updated = c.updated_ok.ensures ∙ rw (x, y) in
     rw (c.valid_date.ensures, c.valid_date-2.ensures, t, c.blocks_ok.ensures)

@@ -1,7 +1,4 @@
 -- A good header gives a state with no byte hashed, a refused one the refusal and a state of no bank.
-use Rattle.std.proofs.Common.{rules, ◌≡◌, ◌+◌, ◌-◌, ◌≤◌, length, min, ℕ, ◌*◌, ◌<◌, ◌/◌, ◌%◌, Bool, true, false, nat_eq, nat_lt, List, [], ◌∷◌, ◌++◌, slice_index_or, slice_set, bit_and, bit_or, Fits, w8, w32, w64, Bor, MutBor}
-use Rattle.bank.specs.Claims.{Claims}
-use Rattle.bank.specs.Turns as Turns
 use Rattle.bank.proofs.turns.check_start.Goals as goal
 use Rattle.bank.proofs.Cases.{start-good, start-bad}
 use mathlib.Core.Path.{sym, ◌∙◌}

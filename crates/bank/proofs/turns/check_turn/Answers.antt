@@ -1,10 +1,6 @@
 -- One case for each guard: the region's length, the state's ranges, the header; then the turn on the bank.
-use Rattle.std.proofs.Common.{rules, ◌≡◌, ◌+◌, ◌-◌, ◌≤◌, length, min, ℕ, ◌*◌, ◌<◌, ◌/◌, ◌%◌, Bool, true, false, nat_eq, nat_lt, List, [], ◌∷◌, ◌++◌, slice_index_or, slice_set, bit_and, bit_or, Fits, w8, w32, w64, Bor, MutBor}
-use Rattle.bank.specs.Claims.{Claims}
-use Rattle.bank.specs.Turns as Turns
 use Rattle.bank.proofs.turns.check_turn.Goals as goal
 use Rattle.header.specs.Header.{header_of}
-use borrow.Author.Tests.{not-true, not-false}
 use borrow.Author.Tests.{eq-eqb, ne_eqb}
 use Rattle.bank.proofs.Cases.{turn-no-region, turn-forged, turn-bank, turn-bad}
 use mathlib.Core.Path.{sym, ap, ◌∙◌}

@@ -1,7 +1,5 @@
 -- The next bytes, at most n, are a part of the data; hashing them continues the CRC, and the position goes on by as many.
-use Rattle.std.proofs.Common.{rules, ◌≡◌, ◌+◌, ◌-◌, ◌≤◌, length, min, ℕ, ◌*◌, ◌<◌, ◌/◌, ◌%◌, Bool, true, false, nat_eq, nat_lt, List, [], ◌∷◌, ◌++◌, slice_index_or, slice_set, bit_and, bit_or, Fits, w8, w32, w64, Bor, MutBor}
-use Rattle.bank.specs.Claims.{Claims}
-use Rattle.bank.specs.Turns as Turns
+use Rattle.std.proofs.Common.{◌≡◌, ◌+◌}
 use Rattle.bank.proofs.turns.hashed.Goals as goal
 use Rattle.bank.specs.Turns.{count_of, hashed}
 use Rattle.bank.specs.Bank.{data_in}

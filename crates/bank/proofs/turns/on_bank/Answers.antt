@@ -1,7 +1,4 @@
 -- By the position: past the data it is refused, at their end the CRCs decide, before it bytes are hashed.
-use Rattle.std.proofs.Common.{rules, ◌≡◌, ◌+◌, ◌-◌, ◌≤◌, length, min, ℕ, ◌*◌, ◌<◌, ◌/◌, ◌%◌, Bool, true, false, nat_eq, nat_lt, List, [], ◌∷◌, ◌++◌, slice_index_or, slice_set, bit_and, bit_or, Fits, w8, w32, w64, Bor, MutBor}
-use Rattle.bank.specs.Claims.{Claims}
-use Rattle.bank.specs.Turns as Turns
 use Rattle.bank.proofs.turns.on_bank.Goals as goal
 use borrow.Author.Tests.{eq-eqb, ne_eqb, lt-leb, le-leb}
 use Rattle.bank.proofs.Cases.{past-data, verdict-yes, verdict-no, some_left}

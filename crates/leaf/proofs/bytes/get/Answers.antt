@@ -1,9 +1,6 @@
 -- The four bytes from i on, each 0 past the end, add up to `word` (`word_of`); no sum overflows since each byte is below 256.
-use Rattle.std.proofs.Common.{rules, ◌≡◌, ◌+◌, ◌<◌, ◌≤◌, true, drop, nat_le, ℕ, ◌-◌, ◌*◌, length, ◌/◌, ◌%◌, Bool, false, nat_eq, nat_lt, List, [], ◌∷◌, ◌++◌, slice_index_or, slice_set, bit_and, bit_or, Fits, w8, w32, w64, Bor, MutBor}
-use Rattle.leaf.specs.Claims.{Numbers}
+use Rattle.std.proofs.Common.{ℕ, List}
 use Rattle.base.specs.Lists.{byte}
-use Rattle.leaf.specs.Bytes as Bytes
-use Rattle.base.specs.Number as Number
 use Rattle.leaf.proofs.bytes.get.Goals as goal
 use Rattle.std.proofs.Common.{ap, ◌∙◌}
 use Rattle.leaf.proofs.Steps.{word_of}

@@ -1,9 +1,5 @@
 -- Two 32-bit numbers make one of 64 bits, whose signed reading is `time` (`time-of`); the result fits an i64 (`kept`).
-use Rattle.std.proofs.Common.{rules, ◌≡◌, ◌+◌, ◌<◌, ◌≤◌, true, drop, nat_le, ℕ, ◌-◌, ◌*◌, length, ◌/◌, ◌%◌, Bool, false, nat_eq, nat_lt, List, [], ◌∷◌, ◌++◌, slice_index_or, slice_set, bit_and, bit_or, Fits, w8, w32, w64, Bor, MutBor, ℤ, pos, ◌+ℤ◌, ◌-ℤ◌, ◌*ℤ◌, ◌≤ℤ◌, ◌<ℤ◌, FitsSigned, to_z, of_z}
-use Rattle.leaf.specs.Claims.{Numbers}
-use Rattle.base.specs.Lists.{byte}
-use Rattle.leaf.specs.Bytes as Bytes
-use Rattle.base.specs.Number as Number
+use Rattle.std.proofs.Common.{◌+◌, ◌<◌, ℕ, ◌*◌, List, w64, ℤ, to_z, of_z}
 use Rattle.leaf.proofs.bytes.get_time.Goals as goal
 use Rattle.std.proofs.Common.{ap, ◌∙◌, arith}
 use Rattle.leaf.specs.Bytes.{word}

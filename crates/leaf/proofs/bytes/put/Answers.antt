@@ -1,11 +1,6 @@
 -- If there is space for four bytes, the four stores are `written` (`put4`); else `written` changes nothing.
-use Rattle.std.proofs.Common.{rules, ◌≡◌, ◌+◌, ◌<◌, ◌≤◌, true, drop, nat_le, ℕ, ◌-◌, ◌*◌, length, ◌/◌, ◌%◌, Bool, false, nat_eq, nat_lt, List, [], ◌∷◌, ◌++◌, slice_index_or, slice_set, bit_and, bit_or, Fits, w8, w32, w64, Bor, MutBor}
-use Rattle.leaf.specs.Claims.{Numbers}
-use Rattle.base.specs.Lists.{byte}
-use Rattle.leaf.specs.Bytes as Bytes
-use Rattle.base.specs.Number as Number
 use Rattle.leaf.proofs.bytes.put.Goals as goal
-use Rattle.std.proofs.Common.{sym, ◌∙◌, arith, length-set}
+use Rattle.std.proofs.Common.{sym, ◌∙◌}
 use Rattle.leaf.specs.Bytes.{le32}
 use Rattle.leaf.proofs.Laws.{written-not, length-le32}
 use Rattle.leaf.proofs.Steps.{put4}

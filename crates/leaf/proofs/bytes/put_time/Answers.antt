@@ -1,11 +1,7 @@
 -- If there is space for eight bytes, the stores of both halves are `written` (`put8`); else `written` changes nothing.
-use Rattle.std.proofs.Common.{rules, ◌≡◌, ◌+◌, ◌<◌, ◌≤◌, true, drop, nat_le, ℕ, ◌-◌, ◌*◌, length, ◌/◌, ◌%◌, Bool, false, nat_eq, nat_lt, List, [], ◌∷◌, ◌++◌, slice_index_or, slice_set, bit_and, bit_or, Fits, w8, w32, w64, Bor, MutBor, ℤ, pos, ◌+ℤ◌, ◌-ℤ◌, ◌*ℤ◌, ◌≤ℤ◌, ◌<ℤ◌, FitsSigned, to_z, of_z}
-use Rattle.leaf.specs.Claims.{Numbers}
-use Rattle.base.specs.Lists.{byte}
-use Rattle.leaf.specs.Bytes as Bytes
-use Rattle.base.specs.Number as Number
+use Rattle.std.proofs.Common.{w64}
 use Rattle.leaf.proofs.bytes.put_time.Goals as goal
-use Rattle.std.proofs.Common.{sym, ap, ◌∙◌, arith}
+use Rattle.std.proofs.Common.{sym, ap, ◌∙◌}
 use mir.ValLaws.{to_z-of_z}
 use Rattle.base.specs.Number.{unsigned}
 use Rattle.leaf.specs.Bytes.{le64}

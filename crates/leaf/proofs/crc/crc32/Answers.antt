@@ -1,7 +1,4 @@
 -- The register is started from the complement of `start` and complemented at the end, which is `crc32-run`.
-use Rattle.std.proofs.Common.{rules, ◌≡◌, ℕ, ◌+◌, ◌-◌, ◌*◌, ◌<◌, ◌≤◌, length, ◌/◌, ◌%◌, Bool, true, false, nat_eq, nat_lt, List, [], ◌∷◌, ◌++◌, slice_index_or, slice_set, bit_and, bit_or, Fits, w8, w32, w64, Bor, MutBor}
-use Rattle.leaf.specs.Claims.{Crc}
-use Rattle.leaf.specs.CrcParts.{CrcParts}
 use Rattle.leaf.proofs.crc.crc32.Goals as goal
 use Rattle.std.proofs.Common.{mod-eq_of_lt}
 use Rattle.leaf.proofs.Shift.{crc32-run}

@@ -1,7 +1,5 @@
 -- As `crc32`, for two registers at once: each is started from its complement and complemented at the end.
-use Rattle.std.proofs.Common.{rules, ◌≡◌, ℕ, ◌+◌, ◌-◌, ◌*◌, ◌<◌, ◌≤◌, length, ◌/◌, ◌%◌, Bool, true, false, nat_eq, nat_lt, List, [], ◌∷◌, ◌++◌, slice_index_or, slice_set, bit_and, bit_or, Fits, w8, w32, w64, Bor, MutBor}
-use Rattle.leaf.specs.Claims.{Crc}
-use Rattle.leaf.specs.CrcParts.{CrcParts}
+use Rattle.std.proofs.Common.{◌≡◌, ℕ, ◌-◌, ◌<◌, List}
 use Rattle.leaf.proofs.crc.crc32_both.Goals as goal
 use Rattle.std.proofs.Common.{◌^◌, sym, ap, ◌∙◌, mod-eq_of_lt}
 use Rattle.checksum.specs.Register.{run}

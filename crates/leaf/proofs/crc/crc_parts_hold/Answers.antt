@@ -1,6 +1,3 @@
-use Rattle.std.proofs.Common.{rules, ◌≡◌, ℕ, ◌+◌, ◌-◌, ◌*◌, ◌<◌, ◌≤◌, length, ◌/◌, ◌%◌, Bool, true, false, nat_eq, nat_lt, List, [], ◌∷◌, ◌++◌, slice_index_or, slice_set, bit_and, bit_or, Fits, w8, w32, w64, Bor, MutBor}
-use Rattle.leaf.specs.Claims.{Crc}
-use Rattle.leaf.specs.CrcParts.{CrcParts}
 use Rattle.leaf.proofs.crc.crc_parts_hold.Goals as goal
 use Rattle.leaf.proofs.Checksum.{empty-before, empty-between, empty-after, crc32-none, crc32-zero, after-zero}
 

@@ -1,7 +1,6 @@
 -- Three cases: a year past 9999 is no date's; else the number's parts make a date, or they don't, and `is_date` says the same.
-use Rattle.std.proofs.Common.{rules, ◌≡◌, ◌∷◌, slice_index, ℕ, ◌+◌, ◌-◌, ◌*◌, ◌<◌, ◌≤◌, length, ◌/◌, ◌%◌, Bool, true, false, nat_eq, nat_lt, List, [], ◌++◌, slice_index_or, slice_set, bit_and, bit_or, Fits, w8, w32, w64, Bor, MutBor}
-use Rattle.leaf.specs.Claims.{Dates}
-use Rattle.leaf.specs.Date.{leap, month_days, new_date, valid_date}
+use Rattle.std.proofs.Common.{◌/◌, ◌%◌}
+use Rattle.leaf.specs.Date.{valid_date}
 use Rattle.leaf.proofs.date.valid_date.Goals as goal
 use Rattle.std.proofs.Common.{sym, ◌∙◌, arith}
 use Rattle.leaf.proofs.Steps.{late, made-is, invalid-is}

@@ -1,6 +1,4 @@
-use Rattle.std.proofs.Common.{rules, ◌≡◌, ℕ, ◌+◌, ◌-◌, ◌*◌, ◌<◌, ◌≤◌, length, ◌/◌, ◌%◌, Bool, true, false, nat_eq, nat_lt, List, [], ◌∷◌, ◌++◌, slice_index_or, slice_set, bit_and, bit_or, Fits, w8, w32, w64, Bor, MutBor}
-use Rattle.leaf.specs.Claims.{Generations}
-use Rattle.leaf.specs.Generation as Generation
+use Rattle.std.proofs.Common.{rules, ◌≡◌}
 use Rattle.leaf.proofs.generation.newer.Goals as goal
 use Rattle.base.specs.Number.{wrapping_sub32}
 use Rattle.leaf.specs.Generation.{newer}

@@ -1,7 +1,5 @@
 -- The code's test is `is_date` (`date-test`): `month_days` gives 0 for a month that there isn't, so no day passes.
-use Rattle.std.proofs.Common.{rules, ◌≡◌, ◌∷◌, slice_index, ℕ, ◌+◌, ◌-◌, ◌*◌, ◌<◌, ◌≤◌, length, ◌/◌, ◌%◌, Bool, true, false, nat_eq, nat_lt, List, [], ◌++◌, slice_index_or, slice_set, bit_and, bit_or, Fits, w8, w32, w64, Bor, MutBor}
-use Rattle.leaf.specs.Claims.{Dates}
-use Rattle.leaf.specs.Date.{leap, month_days, new_date, valid_date}
+use Rattle.std.proofs.Common.{◌≡◌, true, false}
 use Rattle.leaf.proofs.date.Date.new.Goals as goal
 use Rattle.std.proofs.Common.{sym, ◌∙◌}
 use Rattle.leaf.specs.Date.{is_date}
