@@ -1,3 +1,4 @@
+-- The data is a part of the bank's bytes, after its header sector.
 use Rattle.std.proofs.Common.{ℕ, List}
 use Rattle.bank.proofs.data_in.Goals as goal
 use Rattle.region.specs.Region.{data_of, sector_size}

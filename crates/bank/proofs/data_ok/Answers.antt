@@ -1,3 +1,4 @@
+-- The CRC of the data is compared with the header's.
 use Rattle.bank.proofs.data_ok.Goals as goal
 use Rattle.bank.specs.Bank.{data_ok}
 

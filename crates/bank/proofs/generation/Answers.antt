@@ -1,3 +1,4 @@
+-- The word is read from the bank's bytes, at the offset of the definition.
 use Rattle.std.proofs.Common.{ℕ, List}
 use Rattle.bank.proofs.generation.Goals as goal
 use Rattle.leaf.specs.Bytes.{word}

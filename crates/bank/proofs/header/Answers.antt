@@ -1,3 +1,4 @@
+-- By cases: no region, no such bank, or the tests of the header: three cases of Laws.antt.
 use Rattle.bank.proofs.header.Goals as goal
 use Rattle.header.specs.Header.{header_of}
 use Rattle.bank.proofs.Laws.{no-region, no-bank, named-is}

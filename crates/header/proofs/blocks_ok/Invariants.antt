@@ -1,3 +1,4 @@
+-- `ok` says whether the first j blocks pass; j goes up to 8.
 use Rattle.base.specs.Lists.{each}
 use lib.ListN.{take}
 use Prim.Native.Nat.{◌≤◌, ◌-◌}

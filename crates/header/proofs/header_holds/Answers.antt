@@ -1,3 +1,4 @@
+-- What holds of a header as written is proved in WriteLaws.antt.
 use Rattle.header.proofs.header_holds.Goals as goal
 use Rattle.header.proofs.WriteLaws.{blank-refused, header-back, committed}
 

@@ -1,3 +1,4 @@
+-- The bytes from the offset to the end of the bank are all bytes from there on (`take_all`), and those are decoded.
 use Rattle.std.proofs.Common.{length}
 use Rattle.header.specs.Header.{record_at}
 use Rattle.header.proofs.record_at.Goals as goal

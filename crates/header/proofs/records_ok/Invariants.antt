@@ -1,3 +1,4 @@
+-- `ok` says whether the first i records pass, and `at` is the offset of record i; i goes up to n.
 use Rattle.base.specs.Lists.{each}
 use Prim.Native.Nat.{◌+◌, ◌*◌, ◌-◌, ◌≤◌}
 use Rattle.header.specs.Header.{records_of, source_ok}

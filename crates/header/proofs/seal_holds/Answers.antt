@@ -1,3 +1,4 @@
+-- What holds of the header CRC is proved in Parts.antt.
 use Rattle.header.proofs.seal_holds.Goals as goal
 use mathlib.Core.Path.{refl}
 use Rattle.header.proofs.Parts.{sealed-as, seal-in-parts}

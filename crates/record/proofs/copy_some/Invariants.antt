@@ -1,3 +1,4 @@
+-- The first j bytes are copied, zeros past the end of s, and the others are as before; j goes up to n.
 use mathlib.Core.Path.{◌≡◌}
 use mathlib.Core.List.{◌++◌}
 use Prim.Native.Nat.{◌≤◌, ◌-◌}

@@ -1,3 +1,4 @@
+-- The first j bytes are copied and the others are as before; j goes up to n.
 use Rattle.base.specs.Lists.{many, byte}
 use lib.ListN.{drop}
 use Prim.Native.Nat.{◌≤◌, ◌-◌}

@@ -1,3 +1,4 @@
+-- Zeros of every field are the source of zeros.
 use Rattle.base.specs.Lists.{fill}
 use Rattle.record.specs.Record.{no_source}
 use Rattle.record.proofs.no_source.Goals as goal

@@ -1,3 +1,4 @@
+-- The four bytes fit, so writing them sets them (`written-sets`).
 use Rattle.leaf.specs.Bytes.{le32}
 use Rattle.record.proofs.put32.Goals as goal
 use Rattle.leaf.proofs.Laws.{written-sets, length-le32}

@@ -1,3 +1,4 @@
+-- The eight bytes fit, so writing them sets them (`written-sets`); the time is held as it is, since it fits an i64.
 use Rattle.std.proofs.Common.{w64, ℤ}
 use Rattle.leaf.specs.Bytes.{le64, written}
 use Rattle.record.proofs.put64.Goals as goal

@@ -1,3 +1,4 @@
+-- The first j blocks are written, one after the other from `at` on; j goes up to 8.
 use mathlib.Core.Path.{◌≡◌}
 use Prim.Native.Nat.{◌≤◌, ◌-◌}
 use lib.ListN.{length, take}

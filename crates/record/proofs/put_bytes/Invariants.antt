@@ -1,3 +1,4 @@
+-- The first j bytes are written from `at` on; j goes up to the length.
 use mathlib.Core.Path.{◌≡◌}
 use Prim.Native.Nat.{◌≤◌, ◌-◌}
 use lib.ListN.{length, take}

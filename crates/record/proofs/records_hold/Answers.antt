@@ -1,3 +1,4 @@
+-- The laws of records are those of Back.antt.
 use Rattle.record.proofs.records_hold.Goals as goal
 use Rattle.record.proofs.Back.{reads-back, version-1, seven-tables}
 

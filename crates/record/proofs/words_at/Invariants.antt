@@ -1,3 +1,4 @@
+-- The first j numbers are read, the others are as in the new array; j goes up to n.
 use mathlib.Core.Path.{◌≡◌}
 use mathlib.Core.List.{◌++◌}
 use Prim.Native.Nat.{◌≤◌, ◌-◌}

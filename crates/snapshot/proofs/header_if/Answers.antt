@@ -1,3 +1,4 @@
+-- By cases: the other arguments fit, so the bank's own tests decide; no region; an argument refused.
 use Rattle.snapshot.proofs.header_if.Goals as goal
 use Rattle.snapshot.specs.Freshness.{named_if}
 use borrow.Author.Tests.{eq-eqb, ne_eqb}

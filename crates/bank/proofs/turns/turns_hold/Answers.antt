@@ -1,3 +1,4 @@
+-- A good beginning is a state with no byte hashed (`start-good`); that the turns give the verdict of `validate` is proved in Sequence.antt.
 use Rattle.bank.proofs.turns.turns_hold.Goals as goal
 use mathlib.Core.Path.{sym, ap}
 use Rattle.bank.specs.declared.turns.Turn.{Turn}

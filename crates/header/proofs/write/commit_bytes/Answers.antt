@@ -1,3 +1,4 @@
+-- The four bytes are those of the commit word, the lowest first; both sides compute to the same list.
 use Rattle.header.specs.WriteHeader.{commit_bytes}
 use Rattle.header.proofs.write.commit_bytes.Goals as goal
 use mathlib.Core.Path.{refl}

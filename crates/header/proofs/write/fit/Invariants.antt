@@ -1,3 +1,4 @@
+-- The two flags say whether the first i records pass 6 and have texts of allowed length; i goes up to n.
 use mathlib.Core.Path.{◌≡◌}
 use Prim.Native.Nat.{◌-◌, ◌≤◌}
 use lib.ListN.{take}

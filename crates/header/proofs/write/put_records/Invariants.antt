@@ -1,3 +1,4 @@
+-- The first i records are written from 48 on, 384 bytes each; i goes up to n.
 use mathlib.Core.Path.{◌≡◌}
 use Prim.Native.Nat.{◌*◌, ◌-◌, ◌≤◌}
 use lib.ListN.{length, take}

@@ -1,3 +1,4 @@
+-- The laws of numbers in bytes are those of Laws.antt.
 use Rattle.leaf.proofs.bytes.numbers_hold.Goals as goal
 use Rattle.leaf.proofs.Laws.{word-back, time-back, written-other, word_lt, time-fits}
 

@@ -1,3 +1,4 @@
+-- What is promised of empty parts and of zero is proved in Checksum.antt.
 use Rattle.leaf.proofs.crc.crc_parts_hold.Goals as goal
 use Rattle.leaf.proofs.Checksum.{empty-before, empty-between, empty-after, crc32-none, crc32-zero, after-zero}
 

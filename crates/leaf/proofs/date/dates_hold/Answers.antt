@@ -1,3 +1,4 @@
+-- The two laws of dates are those of Laws.antt.
 use Rattle.leaf.proofs.date.dates_hold.Goals as goal
 use Rattle.leaf.proofs.Laws.{date-of, date-parts}
 

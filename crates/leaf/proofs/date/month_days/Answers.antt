@@ -1,3 +1,4 @@
+-- By cases: no such month (`no-month`), February of a leap year (`leap-day`), any other month, read from the table (`common-day`).
 use Rattle.leaf.proofs.date.month_days.Goals as goal
 use Rattle.std.proofs.Common.{arith}
 use Rattle.leaf.proofs.Steps.{no-month, leap-day, common-day}

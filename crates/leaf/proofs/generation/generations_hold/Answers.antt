@@ -1,3 +1,4 @@
+-- The three laws of generations are those of Laws.antt.
 use Rattle.leaf.proofs.generation.generations_hold.Goals as goal
 use Rattle.leaf.proofs.Laws.{newer-irrefl, newer-asym, newer-next}
 

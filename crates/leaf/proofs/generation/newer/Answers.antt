@@ -1,3 +1,5 @@
+-- The code's wrapping difference is the definition's (`diff`), and its test of the sign bit is that the difference is above zero
+-- (`positive`).
 use Rattle.std.proofs.Common.{rules, ◌≡◌}
 use Rattle.leaf.proofs.generation.newer.Goals as goal
 use Rattle.base.specs.Number.{wrapping_sub32}

@@ -1,3 +1,4 @@
+-- The next generation is one more, wrapping, which is what the library promises of `wrapping_add_u32`.
 use Rattle.leaf.proofs.generation.next.Goals as goal
 use Rattle.leaf.specs.Generation.{next}
 

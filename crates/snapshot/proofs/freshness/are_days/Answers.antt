@@ -1,3 +1,4 @@
+-- The three dates are tested one by one, as the definition does.
 use Rattle.base.specs.Lists.{each}
 use Rattle.snapshot.proofs.freshness.are_days.Goals as goal
 

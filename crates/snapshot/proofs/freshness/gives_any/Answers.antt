@@ -1,3 +1,4 @@
+-- The three days are tested one by one, as the definition does.
 use Rattle.snapshot.proofs.freshness.gives_any.Goals as goal
 use Rattle.snapshot.specs.Freshness.{gives_any}
 

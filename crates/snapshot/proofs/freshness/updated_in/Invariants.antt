@@ -1,3 +1,4 @@
+-- Going on from the state after i records, at their offset, gives what starting from the first gives; i goes up to n.
 use Rattle.header.specs.Header.{record_at}
 use Rattle.base.specs.Lists.{many}
 use Prim.Native.Nat.{◌+◌, ◌*◌, ◌-◌, ◌≤◌}

@@ -1,3 +1,4 @@
+-- The key is a part of the bank's bytes, the first of its data.
 use Rattle.std.proofs.Common.{ℕ, List}
 use Rattle.snapshot.proofs.keymatch.key_in.Goals as goal
 use Rattle.snapshot.specs.KeyMatch.{key_in}

@@ -1,3 +1,4 @@
+-- The first i records are read, the others are as in the new array; i goes up to n.
 use mathlib.Core.Path.{◌≡◌}
 use mathlib.Core.List.{◌++◌}
 use Prim.Native.Nat.{◌-◌, ◌≤◌}

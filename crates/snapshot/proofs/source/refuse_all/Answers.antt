@@ -1,3 +1,4 @@
+-- A new array of one source three times is the list of three (`replicate-fill`), and that source is zeros.
 use Rattle.std.proofs.Common.{List}
 use Rattle.record.specs.Record.{no_source}
 use Rattle.snapshot.proofs.source.refuse_all.Goals as goal
