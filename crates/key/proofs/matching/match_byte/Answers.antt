@@ -1,3 +1,4 @@
+-- By cases: a stored key that ends too soon differs, else the byte there is compared.
 use Rattle.std.proofs.Common.{[], ◌∷◌}
 use Rattle.key.proofs.matching.match_byte.Goals as goal
 use native.Mathlib.Omega.{arith}

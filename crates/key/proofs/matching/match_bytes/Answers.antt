@@ -32,9 +32,11 @@ returns-then-stored-at-2 c =
 pub returns-then-same_bytes : goal.returns-then-same_bytes
 returns-then-same_bytes c =
     let a = c.args in
-    matches a.stored.now a.at a.s.now (a.at + length a.s.now) refl (sym (compared a.stored.now a.s.now a.at c.same_bytes.result c.same_bytes.ensures) ∙ c.if-same_bytes.true)
+    let e = compared a.stored.now a.s.now a.at c.same_bytes.result c.same_bytes.ensures in
+    matches a.stored.now a.at a.s.now (a.at + length a.s.now) refl (sym e ∙ c.if-same_bytes.true)
 
 pub returns : goal.returns
 returns c =
     let a = c.args in
-    differs a.stored.now a.at a.s.now (sym (compared a.stored.now a.s.now a.at c.same_bytes.result c.same_bytes.ensures) ∙ c.if-same_bytes.false)
+    let e = compared a.stored.now a.s.now a.at c.same_bytes.result c.same_bytes.ensures in
+    differs a.stored.now a.at a.s.now (sym e ∙ c.if-same_bytes.false)

@@ -1,3 +1,4 @@
+-- The first f fields match, up to offset `to`; the fields left fall.
 use mathlib.Core.Path.{◌≡◌}
 use Prim.Native.Nat.{◌≤◌, ◌-◌}
 use lib.ListN.{take}

@@ -1,3 +1,4 @@
+-- Inserting the pick leaves the first k as they are and inserts it among the rest; the picks left fall.
 use mathlib.Core.Path.{◌≡◌}
 use mathlib.Core.List.{◌++◌, map}
 use Prim.Native.Nat.{◌-◌, ◌≤◌}

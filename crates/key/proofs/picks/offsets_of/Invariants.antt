@@ -1,3 +1,4 @@
+-- The offsets before i are stored, and `at` is offset i; the offsets left fall.
 use mathlib.Core.Path.{◌≡◌}
 use Prim.Native.Nat.{ℕ, ◌+◌, ◌-◌, ◌≤◌, ◌<◌}
 use lib.ListN.{length, get_or}

@@ -1,3 +1,4 @@
+-- The bytes before i are equal, so the order is that of the rests; the bytes left fall.
 use mathlib.Core.Path.{◌≡◌}
 use Prim.Native.Nat.{◌≤◌, ◌-◌, compare}
 use lib.ListN.{length, drop}

@@ -1,3 +1,4 @@
+-- The fields before f are equal, so the order is that of the rests; the fields left fall.
 use mathlib.Core.Path.{◌≡◌}
 use Prim.Native.Nat.{◌≤◌, ◌-◌}
 use lib.ListN.{drop}

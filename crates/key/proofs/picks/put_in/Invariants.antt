@@ -1,3 +1,5 @@
+-- The invariant: the list up to j, and then `next`, is the old list up to j with v inserted at k; from j on it is unchanged. The steps
+-- left fall.
 use mathlib.Core.Path.{◌≡◌}
 use mathlib.Core.List.{[], ◌∷◌, ◌++◌}
 use Prim.Native.Nat.{ℕ, ◌-◌, ◌≤◌}

@@ -1,3 +1,4 @@
+-- The first k texts are within their sizes; the texts left fall.
 use mathlib.Core.Path.{◌≡◌}
 use mathlib.Core.Bool.{true}
 use Prim.Native.Nat.{◌≤◌, ◌-◌}

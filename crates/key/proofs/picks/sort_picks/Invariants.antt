@@ -1,3 +1,4 @@
+-- The first m numbers mean the sorted, distinct picks from i on; i falls.
 use mathlib.Core.Path.{◌≡◌}
 use Prim.Native.Nat.{◌+◌, ◌≤◌}
 use lib.ListN.{length, drop}

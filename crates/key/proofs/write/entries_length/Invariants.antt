@@ -1,3 +1,4 @@
+-- `bytes` is the length of the first k entries joined, at most 141 k; the picks left fall.
 use mathlib.Core.Path.{◌≡◌}
 use mathlib.Core.List.{map}
 use Prim.Native.Nat.{◌*◌, ◌-◌, ◌≤◌}

@@ -1,3 +1,4 @@
+-- No identity, no prefix. Else the prefix is three bytes and the identity.
 use Rattle.std.proofs.Common.{length}
 use Rattle.key.proofs.write.prefix_length.Goals as goal
 use mathlib.Core.Path.{ap}

@@ -1,3 +1,4 @@
+-- The first i bytes of s are written at `at`; the bytes left fall.
 use mathlib.Core.Path.{◌≡◌}
 use Prim.Native.Nat.{◌-◌, ◌≤◌}
 use lib.ListN.{length, take}

@@ -1,3 +1,4 @@
+-- The first f fields are written, up to offset `to`; the fields left fall.
 use Rattle.leaf.specs.Bytes.{written}
 use mathlib.Core.Path.{◌≡◌}
 use Prim.Native.Nat.{◌+◌, ◌≤◌, ◌-◌}

@@ -1,3 +1,4 @@
+-- The first k sorted picks are written, up to offset `to`; the picks left fall.
 use mathlib.Core.Path.{◌≡◌}
 use mathlib.Core.List.{map}
 use Prim.Native.Nat.{◌+◌, ◌-◌, ◌≤◌}

@@ -34,10 +34,11 @@ put_bytes-requires c = simp length-set (omega (arith, enough c.args.identity.now
 
 pub returns : goal.returns
 returns c =
-    let k = c in
-    let a = k.args in
+    let a = c.args in
     let id = a.identity.now in
-    let e = prefix-some id (omega arith) in (
+    let e = prefix-some id (omega arith) in
+    let space = enough id a.out.now (omega arith) c.requires in (
       omega (arith, ap length e),
-      c.put_bytes.ensures ∙ put_three a.out.now 255 (length id % 256) (length id / 256 % 256) id (enough k.args.identity.now k.args.out.now (omega arith) k.requires) ∙ ap (written a.out.now 0) (sym e),
+      c.put_bytes.ensures ∙ put_three a.out.now 255 (length id % 256) (length id / 256 % 256) id space
+          ∙ ap (written a.out.now 0) (sym e),
     )
