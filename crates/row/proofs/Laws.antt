@@ -4,7 +4,7 @@ use Prim.Native.Nat.{ℕ, zero, suc, ◌+◌, ◌-◌, ◌*◌, ◌/◌, ◌≤�
 use native.Mathlib.Omega.{arith}
 use native.Mathlib.Decide.{dec_lt}
 use native.Mathlib.Numerals.{add-one}
-use native.Mathlib.Nat.{add-zero, add-suc}
+use native.Mathlib.Nat.{add-zero}
 use mathlib.Core.Bool.{Bool, true, false, ◌||◌, true≢false, or_assoc, or-false, or-true}
 use mathlib.Core.Path.{◌≡◌, refl, sym, ap, ◌∙◌}
 use mathlib.Core.List.{List, [], ◌∷◌, ◌++◌, append_assoc}
@@ -21,15 +21,6 @@ use Rattle.row.specs.Steps.{has, quoted_of}
 use Rattle.rfc4180.specs.Csv.{quote, comma, carriage_return, line_feed}
 
 -- ---- bytes copied
-
-pub copy_start : (out : List ℕ) (to : ℕ) (v : List ℕ) → sets out to v ≡ sets out (to + 0) v
-copy_start out to v = rw (add-zero to)
-
-pub copy-turn : (out : List ℕ) (to i : ℕ) (v : List ℕ) → i < length v → sets out (to + i) (drop i v) ≡ sets (set out (to + i) (get_or v i 0)) (to + (i + 1)) (drop (i + 1) v)
-copy-turn out to i v h = rw (add-one i, drop-cons v i 0 h, add-suc to i)
-
-pub copy-end : (out : List ℕ) (to i : ℕ) (v : List ℕ) → length v ≤ i → sets out to (drop i v) ≡ out
-copy-end out to i v h = rw (drop_of_length-le v h)
 
 -- the first bytes of an array into which v was stored are v
 pub sets-front : (b v : List ℕ) → length v ≤ length b → take (length v) (sets b 0 v) ≡ v
@@ -54,10 +45,6 @@ copy-overlap out v to i j h g =
     let w : sets out to v ≡ sets (sets out to a) (to + i) c = ap (sets out to) (sym (take-append-drop i v)) ∙ sym (next out a c to i n) in
     let l : length b ≤ length c = omega (arith, length-take (j - i) c) in
     ap (λ (o : List ℕ). sets o (to + i) c) s ∙ sets_over (sets out to a) (to + i) b c l ∙ sym w
-
-pub copy-none : (out : List ℕ) (to : ℕ) (v : List ℕ) → length v ≡ 0 → out ≡ sets out to v
-copy-none out to [] e = refl
-copy-none out to (b ∷ v) e = absurd (omega arith)
 
 -- the first, the middle and the last of 1, 2 or 3 bytes are all
 pub copy-three : (out v : List ℕ) (to : ℕ) → 0 < length v → length v < 4

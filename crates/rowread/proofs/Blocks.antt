@@ -97,6 +97,3 @@ sets-turn out n b v w e = rw (e, add-one n)
 
 pub sets-done : (out : List ℕ) (n : ℕ) (v : List ℕ) → v ≡ [] → sets out n v ≡ out
 sets-done out n v e = rw e
-
-pub ahead-is : (out : List ℕ) (to : ℕ) (v o : List ℕ) → Ahead 0 out to v o → o ≡ sets out to v
-ahead-is out to v o a = a.1 [] (omega arith) ∙ ap (sets out to) (append-nil v)

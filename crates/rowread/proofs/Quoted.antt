@@ -195,9 +195,6 @@ pub written-more : {b : ℕ} {write : Bool} {out v o u p : List ℕ} {to n : ℕ
 written-more {b} {write} {out} {v} {o} {u} {p} {to} {n} a e c =
     record { kept = λ w. c.kept w ∙ a.kept w; ahead = λ w. ahead_more b out to v o (a.ahead w) u p (rw e at (c.ahead w)) }
 
-pub written-weaker : {write : Bool} {out v o : List ℕ} {to : ℕ} (b : ℕ) → Written 0 write out to v o → Written b write out to v o
-written-weaker b a = record { kept = a.kept; ahead = λ w. ((a.ahead w).0, λ rest h. (a.ahead w).1 rest (omega arith)) }
-
 -- a block, of which m bytes are meant
 pub written-block : (write : Bool) (t o p : List ℕ) (from n m : ℕ) → (write ≡ false → p ≡ o) → (write ≡ true → p ≡ sets o n (take 16 (drop from t))) → m ≤ 16 → from + 16 ≤ length t → Written 16 write o n (take m (drop from t)) p
 written-block write t o p from n m f g h l = record { kept = f; ahead = λ w. ahead-block o n m 16 (drop from t) p (g w) h (omega arith) (omega (arith, length-drop from t)) }
@@ -215,9 +212,6 @@ written-length {b} {write} {out} {v} {o} {to} a = go write refl
 
 pub filled : {b : ℕ} {write : Bool} {out o : List ℕ} {to : ℕ} (g : Got) → Written b write out to (value_of g) o → Filled b write out to g o
 filled g a = record { kept = a.kept; same = written-length a; ahead = λ w i. a.ahead w }
-
-pub filled-weaker : {write : Bool} {out o : List ℕ} {to : ℕ} {g : Got} (b : ℕ) → Filled 0 write out to g o → Filled b write out to g o
-filled-weaker b a = record { kept = a.kept; same = a.same; ahead = λ w i. let x = a.ahead w i in (x.0, λ rest h. x.1 rest (omega arith)) }
 
 -- where there is no value nothing is said of what was written
 pub filled-bad : {b : ℕ} {write : Bool} {out o : List ℕ} {to : ℕ} → (write ≡ false → o ≡ out) → length o ≡ length out → Filled b write out to bad o
@@ -314,38 +308,3 @@ module _ {b : ℕ} {write : Bool} {t : List ℕ} {from : ℕ} {out : List ℕ} {
   un-bad h =
       let e : inner (drop from t) ≡ bad = u.on ∙ ap (prefixed u.value) (inner_out t p h) in
       (rw e, rw e (filled-bad u.written.kept (un-length u)))
-
--- ---- the rest of the value, read by itself
-
-pub room-weaker : (b : ℕ) (write : Bool) (t : List ℕ) (from : ℕ) (out : List ℕ) (to : ℕ) → Room b write t from out to → Room 0 write t from out to
-room-weaker b write t from out to r w = go (r w)
-  where
-    go : Fitting b out to (inner (drop from t)) ⊎ Ample b t out → Fitting 0 out to (inner (drop from t)) ⊎ Ample 0 t out
-    go (inl x) = inl (x.0, omega (arith, x.1))
-    go (inr y) = inr (omega (arith, y))
-
-pub rest-room : {b : ℕ} {write : Bool} {t : List ℕ} {from : ℕ} {out : List ℕ} {to : ℕ} {o : List ℕ} {p n : ℕ} → Unquoting b write t from out to o p n → Room b write t from out to → Room 0 write t p o n
-rest-room {b} {write} {t} {o = o} {p = p} {n = n} u r = room-weaker b write t p o n (un-room u r)
-
-module _ {b : ℕ} {write : Bool} {t : List ℕ} {from : ℕ} {out : List ℕ} {to : ℕ} {o : List ℕ} {p n : ℕ} (u : Unquoting b write t from out to o p n) (q : List ℕ) (c : Filled 0 write o n (inner (drop p t)) q) where
-  pub rest-whole : (next size k : ℕ) → to + k ≡ n → Value next size ≡ piece_of (length t) (inner (drop p t)) → (Value next (k + size) ≡ piece_of (length t) (inner (drop from t))) × Filled b write out to (inner (drop from t)) q
-  rest-whole next size k m e = go (inner (drop p t)) refl e c
-    where
-      go : (g : Got) → inner (drop p t) ≡ g → Value next size ≡ piece_of (length t) g → Filled 0 write o n g q → (Value next (k + size) ≡ piece_of (length t) (inner (drop from t))) × Filled b write out to (inner (drop from t)) q
-      go bad i f d = absurd (let z : ◌≡◌ {A = ℕ} 0 1 = cc in omega arith)
-      go (got v s) i f d =
-          let x : inner (drop from t) ≡ got (u.value ++ v) s = u.on ∙ ap (prefixed u.value) i in
-          let y : next ≡ length t - length s = cc in
-          let z : size ≡ length v = cc in
-          let w : length (u.value ++ v) ≡ k + size = omega (arith, length-append u.value v, u.upto, m, z) in
-          let a : Written 0 write o n v q = record { kept = d.kept; ahead = λ z. d.ahead z refl } in
-          (rw (x, w, y), rw x (filled (got (u.value ++ v) s) (written-more u.written u.upto (written-weaker b a))))
-
-  pub rest-bad : Bad ≡ piece_of (length t) (inner (drop p t)) → (Bad ≡ piece_of (length t) (inner (drop from t))) × Filled b write out to (inner (drop from t)) q
-  rest-bad e = go (inner (drop p t)) refl e
-    where
-      go : (g : Got) → inner (drop p t) ≡ g → Bad ≡ piece_of (length t) g → (Bad ≡ piece_of (length t) (inner (drop from t))) × Filled b write out to (inner (drop from t)) q
-      go (got v s) i f = absurd (let z : ◌≡◌ {A = ℕ} 0 1 = cc in omega arith)
-      go bad i f =
-          let x : inner (drop from t) ≡ bad = u.on ∙ ap (prefixed u.value) i in
-          (rw x, rw x (filled-bad (λ w. c.kept w ∙ u.written.kept w) (c.same ∙ un-length u)))

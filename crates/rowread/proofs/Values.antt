@@ -10,7 +10,7 @@ use lib.Seq.{sets, drop-cons, drop-drop, take-suc, take_all, take-take, get_or-t
 use Rattle.rfc4180.proofs.Laws.{sets-append}
 use Rattle.rowread.specs.Steps.{commas_in, text_in, cuts_in, marks_in, Ahead}
 use Rattle.rowread.proofs.Lines.{cuts-size, text-size, marks-last, FirstCut, first-cut, last-cut}
-use Rattle.rowread.proofs.Blocks.{ahead_none, ahead_more}
+use Rattle.rowread.proofs.Blocks.{ahead_more}
 
 -- a part of the first e bytes
 part_in : (from m e : ℕ) (t : List ℕ) → from + m ≤ e → take m (drop from (take e t)) ≡ take m (drop from t)
@@ -28,9 +28,6 @@ pub record Copied (t : List ℕ) (e n : ℕ) (out₀ ends₀ out ends : List ℕ
   pub size : length before ≡ to
   pub bytes : Ahead 16 out₀ 0 before out
   pub marks : ends ≡ sets ends₀ 0 (take k (cuts_in 0 (take e t)))
-
-pub copied-start : (t : List ℕ) (e n : ℕ) (out ends : List ℕ) → Copied t e n out ends out ends 0 0 0
-copied-start t e n out ends = record { inside = omega arith; apart = refl; left = refl; before = []; text = refl; size = refl; bytes = ahead_none 16 out 0; marks = refl }
 
 -- what was asked of the line
 module _ (t : List ℕ) (e n : ℕ) (marks : List ℕ) (h : e ≤ length t) (many : n ≡ commas_in (take e t)) (are : take n marks ≡ cuts_in 0 (take e t)) where
@@ -103,9 +100,6 @@ module _ (t : List ℕ) (e n : ℕ) (marks : List ℕ) (h : e ≤ length t) (man
           last-cut (drop from (take e t)) to none_left
           ∙ sym (take_all (e - from) (drop from (take e t)) (omega (arith, length-drop from (take e t), long)))
           ∙ part_of from (e - from) (omega (arith, a.inside))
-
-      pub last_fits : to + (e - from) ≡ e - n
-      last_fits = omega (arith, sized, ap length a.text, length-append a.before (text_in (drop from (take e t))), a.size, ap length last-is, length-take (e - from) (drop from t), length-drop from t, h, a.inside)
 
       pub copied-end : (o s : List ℕ) → k ≡ n → Ahead 16 out to (take (e - from) (drop from t)) o → s ≡ set ends n (e - n) → Ahead 16 out₀ 0 (text_in (take e t)) o × (s ≡ sets ends₀ 0 (marks_in 0 (take e t)))
       copied-end o s m b q =

@@ -1,3 +1,4 @@
+-- The one claim is a theorem of Names.antt.
 use Rattle.row.proofs.names_hold.Goals as goal
 use Rattle.row.proofs.Names.{names-are-a-row}
 

@@ -1,3 +1,4 @@
+-- A table past the last is refused and the output unchanged (`names-past`), else the line is what `put_line` writes (`names-there`).
 use Rattle.row.specs.Steps.{all_lines}
 use Rattle.row.proofs.names_line.Goals as goal
 use mathlib.Core.Path.{refl}

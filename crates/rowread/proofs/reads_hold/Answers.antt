@@ -1,3 +1,4 @@
+-- Each claim is a theorem of Table.antt.
 use Rattle.rowread.proofs.reads_hold.Goals as goal
 use Rattle.rowread.proofs.Table.{reads-written, reads-table, stored-is-a-row, reads-rows, small-outputs, refuses-others, reads_end, reads_all, stored-limits, refuses-lone-cr}
 

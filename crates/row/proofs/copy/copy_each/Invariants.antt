@@ -1,3 +1,5 @@
+-- Storing the rest of v from `to + i` on gives what storing all of v at `to` gives. The measure is how many bytes are left. Every goal closes
+-- by itself.
 use mathlib.Core.Path.{◌≡◌}
 use Prim.Native.Nat.{◌≤◌, ◌-◌, ◌+◌}
 use lib.ListN.{length, drop}

@@ -1,3 +1,5 @@
+-- Storing the doubled rest from n on gives what storing it after the blocks without a quote gives, which is all of v doubled. The measure is
+-- how many bytes are left.
 use mathlib.Core.Path.{◌≡◌}
 use Prim.Native.Nat.{◌≤◌, ◌-◌, ◌+◌}
 use lib.ListN.{length, drop}

@@ -1,3 +1,5 @@
+-- Storing the doubled rest from `n + i` on gives what storing all of v doubled at `to` gives. n is `to` and the quotes before i. The measure
+-- is how many bytes are left.
 use mathlib.Core.Path.{◌≡◌}
 use Prim.Native.Nat.{◌≤◌, ◌-◌, ◌+◌}
 use lib.ListN.{length, drop}

@@ -1,3 +1,4 @@
+-- The first i bytes are stored and have no quote, so doubling leaves them as they are. The measure is how many bytes are left.
 use mathlib.Core.Path.{◌≡◌}
 use mathlib.Core.List.{◌++◌}
 use Prim.Native.Nat.{◌≤◌, ◌-◌}

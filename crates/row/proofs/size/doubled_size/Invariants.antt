@@ -1,3 +1,4 @@
+-- n is the length of all bytes and of the quotes before i. The measure is how many bytes are left.
 use mathlib.Core.Path.{◌≡◌}
 use Prim.Native.Nat.{◌≤◌, ◌-◌, ◌+◌}
 use lib.ListN.{length, drop}

@@ -1,3 +1,4 @@
+-- n quotes are among the first i bytes, so n + i and the doubled rest have the length of all doubled. The measure is how many bytes are left.
 use mathlib.Core.Path.{◌≡◌}
 use Prim.Native.Nat.{◌≤◌, ◌-◌, ◌+◌}
 use lib.ListN.{length, drop}

@@ -1,3 +1,4 @@
+-- The row has `total` bytes and those of the values left. The measure is how many values are left.
 use mathlib.Core.Path.{◌≡◌}
 use Prim.Native.Nat.{◌≤◌, ◌-◌, ◌+◌}
 use lib.ListN.{length}

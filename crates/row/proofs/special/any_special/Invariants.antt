@@ -1,3 +1,4 @@
+-- None of the first i bytes is special. The measure is how many bytes are left.
 use mathlib.Core.Path.{◌≡◌}
 use mathlib.Core.Bool.{false}
 use Prim.Native.Nat.{◌≤◌, ◌-◌}

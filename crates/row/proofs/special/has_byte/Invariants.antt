@@ -1,3 +1,4 @@
+-- The byte is among all exactly if it was found before i or is among the rest. The measure is how many bytes are left.
 use mathlib.Core.Path.{◌≡◌}
 use mathlib.Core.Bool.{◌||◌}
 use Prim.Native.Nat.{◌≤◌, ◌-◌}

@@ -1,3 +1,4 @@
+-- Storing the row of the values left from `to` on gives what storing the whole row at 0 gives. The measure is how many values are left.
 use mathlib.Core.Path.{◌≡◌}
 use Prim.Native.Nat.{◌≤◌, ◌-◌, ◌+◌}
 use lib.ListN.{length}

@@ -1,3 +1,5 @@
+-- The scan is that of the width - k values from `from` on, with `to` bytes so far, and what is written so far is `RowState`. The measure is
+-- how many values are left.
 use Prim.Native.Nat.{◌-◌, ◌≤◌}
 use mathlib.Core.Path.{◌≡◌}
 use lib.ListN.{length, drop}

@@ -1,3 +1,4 @@
+-- Storing the ends from k on gives what storing all of them at 0 gives. The measure is how many are left.
 use Prim.Native.Nat.{◌-◌, ◌≤◌}
 use mathlib.Core.Path.{◌≡◌}
 use lib.ListN.{length, take, drop}

@@ -1,3 +1,4 @@
+-- The value from `from` on ends where the value from i on ends, in both loops. The measure is how many bytes are left.
 use Prim.Native.Nat.{◌+◌, ◌-◌, ◌≤◌}
 use mathlib.Core.Path.{◌≡◌}
 use lib.ListN.{length, drop}

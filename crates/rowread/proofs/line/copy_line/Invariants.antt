@@ -1,3 +1,4 @@
+-- The values before mark k are written, with their ends (`Copied`). The measure is how many marks are left.
 use Prim.Native.Nat.{◌-◌, ◌≤◌}
 use mathlib.Core.Path.{◌≡◌}
 use lib.ListN.{length}

@@ -1,3 +1,4 @@
+-- Storing the bytes from i to `end` at n gives what storing all of them at `to` gives. The measure is how many are left.
 use mathlib.Core.Path.{◌≡◌}
 use Prim.Native.Nat.{◌≤◌, ◌-◌, ◌+◌}
 use lib.ListN.{length, take, drop}

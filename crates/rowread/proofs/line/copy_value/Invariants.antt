@@ -1,3 +1,4 @@
+-- The first i bytes are written, at most a block more than n. The measure is how many are left.
 use Prim.Native.Nat.{◌+◌, ◌-◌, ◌≤◌}
 use mathlib.Core.Path.{◌≡◌}
 use lib.ListN.{length, take, drop}

@@ -1,3 +1,4 @@
+-- The words before i were searched (`At`). The measure is how many bytes are left.
 use Prim.Native.Nat.{◌-◌}
 use lib.ListN.{length}
 use Rattle.rowread.specs.Steps.{At}

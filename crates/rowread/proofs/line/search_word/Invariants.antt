@@ -1,3 +1,5 @@
+-- The bytes before index d of the word were searched, and m has the marks from d on. The measure is m, which falls as its first mark is
+-- cleared.
 use Prim.Native.Nat.{ℕ, ◌+◌, ◌≤◌}
 use mathlib.Core.Path.{◌≡◌}
 use mathlib.Core.List.{List}

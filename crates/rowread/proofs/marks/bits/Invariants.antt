@@ -1,3 +1,4 @@
+-- The digits counted and those left are the digits of x. The measure is how many of 64 are not counted yet.
 use Prim.Native.Nat.{◌+◌, ◌-◌, ◌^◌, ◌<◌}
 use mathlib.Core.Path.{◌≡◌}
 use Rattle.rowread.specs.Marks.{digits}

@@ -1,3 +1,5 @@
+-- The value is read and written up to p, and m has the marks of the word at i from p on (`Unquoting`, `Grid`). A turn moves i or p on, so the
+-- measure is what is left after both.
 use Prim.Native.Nat.{◌+◌, ◌-◌, ◌≤◌}
 use lib.ListN.{length}
 use Rattle.rowread.specs.Steps.{Grid, Unquoting}

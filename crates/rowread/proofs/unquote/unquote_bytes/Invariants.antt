@@ -1,3 +1,4 @@
+-- The value is read and written up to p (`Unquoting`). The measure is how many bytes are left.
 use Prim.Native.Nat.{◌-◌}
 use lib.ListN.{length}
 use Rattle.rowread.specs.Steps.{Unquoting}
