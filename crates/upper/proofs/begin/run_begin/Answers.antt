@@ -1,0 +1,28 @@
+-- The prefix, then the first n bytes, are appended one after the other, which is the run of both joined.
+use Rattle.std.proofs.Common.{rules, ◌≡◌, ◌≤◌, ◌++◌, length, take, ℕ, ◌+◌, ◌-◌, ◌*◌, ◌<◌, ◌/◌, ◌%◌, Bool, true, false, nat_eq, nat_lt, List, [], ◌∷◌, slice_index_or, slice_set, bit_and, bit_or, Fits, w8, w32, w64, Bor, MutBor}
+use Rattle.key.specs.Layout as Key
+use Rattle.bank.specs.declared.Loaded.TheVariants as Loadeds
+use Rattle.writer.specs.declared.Answer.TheVariants as Answers
+use Rattle.lower.specs.Lower as Lower
+use Rattle.run.specs.Run.{ran_writer, ran_region}
+use Rattle.run.specs.Appends as Appends
+use Rattle.upper.specs.Upper as Upper
+use Rattle.region.specs.Region.{region_size}
+use Rattle.upper.proofs.begin.run_begin.Goals as goal
+use mathlib.Core.Path.{refl, ap, ◌∙◌}
+use native.Mathlib.Nat.{sub-zero}
+use Rattle.key.specs.Layout.{prefix}
+use Rattle.run.specs.Appends.{appends}
+use Rattle.upper.proofs.Laws.{appends-writer, appends-region}
+
+pub returns : goal.returns
+returns c =
+    let z = c.append_all in
+    let y = c.append_prefix-v in
+    let a = c.args in
+    let p = prefix a.identity.now in
+    let k = ap (λ (n : ℕ). take n a.bytes.now) (sub-zero a.n) in
+    let bs = take a.n a.bytes.now in (
+      appends-writer a.region.now a.w p bs (p ++ bs) refl y.result y.new.region y.ensures.0 y.ensures.1 z.result (z.ensures.0 ∙ ap (λ (l : List ℕ). ran_writer y.new.region y.result (appends l)) k),
+      appends-region a.region.now a.w p bs (p ++ bs) refl y.result y.new.region y.ensures.0 y.ensures.1 z.new.region (z.ensures.1 ∙ ap (λ (l : List ℕ). ran_region y.new.region y.result (appends l)) k),
+    )

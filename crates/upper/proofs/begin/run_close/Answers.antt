@@ -1,0 +1,28 @@
+-- Due calls, the lower close, due calls: the run of the call (`call-writer`, `call-region`).
+use Rattle.std.proofs.Common.{rules, ◌≡◌, ◌≤◌, ◌++◌, length, take, ℕ, ◌+◌, ◌-◌, ◌*◌, ◌<◌, ◌/◌, ◌%◌, Bool, true, false, nat_eq, nat_lt, List, [], ◌∷◌, slice_index_or, slice_set, bit_and, bit_or, Fits, w8, w32, w64, Bor, MutBor}
+use Rattle.key.specs.Layout as Key
+use Rattle.bank.specs.declared.Loaded.TheVariants as Loadeds
+use Rattle.writer.specs.declared.Answer.TheVariants as Answers
+use Rattle.lower.specs.Lower as Lower
+use Rattle.run.specs.Run.{ran_writer, ran_region}
+use Rattle.run.specs.Appends as Appends
+use Rattle.upper.specs.Upper as Upper
+use Rattle.region.specs.Region.{region_size}
+use Rattle.upper.proofs.begin.run_close.Goals as goal
+use Rattle.run.specs.Run.{close, lower_step}
+use Rattle.run.specs.Appends.{dues, appends}
+use Rattle.upper.specs.Upper.{appended_bytes, run_of}
+use Rattle.upper.proofs.Laws.{still-close, call-writer, call-region}
+
+pub returns : goal.returns
+unfolding run_of appends appended_bytes lower_step
+returns c =
+    let z = c.flush in
+    let e = c in
+    let y = e in
+    let a = y.args in
+    let v = y.flush-v.result in
+    let r = y.flush-v.new.region in (
+      call-writer a.region.now a.w close still-close dues v r y.flush-v.ensures.0 y.flush-v.ensures.1 e.close-k.result e.close-k.ensures z.result z.ensures.0,
+      call-region a.region.now a.w close still-close dues v r y.flush-v.ensures.0 y.flush-v.ensures.1 e.close-k.result e.close-k.ensures z.new.region z.ensures.1,
+    )

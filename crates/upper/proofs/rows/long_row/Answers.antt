@@ -1,0 +1,74 @@
+-- A buffer of 8,192 bytes holds every row, so a refusal means that it is none. Then capacity; then the run of the row's bytes.
+use Rattle.std.proofs.Common.{rules, ◌≡◌, true, ◌≤◌, List, ◌++◌, length, take, ℕ, ◌+◌, ◌-◌, ◌*◌, ◌<◌, ◌/◌, ◌%◌, Bool, false, nat_eq, nat_lt, [], ◌∷◌, slice_index_or, slice_set, bit_and, bit_or, Fits, w8, w32, w64, Bor, MutBor}
+use Rattle.record.specs.declared.Source.{Source}
+use Rattle.writer.specs.Parts.{whole_of, step_with}
+use Rattle.run.specs.Appends as Appends
+use Rattle.run.specs.PartsRun as PartsRun
+use Rattle.upper.specs.Upper as Upper
+use Rattle.region.specs.Region.{region_size}
+use Rattle.base.specs.Table.{last_table}
+use Rattle.upper.proofs.rows.long_row.Goals as goal
+use mathlib.Core.Path.{refl, sym, ap, ◌∙◌}
+use native.Mathlib.Omega.{arith}
+use lib.Dec.{leb}
+use lib.ListN.{replicate, length-replicate}
+use Rattle.writer.specs.declared.PartsStep.{PartsStep}
+use Rattle.writer.specs.State.{position}
+use Rattle.run.specs.Run.{ran_writer, ran_region}
+use Rattle.run.specs.Appends.{dues, appends}
+use Rattle.upper.specs.Upper.{row, appended_bytes, run_of}
+use Rattle.upper.proofs.Laws.{row-not, row_written, row-length, row-there, upper-done, upper-full, upper-row}
+use borrow.Author.Tests.{not-true, not-false}
+use Rattle.region.specs.Region.{capacity}
+use Rattle.rfc4180.specs.Csv.{max_row}
+
+pub returns-in_default : goal.returns-in_default
+returns-in_default c =
+    λ ss.
+    let r = c in
+    let s = r in
+    let y = s.args in
+    let d = upper-row y.region.now (whole_of y.b y.p ss y.tail.now) (row y.texts.now y.lengths.now) s.requires.0 refl (s.requires.1 ss) (row-not y.p.tables.table y.texts.now y.lengths.now (replicate max_row 0) r.row-a.new.out r.row-a.result s.requires.2 r.row-a.ensures.0 r.row-a.ensures.1 (length-replicate {A = ℕ} max_row 0) c.in_default.field-0 c.in_default.is) in
+    (ap (λ (z : PartsStep). step_with y.b z ss y.tail.now) c.parts_stay.ensures ∙ d.0, d.1)
+
+pub returns-then-not-fits : goal.returns-then-not-fits
+unfolding appended_bytes
+returns-then-not-fits c =
+    λ ss.
+    let r = c in
+    let s = r in
+    let y = s.args in
+    let t = c in
+    let f = t in
+    let w = row_written y.p.tables.table y.texts.now y.lengths.now (replicate max_row 0) r.row-a.new.out r.row-a.result s.requires.2 r.row-a.ensures.0 r.row-a.ensures.1 c.in-Written.n c.in-Written.is in
+    let d = upper-full y.region.now (whole_of y.b y.p ss y.tail.now) (row y.texts.now y.lengths.now) s.requires.0 refl (s.requires.1 ss) w.0 (ap (λ (k : ℕ). leb (position y.p.contents + k) capacity) (sym w.1) ∙ sym f.fits.ensures ∙ t.if-not-fits.true) in
+    (ap (λ (z : PartsStep). step_with y.b z ss y.tail.now) c.parts_stay-then-not-fits.ensures ∙ d.0, d.1)
+
+pub run_row-v-requires : goal.run_row-v-requires
+run_row-v-requires c =
+    let r = c in
+    let s = r in
+    let y = s.args in
+    let k = row-length y.p.tables.table y.texts.now y.lengths.now (replicate max_row 0) r.row-a.new.out r.row-a.result s.requires.2 r.row-a.ensures.0 r.row-a.ensures.1 c.in-Written.n c.in-Written.is in
+    omega (arith, k)
+
+pub returns : goal.returns
+unfolding appended_bytes run_of
+returns c =
+    λ ss.
+    let r = c in
+    let s = r in
+    let y = s.args in
+    let x = c in
+    let t = x in
+    let f = t in
+    let w = row_written y.p.tables.table y.texts.now y.lengths.now (replicate max_row 0) r.row-a.new.out r.row-a.result s.requires.2 r.row-a.ensures.0 r.row-a.ensures.1 c.in-Written.n c.in-Written.is in
+    let b = row-there y.p.tables.table y.texts.now y.lengths.now (replicate max_row 0) r.row-a.new.out r.row-a.result s.requires.2 r.row-a.ensures.0 r.row-a.ensures.1 c.in-Written.n c.in-Written.is in
+    let d =
+    upper-done y.region.now (whole_of y.b y.p ss y.tail.now) (row y.texts.now y.lengths.now) s.requires.0 refl (s.requires.1 ss) w.0
+    (ap (λ (k : ℕ). leb (position y.p.contents + k) capacity) (sym w.1) ∙ sym f.fits.ensures ∙ t.if-not-fits.false)
+    (whole_of y.b x.run_row-v.result ss x.run_row-v.new.tail)
+    x.run_row-v.new.region
+    ((x.run_row-v.ensures ss).0 ∙ ap (λ (l : List ℕ). ran_writer y.region.now (whole_of y.b y.p ss y.tail.now) (dues ++ (dues ++ appends l))) b)
+    ((x.run_row-v.ensures ss).1 ∙ ap (λ (l : List ℕ). ran_region y.region.now (whole_of y.b y.p ss y.tail.now) (dues ++ (dues ++ appends l))) b) in
+    (ap (λ (z : PartsStep). step_with y.b z ss x.run_row-v.new.tail) c.parts_did.ensures ∙ d.0, d.1)
