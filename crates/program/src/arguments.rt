@@ -3,6 +3,8 @@ ghost use Rattle.std.specs.Prelude.{◌≡◌, ◌+◌, ◌≤◌, length, repli
 ghost use Rattle.program.specs.Arguments.{argument_size};
 
 use crate::bytes::copy;
+use std::env::FillError;
+use std::rt::Env;
 
 // Linux passes no longer argument.
 pub const ARGUMENT_SIZE: usize = 131072;
@@ -29,13 +31,34 @@ pub fn follow(index: usize, n: usize, count: usize) -> bool
     index < count - n
 }
 
+// How many arguments there are, the program's name among them.
+pub fn count<R: Env>(rt: &R) -> usize {
+    for i in 0..usize::MAX {
+        if let Err(FillError::NotPresent) = rt.arg(i, &mut []) {
+            return i;
+        }
+    }
+    usize::MAX
+}
+
+// Writes the argument at an index to the start of a buffer and gives its length: 0 where it is missing or longer than the buffer. An argument
+// may have any bytes, and no contract can say which.
+pub fn read<R: Env>(rt: &R, index: usize, buffer: &mut [u8]) -> usize
+    ensures { result ≤ length buffer.new }
+{
+    match rt.arg(index, buffer) {
+        Ok(n) => n,
+        Err(_) => 0,
+    }
+}
+
 // Writes the image's name to the start of a buffer and gives its length: the argument at an index, or the default's name at 0. No
 // contract can say what an argument is.
-pub fn image_name(index: usize, buffer: &mut [u8]) -> usize
+pub fn image_name<R: Env>(rt: &R, index: usize, buffer: &mut [u8]) -> usize
     ensures { result ≤ length buffer.new }
 {
     if index != 0 {
-        return os::arg(index, buffer);
+        return read(rt, index, buffer);
     }
     if buffer.len() < DEFAULT_IMAGE_SIZE {
         return 0;

@@ -2,12 +2,16 @@
 ghost use Rattle.std.specs.Prelude.{◌≡◌, length, replicate};
 ghost use Rattle.region.specs.Region.{region_size};
 
+use crate::bytes::large_buffer;
 use crate::message;
+use crate::text::path_of;
 use base::slice::same_bytes;
 use leaf::bytes::get8;
-use libc::STDIN_FILENO;
 use region::REGION_SIZE;
+use std::io::{Input, Read, Write};
 use std::num::wrapping_add_usize;
+use std::rt::Files;
+use std::{fs, io};
 
 // The sizes of dumps that have the region at its offset on the board's flash, and one that is too short for that.
 pub const SMALL_DUMP: usize = 2097152;
@@ -59,7 +63,6 @@ pub enum Place {
 enum Size {
     Bytes(usize),
     Compressed,
-    Unread,
 }
 
 // A region of zeros.
@@ -78,48 +81,53 @@ fn start_of(p: Place) -> usize {
 }
 
 // One read into the region from an offset on.
-fn read_to(fd: i32, region: &mut [u8], at: usize) -> isize {
+fn read_to<F: Read>(from: &mut F, region: &mut [u8], at: usize) -> io::Result<usize> {
     if at < region.len() {
-        return libc::read(fd, &mut region[at..]);
+        return from.read(&mut region[at..]);
     }
-    0
+    Ok(0)
 }
 
 // One read of at most n bytes into a buffer.
-fn read_first(fd: i32, bytes: &mut [u8], n: usize) -> isize {
+fn read_first<F: Read>(from: &mut F, bytes: &mut [u8], n: usize) -> io::Result<usize> {
     if n < bytes.len() {
-        return libc::read(fd, &mut bytes[..n]);
+        return from.read(&mut bytes[..n]);
     }
-    libc::read(fd, bytes)
+    from.read(bytes)
 }
 
 // One read of at most n bytes, which are dropped.
-fn skip(fd: i32, n: usize) -> isize {
-    let mut space = io::large_buffer();
-    read_first(fd, &mut space, n)
+fn skip<F: Read>(from: &mut F, n: usize) -> io::Result<usize> {
+    let mut space = large_buffer();
+    read_first(from, &mut space, n)
 }
 
 // One read of the n bytes between an offset of the image and its region. The first bytes are read into the region, in case the image is a
 // region; those of the region in a dump overwrite them.
-fn read_before(fd: i32, region: &mut [u8], at: usize, n: usize) -> isize {
+fn read_before<F: Read>(from: &mut F, region: &mut [u8], at: usize, n: usize) -> io::Result<usize> {
     if at < region.len() {
-        return read_first(fd, &mut region[at..], n);
+        return read_first(from, &mut region[at..], n);
     }
-    skip(fd, n)
+    skip(from, n)
 }
 
 // One read at an offset of the image, whose region starts at another.
-fn read_some(fd: i32, region: &mut [u8], at: usize, start: usize) -> isize {
+fn read_some<F: Read>(
+    from: &mut F,
+    region: &mut [u8],
+    at: usize,
+    start: usize,
+) -> io::Result<usize> {
     if at < start {
-        return read_before(fd, region, at, start - at);
+        return read_before(from, region, at, start - at);
     }
     if at - start < REGION_SIZE {
-        return read_to(fd, region, at - start);
+        return read_to(from, region, at - start);
     }
     if at < MOST_READ {
-        return skip(fd, MOST_READ - at);
+        return skip(from, MOST_READ - at);
     }
-    0
+    Ok(0)
 }
 
 fn is_compressed(region: &[u8]) -> bool {
@@ -127,24 +135,21 @@ fn is_compressed(region: &[u8]) -> bool {
 }
 
 // Reads the region of an open image that starts at an offset, and gives the image's length.
-fn read_all(fd: i32, region: &mut [u8], start: usize) -> Size {
+fn read_all<F: Read>(from: &mut F, region: &mut [u8], start: usize) -> io::Result<Size> {
     let mut at = 0;
     let mut reads = MOST_READS;
     while 0 < reads {
-        let got = read_some(fd, region, at, start);
-        if got < 0 {
-            return Size::Unread;
-        }
+        let got = read_some(from, region, at, start)?;
         if got == 0 {
-            return Size::Bytes(at);
+            return Ok(Size::Bytes(at));
         }
         if (at == 0) & is_compressed(region) {
-            return Size::Compressed;
+            return Ok(Size::Compressed);
         }
-        at = wrapping_add_usize(at, io::count(got, region));
+        at = wrapping_add_usize(at, got);
         reads -= 1;
     }
-    Size::Bytes(at)
+    Ok(Size::Bytes(at))
 }
 
 // Whether a region at an offset ends in an image of a size.
@@ -160,65 +165,88 @@ fn is_dump(size: usize) -> bool {
 }
 
 // What an image of a size is, with the region at a given offset.
-fn image_with(program: &[u8], name: &[u8], size: usize, offset: usize) -> Image {
+fn image_with<W: Write>(
+    err: &mut W,
+    program: &[u8],
+    name: &[u8],
+    size: usize,
+    offset: usize,
+) -> io::Result<Image> {
     if fits(offset, size) {
-        return Image::Dump(size as u64);
+        return Ok(Image::Dump(size as u64));
     }
-    message::no_region(program, name, size, offset);
-    Image::Unusable
+    message::no_region(err, program, name, size, offset)?;
+    Ok(Image::Unusable)
 }
 
 // What an image of a size is.
-fn image_by_size(program: &[u8], name: &[u8], size: usize) -> Image {
+fn image_by_size<W: Write>(
+    err: &mut W,
+    program: &[u8],
+    name: &[u8],
+    size: usize,
+) -> io::Result<Image> {
     if size == REGION_SIZE {
-        return Image::Region;
+        return Ok(Image::Region);
     }
     if is_dump(size) {
-        return Image::Dump(size as u64);
+        return Ok(Image::Dump(size as u64));
     }
     if size == SMALL_DUMP {
-        message::no_region(program, name, size, REGION_OFFSET);
+        message::no_region(err, program, name, size, REGION_OFFSET)?;
     } else {
-        message::wrong_size(program, name, size);
+        message::wrong_size(err, program, name, size)?;
     }
-    Image::Unusable
+    Ok(Image::Unusable)
 }
 
-fn image_of(program: &[u8], name: &[u8], size: usize, p: Place) -> Image {
+fn image_of<W: Write>(
+    err: &mut W,
+    program: &[u8],
+    name: &[u8],
+    size: usize,
+    p: Place,
+) -> io::Result<Image> {
     match p {
-        Place::Given(offset) => image_with(program, name, size, offset),
-        Place::BySize => image_by_size(program, name, size),
+        Place::Given(offset) => image_with(err, program, name, size, offset),
+        Place::BySize => image_by_size(err, program, name, size),
     }
 }
 
-// Opens the named image, standard input for "-"; below 0 if it can't be opened.
-fn open(name: &[u8]) -> i32 {
+// Reads the region of the named image, standard input for "-", and gives the image's length.
+fn read_named<R: Files + Input>(
+    rt: &R,
+    name: &[u8],
+    start: usize,
+    region: &mut [u8],
+) -> io::Result<Size> {
     if same_bytes(name, b"-") {
-        return STDIN_FILENO;
+        return read_all(&mut rt.reader(), region, start);
     }
-    os::open_read(name)
+    let mut file = fs::open(rt, path_of(name)?)?;
+    read_all(&mut file, region, start)
 }
 
 // Reads the region of the named image. No contract can say what a file holds.
-pub fn read(program: &[u8], name: &[u8], p: Place, region: &mut [u8; REGION_SIZE]) -> Image
+pub fn read<R: Files + Input, W: Write>(
+    rt: &R,
+    err: &mut W,
+    program: &[u8],
+    name: &[u8],
+    p: Place,
+    region: &mut [u8; REGION_SIZE],
+) -> io::Result<Image>
     ensures { length region.new ≡ length region.old }
 {
-    let fd = open(name);
-    if fd < 0 {
-        message::unread(program, name);
-        return Image::Unusable;
-    }
-    let s = read_all(fd, region, start_of(p));
-    libc::close(fd);
-    match s {
-        Size::Bytes(n) => image_of(program, name, n, p),
-        Size::Compressed => {
-            message::compressed(program, name);
-            Image::Unusable
+    match read_named(rt, name, start_of(p), region) {
+        Ok(Size::Bytes(n)) => image_of(err, program, name, n, p),
+        Ok(Size::Compressed) => {
+            message::compressed(err, program, name)?;
+            Ok(Image::Unusable)
         }
-        Size::Unread => {
-            message::unread(program, name);
-            Image::Unusable
+        Err(why) => {
+            message::unread(err, program, name, &why)?;
+            Ok(Image::Unusable)
         }
     }
 }

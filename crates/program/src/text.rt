@@ -1,9 +1,11 @@
-// Words and numbers in a text.
+// Words and numbers in a text, and bytes as text.
 ghost use Rattle.std.specs.Prelude.{◌≡◌, suc, ◌-◌, take, drop};
 ghost use Rattle.program.specs.Text.{index_from, value_of, number_of};
 
 use base::number::u8_to_u64;
 use base::slice::part;
+use std::io::ErrorKind;
+use std::{io, str};
 
 // What `digit` gives for a byte that is no digit.
 const NO_DIGIT: u64 = 255;
@@ -97,4 +99,12 @@ pub fn digits(s: &[u8]) -> Number
         i += 1;
     }
     Number::Is(v)
+}
+
+// A file's name as the text that std opens a file by. A name that is no UTF-8 is refused as std refuses such names.
+pub fn path_of(name: &[u8]) -> io::Result<&str> {
+    match str::from_utf8(name) {
+        Ok(text) => Ok(text),
+        Err(_) => Err(io::Error::from(ErrorKind::InvalidFilename)),
+    }
 }

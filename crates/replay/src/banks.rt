@@ -6,7 +6,7 @@ use bank::turns::{Checking, Progress, Turn};
 use base::slice::part;
 use header::{Bank, SOURCES, Validated};
 use key::SameKey;
-use program::lengths;
+use program::{bytes, lengths};
 use record::{RECORD_SIZE, Source};
 use refusal::{Refusal, number_u32};
 use snapshot::Outcome;
@@ -73,7 +73,7 @@ pub fn load(l: &[u8], region: &[u8]) -> bool {
 
 // Whether an answer is a record in version 3's form.
 fn is_record(a: &[u8], s: Source) -> bool {
-    let mut space = io::buffer();
+    let mut space = bytes::buffer();
     let out: &mut [u8] = &mut space;
     record::encode(s, out, 0);
     is_number(a, 0, 0) & is_word(a, 1, part(out, 0, RECORD_SIZE))
@@ -205,10 +205,10 @@ fn matches(l: &[u8], region: &[u8], identity: &[u8], texts: &[u8]) -> bool {
 
 // `bankkey BANK IDENTITY TEXTS LENGTHS ANSWER`
 pub fn same_key(l: &[u8], region: &[u8]) -> bool {
-    let mut a = io::buffer();
+    let mut a = bytes::buffer();
     let identity: &mut [u8] = &mut a;
     let n = unhex(l, word(l, 2), identity);
-    let mut b = io::buffer();
+    let mut b = bytes::buffer();
     let texts: &mut [u8] = &mut b;
     let m = unhex(l, word(l, 3), texts);
     matches(l, region, part(identity, 0, n), part(texts, 0, m))

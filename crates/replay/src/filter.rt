@@ -3,6 +3,7 @@ use crate::text::{is_word, number32, offset, unhex, word};
 use base::slice::part;
 use bloom::Filter;
 use leaf::bytes::get8;
+use program::bytes;
 
 // Whether the answer is the line's last word, 1 for present and 0 for absent.
 fn is_answer(l: &[u8], a: Filter) -> bool {
@@ -24,7 +25,7 @@ fn insert_in(region: &mut [u8], n: usize, id: &[u8]) -> Filter {
 
 // `insert SIZE ID ANSWER`
 pub fn insert(l: &[u8], region: &mut [u8]) -> bool {
-    let mut space = io::buffer();
+    let mut space = bytes::buffer();
     let id: &mut [u8] = &mut space;
     let n = unhex(l, word(l, 2), id);
     is_answer(l, insert_in(region, offset(l, word(l, 1)), part(id, 0, n)))
@@ -32,7 +33,7 @@ pub fn insert(l: &[u8], region: &mut [u8]) -> bool {
 
 // `query SIZE ID ANSWER`
 pub fn query(l: &[u8], region: &[u8]) -> bool {
-    let mut space = io::buffer();
+    let mut space = bytes::buffer();
     let id: &mut [u8] = &mut space;
     let n = unhex(l, word(l, 2), id);
     is_answer(
@@ -43,7 +44,7 @@ pub fn query(l: &[u8], region: &[u8]) -> bool {
 
 // `holds OFFSET BYTES`: whether the region's bytes at an offset are the line's.
 pub fn holds(l: &[u8], region: &[u8]) -> bool {
-    let mut space = io::buffer();
+    let mut space = bytes::buffer();
     let want: &mut [u8] = &mut space;
     let n = unhex(l, word(l, 2), want);
     let bytes = part(region, offset(l, word(l, 1)), n);

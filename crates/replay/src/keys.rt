@@ -4,7 +4,7 @@ use base::number::u8_to_u32;
 use base::slice::part;
 use key::{KeyAnswer, SameKey};
 use leaf::bytes::get8;
-use program::lengths;
+use program::{bytes, lengths};
 
 // More than a line has.
 pub const LENGTHS: usize = 256;
@@ -20,7 +20,7 @@ fn widen(bytes: &[u8], out: &mut [u32]) {
 
 // The lengths of word k, each as a number; gives how many they are.
 pub fn lengths_of(l: &[u8], k: u8, out: &mut [u32]) -> usize {
-    let mut space = io::buffer();
+    let mut space = bytes::buffer();
     let bytes: &mut [u8] = &mut space;
     let n = unhex(l, word(l, k), bytes);
     widen(part(bytes, 0, n), out);
@@ -29,7 +29,7 @@ pub fn lengths_of(l: &[u8], k: u8, out: &mut [u32]) -> usize {
 
 fn key_of(l: &[u8], identity: &[u8], texts: &[u8]) -> bool {
     let mut list = [0u32; LENGTHS];
-    let mut space = io::buffer();
+    let mut space = bytes::buffer();
     let out: &mut [u8] = &mut space;
     let n = lengths_of(l, 3, &mut list);
     let a = key::key(identity, texts, lengths::first(&list, n), out);
@@ -41,10 +41,10 @@ fn key_of(l: &[u8], identity: &[u8], texts: &[u8]) -> bool {
 
 // `key IDENTITY TEXTS LENGTHS ANSWER`
 pub fn key(l: &[u8]) -> bool {
-    let mut a = io::buffer();
+    let mut a = bytes::buffer();
     let identity: &mut [u8] = &mut a;
     let n = unhex(l, word(l, 1), identity);
-    let mut b = io::buffer();
+    let mut b = bytes::buffer();
     let texts: &mut [u8] = &mut b;
     let m = unhex(l, word(l, 2), texts);
     key_of(l, part(identity, 0, n), part(texts, 0, m))
@@ -65,10 +65,10 @@ fn answers(l: &[u8], stored: &[u8], identity: &[u8], texts: &[u8]) -> bool {
 
 // Matches a stored key with the line's selection.
 fn stored_key(l: &[u8], stored: &[u8]) -> bool {
-    let mut a = io::buffer();
+    let mut a = bytes::buffer();
     let identity: &mut [u8] = &mut a;
     let n = unhex(l, word(l, 2), identity);
-    let mut b = io::buffer();
+    let mut b = bytes::buffer();
     let texts: &mut [u8] = &mut b;
     let m = unhex(l, word(l, 3), texts);
     answers(l, stored, part(identity, 0, n), part(texts, 0, m))
@@ -76,7 +76,7 @@ fn stored_key(l: &[u8], stored: &[u8]) -> bool {
 
 // `samekey STORED IDENTITY TEXTS LENGTHS ANSWER`
 pub fn same_key(l: &[u8]) -> bool {
-    let mut space = io::buffer();
+    let mut space = bytes::buffer();
     let stored: &mut [u8] = &mut space;
     let n = unhex(l, word(l, 1), stored);
     stored_key(l, part(stored, 0, n))

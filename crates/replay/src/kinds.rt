@@ -3,8 +3,9 @@ ghost use Rattle.std.specs.Prelude.{◌<◌};
 ghost use Rattle.replay.specs.Sizes.{kind_count};
 
 use crate::text::starts;
-use libc::STDOUT_FILENO;
 use program::output::put_word;
+use std::io;
+use std::io::Write;
 
 // Leaves and keys, banks, rows and filter; unknown is none of them.
 #[derive(Clone, Copy)]
@@ -180,9 +181,9 @@ pub fn kind_of(l: &[u8]) -> Kind {
 }
 
 // The name of a kind by its index, as the report has it.
-pub fn say_name(index: u32) {
+pub fn say_name<W: Write>(out: &mut W, index: u32) -> io::Result<()> {
     put_word(
-        STDOUT_FILENO,
+        out,
         b"valid_date |Date::new  |newer      |next       |crc32      |get        |\
           put        |get_time   |put_time   |rotate13   |key        |same_key   |\
           validate   |header     |load       |source     |fresh      |check_start|\
@@ -190,5 +191,5 @@ pub fn say_name(index: u32) {
           names_line |row        |read_row   |insert     |query      |bytes      |\
           their CRC  |unknown    ",
         index,
-    );
+    )
 }

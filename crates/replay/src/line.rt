@@ -4,6 +4,7 @@ use crate::text::{BYTE_VALUES, is_word, number, number32, offset, signed, unhex,
 use crate::{banks, filter, keys, rows};
 use base::slice::part;
 use leaf::date::{Date, NewDate};
+use program::bytes;
 
 // How many values 16 bits have.
 const SHORT_VALUES: u64 = BYTE_VALUES * BYTE_VALUES;
@@ -51,7 +52,7 @@ fn rotate(l: &[u8]) -> bool {
 
 // `crc START BYTES ANSWER`
 fn crc(l: &[u8]) -> bool {
-    let mut space = io::buffer();
+    let mut space = bytes::buffer();
     let bytes: &mut [u8] = &mut space;
     let n = unhex(l, word(l, 2), bytes);
     leaf::crc::crc32(number32(l, word(l, 1)), part(bytes, 0, n)) == number32(l, word(l, 3))
@@ -59,7 +60,7 @@ fn crc(l: &[u8]) -> bool {
 
 // `get BYTES OFFSET ANSWER`
 fn get(l: &[u8]) -> bool {
-    let mut space = io::buffer();
+    let mut space = bytes::buffer();
     let bytes: &mut [u8] = &mut space;
     let n = unhex(l, word(l, 1), bytes);
     leaf::bytes::get(part(bytes, 0, n), offset(l, word(l, 2))) == number32(l, word(l, 3))
@@ -67,7 +68,7 @@ fn get(l: &[u8]) -> bool {
 
 // `time BYTES OFFSET ANSWER`
 fn time(l: &[u8]) -> bool {
-    let mut space = io::buffer();
+    let mut space = bytes::buffer();
     let bytes: &mut [u8] = &mut space;
     let n = unhex(l, word(l, 1), bytes);
     leaf::bytes::get_time(part(bytes, 0, n), offset(l, word(l, 2))) == signed(l, word(l, 3))
@@ -75,7 +76,7 @@ fn time(l: &[u8]) -> bool {
 
 // `put BYTES OFFSET NUMBER ANSWER`
 fn put(l: &[u8]) -> bool {
-    let mut space = io::buffer();
+    let mut space = bytes::buffer();
     let bytes: &mut [u8] = &mut space;
     let n = unhex(l, word(l, 1), bytes);
     leaf::bytes::put(bytes, offset(l, word(l, 2)), number32(l, word(l, 3)));
@@ -84,7 +85,7 @@ fn put(l: &[u8]) -> bool {
 
 // `puttime BYTES OFFSET TIME ANSWER`
 fn put_time(l: &[u8]) -> bool {
-    let mut space = io::buffer();
+    let mut space = bytes::buffer();
     let bytes: &mut [u8] = &mut space;
     let n = unhex(l, word(l, 1), bytes);
     leaf::bytes::put_time(bytes, offset(l, word(l, 2)), signed(l, word(l, 3)));

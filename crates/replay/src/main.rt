@@ -11,14 +11,17 @@ mod line;
 mod rows;
 mod text;
 
-ghost use Rattle.std.specs.Prelude.{◌≡◌, length};
+ghost use Rattle.std.specs.Prelude.{◌≡◌, ◌≤◌, IfOk, length};
 ghost use Rattle.replay.specs.Sizes.{list_size};
 
 use crate::kinds::{KINDS, Kind};
-use libc::STDOUT_FILENO;
-use program::output::{print, say};
+use base::slice::part;
+use program::bytes::read_full;
+use program::output::{fail, failed, print, say};
 use program::text::{between, find};
 use region::REGION_SIZE;
+use std::io::{BufWriter, Stderr, Write};
+use std::{fs, io};
 
 // The list is shorter.
 const LIST_SIZE: usize = 524288;
@@ -44,30 +47,36 @@ fn counted(c: Counts, k: Kind, same: bool) -> Counts {
 }
 
 // Says which line differs.
-fn say_different(same: bool, n: u64) {
+fn say_different<W: Write>(out: &mut W, same: bool, n: u64) -> io::Result<()> {
     if same {
-        return;
+        return Ok(());
     }
-    print(STDOUT_FILENO, b"line {} differs\n", &[n]);
+    print(out, b"line {} differs\n", &[n])
 }
 
 // Replays line n; comments, empty lines and those that build the region aren't counted.
-fn step(c: Counts, n: u64, l: &[u8], memory: &mut [u8]) -> Counts {
+fn step<W: Write>(
+    out: &mut W,
+    c: Counts,
+    n: u64,
+    l: &[u8],
+    memory: &mut [u8],
+) -> io::Result<Counts> {
     let a = leaf::bytes::get8(l, 0);
     if a == b'#' || l.len() == 0 {
-        return c;
+        return Ok(c);
     }
     if image::build(l, memory) {
-        return c;
+        return Ok(c);
     }
     let k = kinds::kind_of(l);
     let same = line::is_alike(k, l, memory);
-    say_different(same, n);
-    counted(c, k, same)
+    say_different(out, same, n)?;
+    Ok(counted(c, k, same))
 }
 
 // Replays all lines.
-fn replayed(s: &[u8], memory: &mut [u8]) -> Counts {
+fn replayed<W: Write>(out: &mut W, s: &[u8], memory: &mut [u8]) -> io::Result<Counts> {
     let mut c = Counts {
         seen: [0; KINDS],
         same: [0; KINDS],
@@ -79,28 +88,28 @@ fn replayed(s: &[u8], memory: &mut [u8]) -> Counts {
     while i < s.len() {
         let end = find(s, i, b'\n');
         n = std::num::wrapping_add_u64(n, 1);
-        c = step(c, n, between(s, i, end), memory);
+        c = step(out, c, n, between(s, i, end), memory)?;
         i = text::index_after(end, i);
     }
-    c
+    Ok(c)
 }
 
-fn report_counts(seen: u64, same: u64) {
-    print(STDOUT_FILENO, b": {} answers, {} alike\n", &[seen, same]);
+fn report_counts<W: Write>(out: &mut W, seen: u64, same: u64) -> io::Result<()> {
+    print(out, b": {} answers, {} alike\n", &[seen, same])
 }
 
 // A line for each kind, and one for all.
-fn report(c: Counts) {
+fn report<W: Write>(out: &mut W, c: Counts) -> io::Result<()> {
     let mut i: usize = 0;
     while i < KINDS {
-        kinds::say_name(i as u32);
+        kinds::say_name(out, i as u32)?;
         let seen = c.seen[i];
         let same = c.same[i];
-        report_counts(seen, same);
+        report_counts(out, seen, same)?;
         i += 1;
     }
-    say(b"all        ");
-    report_counts(c.all_seen, c.all_same);
+    say(out, b"all        ")?;
+    report_counts(out, c.all_seen, c.all_same)
 }
 
 // A buffer of zeros for the list.
@@ -110,20 +119,39 @@ fn list_buffer() -> [u8; LIST_SIZE]
     [0; LIST_SIZE]
 }
 
-fn replay(s: &[u8], memory: &mut [u8; REGION_SIZE]) {
-    report(replayed(s, memory));
+fn replay<W: Write>(out: &mut W, s: &[u8], memory: &mut [u8; REGION_SIZE]) -> io::Result<()> {
+    let c = replayed(out, s, memory)?;
+    report(out, c)
 }
 
-fn main() {
-    let path = b"answers.txt";
-    let fd = os::open_read(path);
-    if fd < 0 {
-        os::fail(path);
-        return;
-    }
+// Where the list is, in the folder that the program runs in.
+const LIST: &str = "answers.txt";
+
+// Reads the list to the start of a buffer, and gives its length.
+fn read_list(rt: &HostRuntime, list: &mut [u8]) -> io::Result<usize>
+    ensures { IfOk result (λ n. n ≤ length list.new) }
+{
+    let mut file = fs::open(rt, LIST)?;
+    read_full(&mut file, list)
+}
+
+// Replays the list; where there is none, standard error says why.
+fn run(rt: &HostRuntime, err: &mut Stderr) -> io::Result<()> {
     let mut list = list_buffer();
-    let n = io::read_full(fd, &mut list);
-    libc::close(fd);
+    let n = match read_list(rt, &mut list) {
+        Ok(n) => n,
+        Err(why) => return fail(err, LIST.as_bytes(), &why),
+    };
     let mut memory = program::image::buffer();
-    replay(base::slice::part(&list, 0, n), &mut memory);
+    let mut out = BufWriter::new(rt.alloc(), rt.stdout())?;
+    replay(&mut out, part(&list, 0, n), &mut memory)?;
+    out.flush()
+}
+
+fn main(rt: HostRuntime) -> io::Result<()> {
+    let mut err = rt.stderr();
+    match run(&rt, &mut err) {
+        Ok(()) => Ok(()),
+        Err(why) => failed(&mut err, &why),
+    }
 }

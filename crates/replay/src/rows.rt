@@ -3,7 +3,7 @@ use crate::text::{is_word, number32, offset, unhex, word, words};
 use base::number::{SECOND_BYTE, u8_to_u32};
 use base::slice::part;
 use leaf::bytes::get8;
-use program::lengths;
+use program::{bytes, lengths};
 use row::RowAnswer;
 use rowread::ReadAnswer;
 use std::num::wrapping_add_usize;
@@ -15,7 +15,7 @@ const PAIR: usize = 2;
 
 // `names TABLE ANSWER`
 pub fn names_line(l: &[u8]) -> bool {
-    let mut space = io::buffer();
+    let mut space = bytes::buffer();
     let out: &mut [u8] = &mut space;
     let a = row::names_line(number32(l, word(l, 1)), out);
     match a {
@@ -40,7 +40,7 @@ fn pairs(bytes: &[u8], out: &mut [u32]) {
 
 // The 16-bit numbers of word k; gives how many they are.
 fn numbers(l: &[u8], k: u8, out: &mut [u32]) -> usize {
-    let mut space = io::buffer();
+    let mut space = bytes::buffer();
     let bytes: &mut [u8] = &mut space;
     let n = unhex(l, word(l, k), bytes);
     pairs(part(bytes, 0, n), out);
@@ -50,7 +50,7 @@ fn numbers(l: &[u8], k: u8, out: &mut [u32]) -> usize {
 fn row_of(l: &[u8], texts: &[u8]) -> bool {
     let mut list = [0u32; VALUES];
     let n = numbers(l, 3, &mut list);
-    let mut space = io::large_buffer();
+    let mut space = bytes::large_buffer();
     let out: &mut [u8] = &mut space;
     let a = row::row(
         number32(l, word(l, 1)),
@@ -66,7 +66,7 @@ fn row_of(l: &[u8], texts: &[u8]) -> bool {
 
 // `row TABLE TEXTS LENGTHS ANSWER`
 pub fn row(l: &[u8]) -> bool {
-    let mut space = io::large_buffer();
+    let mut space = bytes::large_buffer();
     let texts: &mut [u8] = &mut space;
     let n = unhex(l, word(l, 2), texts);
     row_of(l, part(texts, 0, n))
@@ -89,7 +89,7 @@ fn same_ends(ends: &[usize], bytes: &[u8], n: usize) -> bool {
 
 // Whether these are the ends of word 6, as many as the row has values.
 fn is_ends(l: &[u8], ends: &[usize]) -> bool {
-    let mut space = io::buffer();
+    let mut space = bytes::buffer();
     let bytes: &mut [u8] = &mut space;
     let n = unhex(l, word(l, 6), bytes);
     (n / PAIR == offset(l, word(l, 3))) & same_ends(ends, bytes, n / PAIR)
@@ -97,7 +97,7 @@ fn is_ends(l: &[u8], ends: &[usize]) -> bool {
 
 // Reads a row of a table.
 fn read_in(l: &[u8], table: &[u8]) -> bool {
-    let mut space = io::large_buffer();
+    let mut space = bytes::large_buffer();
     let out: &mut [u8] = &mut space;
     let mut list = [0usize; VALUES];
     let ends: &mut [usize] = &mut list;

@@ -4,6 +4,7 @@ ghost use Rattle.base.specs.Number.{max_unsigned};
 
 use base::slice::{part, same_bytes};
 use leaf::bytes::get8;
+use program::bytes;
 use program::number::{low32, signed as signed_of};
 use program::text::{digit, find};
 
@@ -122,7 +123,7 @@ pub fn unhex(s: &[u8], from: usize, out: &mut [u8]) -> usize {
 
 // Whether word k is these bytes in hexadecimal.
 pub fn is_word(l: &[u8], k: u8, bytes: &[u8]) -> bool {
-    let mut space = io::large_buffer();
+    let mut space = bytes::large_buffer();
     let want: &mut [u8] = &mut space;
     let m = unhex(l, word(l, k), want);
     same_bytes(bytes, part(want, 0, m))
