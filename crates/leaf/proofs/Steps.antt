@@ -52,9 +52,9 @@ put8 l m r at n z e h p q =
     q ∙ rw (p, e) (written_next l lo hi at 4 (length-le32 (unsigned 64 z % 4294967296)) fits)
 
 -- month_days
-pub no-month : (y m : ℕ) → 12 < m → 0 ≡ get_or (0 ∷ month_days y) m 0
+pub no_month : (y m : ℕ) → 12 < m → 0 ≡ get_or (0 ∷ month_days y) m 0
 unfolding month_days
-no-month y m h = sym (get_or-eq_default (0 ∷ month_days y) 0 h)
+no_month y m h = sym (get_or-eq_default (0 ∷ month_days y) 0 h)
 
 pub leap-day : (y m : ℕ) (r : Bool) → r ≡ leap y → (eqb m 2 && r) ≡ true → 29 ≡ get_or (0 ∷ month_days y) m 0
 unfolding month_days
@@ -87,7 +87,7 @@ outside : (y m : ℕ) → (leb 1 m && leb m 12) ≡ false → get_or (0 ∷ mont
 outside y zero e = refl
 outside y (suc k) e =
     let t : leb 1 (suc k) ≡ true = le-leb 1 (suc k) (omega arith) in
-    sym (no-month y (suc k) (leb-false (suc k) 12 (rw t at e)))
+    sym (no_month y (suc k) (leb-false (suc k) 12 (rw t at e)))
 
 test_by : (a : Bool) (y m d : ℕ) (t : Bool) → (leb 1 m && leb m 12) ≡ t
     → ((a && leb 1 d) && leb d (get_or (0 ∷ month_days y) m 0)) ≡ (a && ((leb 1 m && leb m 12) && (leb 1 d && leb d (get_or (month_days y) (m - 1) 0))))

@@ -36,6 +36,7 @@ fn is_leap(year: u16) -> bool
 const DAYS: [u8; 13] = [0, 31, 28, 31, 30, 31, 30, 31, 31, 30, 31, 30, 31];
 
 // The days of a month, 0 if there is no such month.
+#[tactic(auto, using(crate::proofs::Steps::no_month))]
 fn month_days(year: u16, month: u8) -> u8
     ensures { result ≡ slice_index (0 ∷ month_days year) month }
 {
@@ -67,6 +68,7 @@ impl Date {
 }
 
 // Whether a number is a date's number.
+#[tactic(auto, using(crate::proofs::Steps::late), unfolding(crate::specs::Date::valid_date))]
 pub fn valid_date(d: u32) -> bool
     ensures { result ≡ valid_date d }
 {

@@ -1,10 +1,6 @@
--- By cases: no such month (`no-month`), February of a leap year (`leap-day`), any other month, read from the table (`common-day`).
+-- By cases: no such month (`no_month`), February of a leap year (`leap-day`), any other month, read from the table (`common-day`).
 use Rattle.leaf.proofs.date.month_days.Goals as goal
-use Rattle.std.proofs.Common.{arith}
-use Rattle.leaf.proofs.Steps.{no-month, leap-day, common-day}
-
-pub returns-then-month-gt-LAST_MONTH : goal.returns-then-month-gt-LAST_MONTH
-returns-then-month-gt-LAST_MONTH c = no-month c.args.year c.args.month (omega arith)
+use Rattle.leaf.proofs.Steps.{leap-day, common-day}
 
 pub returns-then-month-leap : goal.returns-then-month-leap
 returns-then-month-leap c =

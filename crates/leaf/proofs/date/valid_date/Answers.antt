@@ -2,14 +2,8 @@
 use Rattle.std.proofs.Common.{◌/◌, ◌%◌}
 use Rattle.leaf.specs.Date.{valid_date}
 use Rattle.leaf.proofs.date.valid_date.Goals as goal
-use Rattle.std.proofs.Common.{sym, ◌∙◌, arith}
-use Rattle.leaf.proofs.Steps.{late, made-is, invalid-is}
-
-pub returns-then-year-gt-LAST_YEAR_32 : goal.returns-then-year-gt-LAST_YEAR_32
-unfolding valid_date
-returns-then-year-gt-LAST_YEAR_32 c =
-    let n = c.args.d in
-    late (n / 10000) (n / 100 % 100) (n % 100) (omega arith)
+use Rattle.std.proofs.Common.{sym, ◌∙◌}
+use Rattle.leaf.proofs.Steps.{made-is, invalid-is}
 
 pub returns-in-Made : goal.returns-in-Made
 unfolding valid_date
