@@ -1,6 +1,8 @@
 -- One case for each guard (`row-past`, `row_count`, `row-long`, `row_small`), and `row_fits` if the row is written. On the fast path it fits
 -- because the longest row does (`row-bound`). `row_size` gives at most 8,193, so the comparison with 8,192 is exact.
 use Rattle.row.proofs.row.Goals as goal
+use Rattle.std.proofs.Common.{◌≤◌}
+use Rattle.rfc4180.specs.Csv.{max_row}
 use mathlib.Core.Path.{sym, ◌∙◌}
 use native.Mathlib.Omega.{arith}
 use Rattle.row.proofs.Names.{count_most}
@@ -42,7 +44,8 @@ returns-then-size-gt-MAX_ROW c =
 pub returns-then-out-size : goal.returns-then-out-size
 returns-then-out-size c =
     let a = c.args in
-    row_small a.table a.texts.now a.lengths.now a.out.now c.if-table-gt-LAST_TABLE.false (c.if-lengths-column_count.false ∙ c.column_count.ensures) c.row_size-size.result c.row_size-size.ensures c.if-size-gt-MAX_ROW.false c.if-out-size.true
+    let h : c.row_size-size.result ≤ max_row = omega arith in
+    row_small a.table a.texts.now a.lengths.now a.out.now c.if-table-gt-LAST_TABLE.false (c.if-lengths-column_count.false ∙ c.column_count.ensures) c.row_size-size.result c.row_size-size.ensures h c.if-out-size.true
 
 pub returns : goal.returns
 returns c =
