@@ -1,0 +1,31 @@
+-- The call on the state's parts is the call on the state, with the state's own sources and tail.
+use Rattle.std.proofs.Common.{rules, ◌≡◌, ℕ, ◌+◌, ◌-◌, ◌*◌, ◌<◌, ◌≤◌, length, ◌/◌, ◌%◌, Bool, true, false, nat_eq, nat_lt, List, [], ◌∷◌, ◌++◌, slice_index_or, slice_set, bit_and, bit_or, Fits, w8, w32, w64, Bor, MutBor}
+use Rattle.record.specs.Record.{decoded, current_version}
+use Rattle.lower.specs.Lower as Lower
+use Rattle.due.specs.Due as Due
+use Rattle.commit.specs.Commit as Commit
+use Rattle.commit.specs.Unchanged as Unchanged
+use Rattle.cstate.specs.State.{writer_of}
+use Rattle.cstate.specs.Answers as Answers
+use Rattle.bankcore.specs.Stamp.{stamp_of}
+use Rattle.bankcore.specs.Operation as Operations
+use Rattle.bankcore.specs.Claims.{Claims}
+use Rattle.bankcore.proofs.lower_calls.tt_update_close.Goals as goal
+use mathlib.Core.Path.{refl, ap, ◌∙◌}
+use Rattle.writer.specs.declared.Step.{Step}
+use Rattle.writer.specs.Parts.{whole_of}
+use Rattle.cstate.specs.Answers.{after}
+use Rattle.cstate.proofs.Rest.{parts-after}
+use Rattle.lower.specs.Lower.{close_step}
+
+pub returns : goal.returns
+unfolding writer_of
+returns c =
+    let x = c.close_parts-s in
+    let p = c.parts_of-p in
+    let o = c.beginning_of-b in
+    let a = c.args in
+    let s = a.state in
+    c.after_parts.ensures
+    ∙ parts-after o.result x.result s.sources s.tail s (λ e. (refl, refl))
+    ∙ ap (λ (t : Step). after t s) (x.ensures s.sources s.tail ∙ (λ i. close_step (whole_of (o.ensures i) (p.ensures i) s.sources s.tail)))

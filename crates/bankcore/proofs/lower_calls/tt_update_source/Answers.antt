@@ -1,0 +1,38 @@
+-- The call on the state's parts is the call on the state; a refused call leaves the sources (`not_done`).
+use Rattle.std.proofs.Common.{rules, ◌≡◌, ℕ, ◌+◌, ◌-◌, ◌*◌, ◌<◌, ◌≤◌, length, ◌/◌, ◌%◌, Bool, true, false, nat_eq, nat_lt, List, [], ◌∷◌, ◌++◌, slice_index_or, slice_set, bit_and, bit_or, Fits, w8, w32, w64, Bor, MutBor}
+use Rattle.record.specs.Record.{decoded, current_version}
+use Rattle.lower.specs.Lower as Lower
+use Rattle.due.specs.Due as Due
+use Rattle.commit.specs.Commit as Commit
+use Rattle.commit.specs.Unchanged as Unchanged
+use Rattle.cstate.specs.State.{writer_of}
+use Rattle.cstate.specs.Answers as Answers
+use Rattle.bankcore.specs.Stamp.{stamp_of}
+use Rattle.bankcore.specs.Operation as Operations
+use Rattle.bankcore.specs.Claims.{Claims}
+use Rattle.bankcore.proofs.lower_calls.tt_update_source.Goals as goal
+use mathlib.Core.Path.{refl, ap, ◌∙◌}
+use Rattle.writer.specs.declared.Step.{Step}
+use Rattle.writer.specs.Parts.{whole_of}
+use Rattle.cstate.specs.Answers.{after}
+use Rattle.cstate.proofs.Rest.{parts-after}
+use Rattle.record.specs.declared.Source.{Source}
+use Rattle.writer.specs.Parts.{step_with}
+use Rattle.bankcore.proofs.Laws.{not_done}
+use Rattle.lower.specs.Lower.{source_step}
+use Rattle.lower.specs.Sources.{sources_with}
+
+pub returns : goal.returns
+unfolding writer_of
+returns c =
+    let w = c.sources_with-sources in
+    let d = c.is_done in
+    let x = c.source_parts-s in
+    let p = c.parts_of-p in
+    let o = c.beginning_of-b in
+    let r = c.decode-r in
+    let s = c.args.state in
+    let k : Bool → List Source = λ t. sources_with t s.sources p.result.tables r.result in
+    c.after_parts.ensures
+    ∙ parts-after o.result x.result w.result s.tail s (λ e. (w.ensures ∙ ap k (d.ensures ∙ not_done x.result.answer e), refl))
+    ∙ ap (λ (t : Step). after t s) (ap (λ (ss : List Source). step_with o.result x.result ss s.tail) (w.ensures ∙ ap k d.ensures) ∙ x.ensures r.result s.sources s.tail ∙ (λ i. source_step (whole_of (o.ensures i) (p.ensures i) s.sources s.tail) (r.ensures i)))
