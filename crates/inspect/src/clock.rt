@@ -1,9 +1,10 @@
 // Times and days as dates.
 use base::number::u32_to_u64;
 use leaf::date::valid_date;
-use libc::STDOUT_FILENO;
 use program::number::bits;
 use program::output::{long_field, say};
+use std::io;
+use std::io::Write;
 use std::num::{wrapping_add_u64, wrapping_sub_u64};
 
 // Seconds from 1970 to the end of the year 9999.
@@ -118,47 +119,46 @@ fn day_at(n: u64) -> Day {
     }
 }
 
-fn digit(n: u64) {
-    long_field(STDOUT_FILENO, b"", n % TEN);
+fn digit<W: Write>(out: &mut W, n: u64) -> io::Result<()> {
+    long_field(out, b"", n % TEN)
 }
 
 // The last two digits of a number, after a text.
-fn two_digits(before: &[u8], n: u64) {
-    say(before);
-    digit(n / TEN);
-    digit(n);
+fn two_digits<W: Write>(out: &mut W, before: &[u8], n: u64) -> io::Result<()> {
+    say(out, before)?;
+    digit(out, n / TEN)?;
+    digit(out, n)
 }
 
-fn say_day(d: Day) {
-    digit(d.year / THOUSAND);
-    digit(d.year / HUNDRED);
-    two_digits(b"", d.year);
-    two_digits(b"-", d.month);
-    two_digits(b"-", d.day);
+fn say_day<W: Write>(out: &mut W, d: Day) -> io::Result<()> {
+    digit(out, d.year / THOUSAND)?;
+    digit(out, d.year / HUNDRED)?;
+    two_digits(out, b"", d.year)?;
+    two_digits(out, b"-", d.month)?;
+    two_digits(out, b"-", d.day)
 }
 
 // Prints a time that has a date, with what is between day and hour and what is at the end.
-pub fn say_time(z: i64, between: &[u8], end: &[u8]) {
+pub fn say_time<W: Write>(out: &mut W, z: i64, between: &[u8], end: &[u8]) -> io::Result<()> {
     let n = bits(z);
     let d = day_at(n / DAY_SECONDS);
-    say_day(d);
-    two_digits(between, n / HOUR_SECONDS % DAY_HOURS);
-    two_digits(b":", n / MINUTE_SECONDS % MINUTE_SECONDS);
-    two_digits(b":", n % MINUTE_SECONDS);
-    say(end);
+    say_day(out, d)?;
+    two_digits(out, between, n / HOUR_SECONDS % DAY_HOURS)?;
+    two_digits(out, b":", n / MINUTE_SECONDS % MINUTE_SECONDS)?;
+    two_digits(out, b":", n % MINUTE_SECONDS)?;
+    say(out, end)
 }
 
 // Prints a day as 2026-01-01, or its number if it is no date.
-pub fn say_date(d: u32) {
+pub fn say_date<W: Write>(out: &mut W, d: u32) -> io::Result<()> {
     let n = u32_to_u64(d);
     if !valid_date(d) {
-        long_field(STDOUT_FILENO, b"", n);
-        return;
+        return long_field(out, b"", n);
     }
     let day = Day {
         year: n / YEAR_UNIT,
         month: n / HUNDRED,
         day: n,
     };
-    say_day(day);
+    say_day(out, day)
 }

@@ -11,11 +11,13 @@ use record::{Block, Source};
 use refusal::Refusal;
 use region::CAPACITY_64;
 use snapshot::freshness::Freshness;
+use std::io;
+use std::io::Write;
 
 // The first fields: the image's name, and the region in an image of a size; 0 if the image is a region.
-pub fn start(name: &[u8], offset: usize, size: u64) {
-    say(b"{\"image\":");
-    text::say_quoted(name, true);
+pub fn start<W: Write>(out: &mut W, name: &[u8], offset: usize, size: u64) -> io::Result<()> {
+    say(out, b"{\"image\":")?;
+    text::say_quoted(out, name, true)?;
     let mut image_size = size;
     let mut region_offset = offset as u64;
     if size == 0 {
@@ -23,53 +25,55 @@ pub fn start(name: &[u8], offset: usize, size: u64) {
         region_offset = 0;
     }
     print(
+        out,
         b",\"image_size\":{},\"region_offset\":{},\"region_size\":{},\"capacity\":{},\"banks\":[",
         &[image_size, region_offset, REGION_SIZE_64, CAPACITY_64],
-    );
+    )
 }
 
 // A time: its seconds and its date, null if it is unknown.
-fn time(name: &[u8], z: i64) {
-    say(name);
+fn time<W: Write>(out: &mut W, name: &[u8], z: i64) -> io::Result<()> {
+    say(out, name)?;
     if bits(z) == SIGN_BIT {
-        say(b"null");
-        return;
+        return say(out, b"null");
     }
-    signed_field(b"{\"seconds\":", z);
-    say(b",\"utc\":");
+    signed_field(out, b"{\"seconds\":", z)?;
+    say(out, b",\"utc\":")?;
     if clock::has_date(z) {
-        say(b"\"");
-        clock::say_time(z, b" ", b"\"}");
+        say(out, b"\"")?;
+        clock::say_time(out, z, b" ", b"\"}")
     } else {
-        say(b"null}");
+        say(out, b"null}")
     }
 }
 
-fn day(name: &[u8], d: u32) {
-    say(name);
-    say(b"\"");
-    clock::say_date(d);
-    say(b"\"");
+fn day<W: Write>(out: &mut W, name: &[u8], d: u32) -> io::Result<()> {
+    say(out, name)?;
+    say(out, b"\"")?;
+    clock::say_date(out, d)?;
+    say(out, b"\"")
 }
 
-fn share(n: u32) {
-    say(b",\"share\":\"");
-    say_share(n);
-    say(b"\"");
+fn share<W: Write>(out: &mut W, n: u32) -> io::Result<()> {
+    say(out, b",\"share\":\"")?;
+    say_share(out, n)?;
+    say(out, b"\"")
 }
 
-pub fn say_refusal(r: Refusal) {
+pub fn say_refusal<W: Write>(out: &mut W, r: Refusal) -> io::Result<()> {
     print(
+        out,
         b"{\"number\":{},\"word\":\"",
         &[u8_to_u64(refusal::number(r))],
-    );
-    say_word(r);
-    say(b"\"}");
+    )?;
+    say_word(out, r)?;
+    say(out, b"\"}")
 }
 
 // A state's name, by its index.
-fn say_state(s: State) {
+fn say_state<W: Write>(out: &mut W, s: State) -> io::Result<()> {
     say_one(
+        out,
         b"good|\
           erased|\
           no-header|\
@@ -83,172 +87,194 @@ fn say_state(s: State) {
           source-out-of-range|\
           data-damaged",
         state::index(s),
-    );
+    )
 }
 
-fn numbers(f: Found) {
+fn numbers<W: Write>(out: &mut W, f: Found) -> io::Result<()> {
     let b = f.numbers;
     let s = f.state;
     print(
+        out,
         b"{\"version\":{},\"generation\":{},\"data_length\":{}",
         &[b.version as u64, b.generation as u64, b.length as u64],
-    );
-    share(b.length);
+    )?;
+    share(out, b.length)?;
     print(
+        out,
         b",\"sources\":{},\"key_length\":{}",
         &[b.count as u64, b.key as u64],
-    );
-    time(b",\"checked\":", b.checked);
+    )?;
+    time(out, b",\"checked\":", b.checked)?;
     print(
+        out,
         b",\"data_crc\":\"{x}\",\"computed_data_crc\":",
         &[b.crc as u64],
-    );
+    )?;
     if state::is_whole(s) {
-        print(b"\"{x}\"", &[f.computed_data_crc as u64]);
+        print(out, b"\"{x}\"", &[f.computed_data_crc as u64])?;
     } else {
-        say(b"null");
+        say(out, b"null")?;
     }
     print(
+        out,
         b",\"header_crc\":\"{x}\",\"computed_header_crc\":\"{x}\"}",
         &[f.header_crc as u64, f.computed_header_crc as u64],
-    );
+    )
 }
 
 // A bank's refusal, and whether its numbers are trusted.
-fn verdict(v: Validated) {
+fn verdict<W: Write>(out: &mut W, v: Validated) -> io::Result<()> {
     match v {
-        Validated::Good(_) => say(b"null,\"trusted\":true"),
+        Validated::Good(_) => say(out, b"null,\"trusted\":true"),
         Validated::Refused(r) => {
-            say_refusal(r);
-            say(b",\"trusted\":false");
+            say_refusal(out, r)?;
+            say(out, b",\"trusted\":false")
         }
     }
 }
 
 // A bank, up to the map of its sectors.
-pub fn bank_start(number: u32, v: Validated, f: Found) {
+pub fn bank_start<W: Write>(out: &mut W, number: u32, v: Validated, f: Found) -> io::Result<()> {
     let s = f.state;
-    print(b"{\"bank\":{},\"refused\":", &[number as u64]);
-    verdict(v);
-    say(b",\"state\":\"");
-    say_state(s);
-    say(b"\",\"words\":\"");
-    lines::say_state(s, f.last);
-    say(b"\",\"header\":");
+    print(out, b"{\"bank\":{},\"refused\":", &[number as u64])?;
+    verdict(out, v)?;
+    say(out, b",\"state\":\"")?;
+    say_state(out, s)?;
+    say(out, b"\",\"words\":\"")?;
+    lines::say_state(out, s, f.last)?;
+    say(out, b"\",\"header\":")?;
     if state::has_numbers(s) {
-        numbers(f);
+        numbers(out, f)?;
     } else {
-        say(b"null");
+        say(out, b"null")?;
     }
     print(
+        out,
         b",\"last_written_sector\":{},\"sectors\":\"",
         &[f.last as u64],
-    );
+    )
 }
 
 // A sector of the map, as one letter.
-pub fn sector(s: Sector) {
-    say_one(b".|h|d|x|o", state::sector_index(s));
+pub fn sector<W: Write>(out: &mut W, s: Sector) -> io::Result<()> {
+    say_one(out, b".|h|d|x|o", state::sector_index(s))
 }
 
 // What load gives, after the banks.
-pub fn loaded(number: u32) {
-    field(b"],\"load\":", number);
+pub fn loaded<W: Write>(out: &mut W, number: u32) -> io::Result<()> {
+    field(out, b"],\"load\":", number)
 }
 
-pub fn asked(number: u32) {
-    field(b",\"asked\":", number);
+pub fn asked<W: Write>(out: &mut W, number: u32) -> io::Result<()> {
+    field(out, b",\"asked\":", number)
 }
 
-pub fn key_start(bytes: &[u8]) {
-    say(b",\"key\":{\"hex\":\"");
-    text::say_bytes(bytes);
-    say(b"\"");
+pub fn key_start<W: Write>(out: &mut W, bytes: &[u8]) -> io::Result<()> {
+    say(out, b",\"key\":{\"hex\":\"")?;
+    text::say_bytes(out, bytes)?;
+    say(out, b"\"")
 }
 
-pub fn identity(s: &[u8]) {
-    say(b",\"identity\":");
-    text::say_quoted(s, true);
+pub fn identity<W: Write>(out: &mut W, s: &[u8]) -> io::Result<()> {
+    say(out, b",\"identity\":")?;
+    text::say_quoted(out, s, true)
 }
 
 // One of the five texts of a pick.
-pub fn pick_field(pick: u32, index: u32, last: bool, s: &[u8]) {
+pub fn pick_field<W: Write>(
+    out: &mut W,
+    pick: u32,
+    index: u32,
+    last: bool,
+    s: &[u8],
+) -> io::Result<()> {
     if (index == 0) & (pick != 0) {
-        say(b",");
+        say(out, b",")?;
     }
     if index == 0 {
-        say(b"[");
+        say(out, b"[")?;
     } else {
-        say(b",");
+        say(out, b",")?;
     }
-    text::say_quoted(s, true);
+    text::say_quoted(out, s, true)?;
     if last {
-        say(b"]");
+        say(out, b"]")?;
     }
+    Ok(())
 }
 
-pub fn source_start(i: u32, s: Source) {
+pub fn source_start<W: Write>(out: &mut W, i: u32, s: Source) -> io::Result<()> {
     if i != 0 {
-        say(b",");
+        say(out, b",")?;
     }
-    field(b"{\"source\":", i);
-    day(b",\"start\":", s.start);
-    day(b",\"end\":", s.end);
-    time(b",\"updated\":", s.updated);
-    say(b",\"present\":[");
+    field(out, b"{\"source\":", i)?;
+    day(out, b",\"start\":", s.start)?;
+    day(out, b",\"end\":", s.end)?;
+    time(out, b",\"updated\":", s.updated)?;
+    say(out, b",\"present\":[")
 }
 
-pub fn present_table(t: u32, first: bool) {
+pub fn present_table<W: Write>(out: &mut W, t: u32, first: bool) -> io::Result<()> {
     if !first {
-        say(b",");
+        say(out, b",")?;
     }
-    say(b"\"");
-    tables::say_name(t);
-    say(b"\"");
+    say(out, b"\"")?;
+    tables::say_name(out, t)?;
+    say(out, b"\"")
 }
 
-pub fn table(t: u32, b: Block, original_crc: u32, original_length: u32, computed: u32) {
+pub fn table<W: Write>(
+    out: &mut W,
+    t: u32,
+    b: Block,
+    original_crc: u32,
+    original_length: u32,
+    computed: u32,
+) -> io::Result<()> {
     if t != 0 {
-        say(b",");
+        say(out, b",")?;
     }
-    say(b"{\"table\":\"");
-    tables::say_name(t);
+    say(out, b"{\"table\":\"")?;
+    tables::say_name(out, t)?;
     print(
+        out,
         b"\",\"offset\":{},\"length\":{}",
         &[b.offset as u64, b.length as u64],
-    );
-    share(b.length);
+    )?;
+    share(out, b.length)?;
     print(
+        out,
         b",\"crc\":\"{x}\",\"computed_crc\":\"{x}\",\"damaged\":",
         &[b.crc as u64, computed as u64],
-    );
+    )?;
     if computed == b.crc {
-        say(b"false");
+        say(out, b"false")?;
     } else {
-        say(b"true");
+        say(out, b"true")?;
     }
     print(
+        out,
         b",\"original_crc\":\"{x}\",\"original_length\":{}}",
         &[original_crc as u64, original_length as u64],
-    );
+    )
 }
 
-pub fn fresh(t: Freshness) {
-    time(b"{\"checked\":", t.checked);
-    time(b",\"updated\":", t.updated);
-    say(b"}");
+pub fn fresh<W: Write>(out: &mut W, t: Freshness) -> io::Result<()> {
+    time(out, b"{\"checked\":", t.checked)?;
+    time(out, b",\"updated\":", t.updated)?;
+    say(out, b"}")
 }
 
 // A table's rows, up to the first.
-pub fn rows_start(source: u32, table: u32) {
-    print(b"{\"source\":{},\"table\":\"", &[source as u64]);
-    tables::say_name(table);
-    say(b"\",\"rows\":[");
+pub fn rows_start<W: Write>(out: &mut W, source: u32, table: u32) -> io::Result<()> {
+    print(out, b"{\"source\":{},\"table\":\"", &[source as u64])?;
+    tables::say_name(out, table)?;
+    say(out, b"\",\"rows\":[")
 }
 
-pub fn row_start(offset: usize) {
+pub fn row_start<W: Write>(out: &mut W, offset: usize) -> io::Result<()> {
     if offset != 0 {
-        say(b",");
+        say(out, b",")?;
     }
-    print(b"{\"offset\":{}", &[offset as u64]);
+    print(out, b"{\"offset\":{}", &[offset as u64])
 }

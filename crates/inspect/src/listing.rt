@@ -13,6 +13,8 @@ use region::CAPACITY_32;
 use rfc4180::{MAX_COLUMNS, MAX_ROW};
 use row::column_count;
 use rowread::ReadAnswer;
+use std::io;
+use std::io::Write;
 use std::num::wrapping_add_usize;
 
 // What is around a value: two quotes, or an object, and a comma after it.
@@ -128,52 +130,66 @@ fn spell_row(values: &[u8], ends: &[usize], width: usize, line: &mut [u8], json:
     at
 }
 
-fn say_row(r: Row, values: &[u8], json: bool) {
+fn say_row<W: Write>(out: &mut W, r: Row, values: &[u8], json: bool) -> io::Result<()> {
     if json {
-        json::row_start(r.offset);
-        say(b",\"values\":[");
-        say(values);
-        say(b"]}");
+        json::row_start(out, r.offset)?;
+        say(out, b",\"values\":[")?;
+        say(out, values)?;
+        say(out, b"]}")
     } else {
-        lines::row_start(r.source, r.table, r.offset);
-        say(values);
-        say(b"\n");
+        lines::row_start(out, r.source, r.table, r.offset)?;
+        say(out, values)?;
+        say(out, b"\n")
     }
 }
 
-fn say_refused(r: Row, x: Refusal, json: bool) {
+fn say_refused<W: Write>(out: &mut W, r: Row, x: Refusal, json: bool) -> io::Result<()> {
     if json {
-        json::row_start(r.offset);
-        say(b",\"refused\":");
-        json::say_refusal(x);
-        say(b"}");
+        json::row_start(out, r.offset)?;
+        say(out, b",\"refused\":")?;
+        json::say_refusal(out, x)?;
+        say(out, b"}")
     } else {
-        lines::row_start(r.source, r.table, r.offset);
-        lines::refused_line(b"", x);
+        lines::row_start(out, r.source, r.table, r.offset)?;
+        lines::refused_line(out, b"", x)
     }
 }
 
 // Prints a row, nothing at the table's end; gives the offset of the next row, or the same offset if there is none.
-fn row_report(region: &[u8], r: Row, values: &mut [u8], line: &mut [u8], json: bool) -> usize {
+fn row_report<W: Write>(
+    out: &mut W,
+    region: &[u8],
+    r: Row,
+    values: &mut [u8],
+    line: &mut [u8],
+    json: bool,
+) -> io::Result<usize> {
     let mut space = [0usize; MAX_COLUMNS];
     let ends: &mut [usize] = &mut space;
     let a = snapshot::rows::bank_row(region, r.bank, r.source, r.table, r.offset, values, ends);
     match a {
         ReadAnswer::Stored { next, size: _ } => {
             let n = spell_row(values, ends, column_count(r.table), line, json);
-            say_row(r, part(line, 0, n), json);
-            next
+            say_row(out, r, part(line, 0, n), json)?;
+            Ok(next)
         }
-        ReadAnswer::End => r.offset,
+        ReadAnswer::End => Ok(r.offset),
         ReadAnswer::Refused(x) => {
-            say_refused(r, x, json);
-            r.offset
+            say_refused(out, r, x, json)?;
+            Ok(r.offset)
         }
     }
 }
 
 // The rows of a table, up to its end or the first that is refused.
-fn row_reports(region: &[u8], bank: u32, source: u32, table: u32, json: bool) {
+fn row_reports<W: Write>(
+    out: &mut W,
+    region: &[u8],
+    bank: u32,
+    source: u32,
+    table: u32,
+    json: bool,
+) -> io::Result<()> {
     let mut value_space = [0u8; MAX_ROW];
     let values: &mut [u8] = &mut value_space;
     let mut line_space = [0u8; LINE_SIZE];
@@ -187,62 +203,100 @@ fn row_reports(region: &[u8], bank: u32, source: u32, table: u32, json: bool) {
             table,
             offset,
         };
-        let next = row_report(region, r, values, line, json);
+        let next = row_report(out, region, r, values, line, json)?;
         if next == offset {
-            return;
+            return Ok(());
         }
         offset = next;
         rows -= 1;
     }
+    Ok(())
 }
 
-fn table_rows(region: &[u8], bank: u32, source: u32, table: u32, json: bool) {
+fn table_rows<W: Write>(
+    out: &mut W,
+    region: &[u8],
+    bank: u32,
+    source: u32,
+    table: u32,
+    json: bool,
+) -> io::Result<()> {
     if json {
-        json::rows_start(source, table);
+        json::rows_start(out, source, table)?;
     }
-    row_reports(region, bank, source, table, json);
+    row_reports(out, region, bank, source, table, json)?;
     if json {
-        say(b"]}");
+        say(out, b"]}")?;
     }
+    Ok(())
 }
 
-fn comma(json: bool, n: u32) {
+fn comma<W: Write>(out: &mut W, json: bool, n: u32) -> io::Result<()> {
     if json & (n != 0) {
-        say(b",");
+        say(out, b",")?;
     }
+    Ok(())
 }
 
-fn all_tables(region: &[u8], bank: u32, source: u32, json: bool) {
+fn all_tables<W: Write>(
+    out: &mut W,
+    region: &[u8],
+    bank: u32,
+    source: u32,
+    json: bool,
+) -> io::Result<()> {
     let mut t: u32 = 0;
     while t <= LAST_TABLE {
-        comma(json, t);
-        table_rows(region, bank, source, t, json);
+        comma(out, json, t)?;
+        table_rows(out, region, bank, source, t, json)?;
         t += 1;
     }
+    Ok(())
 }
 
-fn tables(region: &[u8], bank: u32, source: u32, chosen: Choice, json: bool) {
+fn tables<W: Write>(
+    out: &mut W,
+    region: &[u8],
+    bank: u32,
+    source: u32,
+    chosen: Choice,
+    json: bool,
+) -> io::Result<()> {
     match chosen {
-        Choice::One(t) => table_rows(region, bank, source, t, json),
-        _ => all_tables(region, bank, source, json),
+        Choice::One(t) => table_rows(out, region, bank, source, t, json),
+        _ => all_tables(out, region, bank, source, json),
     }
 }
 
-fn all_sources(region: &[u8], bank: u32, count: u32, chosen: Choice, json: bool) {
+fn all_sources<W: Write>(
+    out: &mut W,
+    region: &[u8],
+    bank: u32,
+    count: u32,
+    chosen: Choice,
+    json: bool,
+) -> io::Result<()> {
     let mut i: u32 = 0;
     while i < count {
-        comma(json, i);
-        tables(region, bank, i, chosen, json);
+        comma(out, json, i)?;
+        tables(out, region, bank, i, chosen, json)?;
         i += 1;
     }
+    Ok(())
 }
 
 // The rows that are asked for, of a bank with a number of sources.
-pub fn rows(region: &[u8], bank: u32, count: u32, s: Shown) {
+pub fn rows<W: Write>(
+    out: &mut W,
+    region: &[u8],
+    bank: u32,
+    count: u32,
+    s: Shown,
+) -> io::Result<()> {
     let source = s.source;
     let table = s.table;
     match source {
-        Choice::One(i) => tables(region, bank, i, table, s.json),
-        _ => all_sources(region, bank, count, table, s.json),
+        Choice::One(i) => tables(out, region, bank, i, table, s.json),
+        _ => all_sources(out, region, bank, count, table, s.json),
     }
 }

@@ -18,13 +18,16 @@ use crate::options::{End, LENGTHS, Options, TEXTS_SIZE};
 use base::slice::part;
 use program::image::{Image, Place, REGION_OFFSET};
 use program::{arguments, image, lengths, output};
+use std::io;
+use std::io::{BufWriter, Write};
+use std::rt::{Env, Files};
 
 pub const PROGRAM: [u8; 7] = *b"inspect";
 
 // Writes the identity to the start of a buffer; gives its length.
-fn identity(at: usize, buffer: &mut [u8]) -> usize {
+fn identity(rt: &impl Env, at: usize, buffer: &mut [u8]) -> usize {
     if at != 0 {
-        return os::arg(at, buffer);
+        return arguments::read(rt, at, buffer);
     }
     0
 }
@@ -38,48 +41,81 @@ fn offset(p: Place) -> usize {
 }
 
 // The first lines: the image's name, and the region in an image of a size; 0 if the image is a region.
-fn start(place: Place, json: bool, name: &[u8], size: u64) {
+fn start<W: Write>(
+    out: &mut W,
+    place: Place,
+    json: bool,
+    name: &[u8],
+    size: u64,
+) -> io::Result<()> {
     if json {
-        json::start(name, offset(place), size);
+        json::start(out, name, offset(place), size)
     } else {
-        lines::start(name, offset(place), size);
+        lines::start(out, name, offset(place), size)
     }
 }
 
-fn inspect(o: Options, buffer: &mut [u8], texts: &[u8], lengths: &[u32]) {
+fn inspect<R: Env + Files + Input, W: Write, E: Write>(
+    rt: &R,
+    out: &mut W,
+    err: &mut E,
+    o: Options,
+    buffer: &mut [u8],
+    texts: &[u8],
+    lengths: &[u32],
+) -> io::Result<()> {
     let images = o.images;
-    let n = arguments::image_name(images.index, buffer);
+    let n = arguments::image_name(rt, images.index, buffer);
     let program = PROGRAM;
     let place = images.place;
     let selection = o.selection;
     let shown = o.shown;
     let mut region = image::buffer();
-    let i = image::read(&program, part(buffer, 0, n), place, &mut region);
+    let i = image::read(rt, err, &program, part(buffer, 0, n), place, &mut region)?;
     match i {
-        Image::Unusable => return,
-        Image::Region => start(place, shown.json, part(buffer, 0, n), 0),
-        Image::Dump(size) => start(place, shown.json, part(buffer, 0, n), size),
+        Image::Unusable => return Ok(()),
+        Image::Region => start(out, place, shown.json, part(buffer, 0, n), 0)?,
+        Image::Dump(size) => start(out, place, shown.json, part(buffer, 0, n), size)?,
     }
-    let m = identity(selection.identity, buffer);
+    let m = identity(rt, selection.identity, buffer);
     report::region_report(
+        out,
         &region,
         o,
         part(buffer, 0, m),
         part(texts, 0, selection.texts),
         lengths::first(lengths, selection.lengths),
-    );
+    )
 }
 
-fn main() {
+// Reads the arguments, and writes what they ask for or what is wrong with them.
+fn answer<R: Env + Files + Input, W: Write, E: Write>(
+    rt: &R,
+    out: &mut W,
+    err: &mut E,
+) -> io::Result<()> {
     let mut buffer = arguments::buffer();
     let mut texts = [0u8; TEXTS_SIZE];
     let mut lengths = [0u32; LENGTHS];
-    let o = options::read(&mut buffer, &mut texts, &mut lengths);
+    let o = options::read(rt, &mut buffer, &mut texts, &mut lengths);
     let end = o.end;
     match end {
-        End::More => inspect(o, &mut buffer, &texts, &lengths),
-        _ => message::report(end, o.next, &mut buffer),
+        End::More => inspect(rt, out, err, o, &mut buffer, &texts, &lengths),
+        _ => message::report(rt, out, err, end, o.next, &mut buffer),
     }
+}
+
+// Writes all to standard output, a buffer at a time.
+fn run<E: Write>(rt: &HostRuntime, err: &mut E) -> io::Result<()> {
+    let mut out = BufWriter::new(rt.alloc(), rt.stdout())?;
+    answer(rt, &mut out, err)?;
+    out.flush()
+}
+
+fn main(rt: HostRuntime) {
+    let mut err = rt.stderr();
+    let done = run(&rt, &mut err);
     let program = PROGRAM;
-    output::finish(&program);
+    // There is nowhere to tell what standard error doesn't take.
+    let _ = output::finish(&mut err, &program, done);
 }

@@ -2,22 +2,26 @@
 use crate::PROGRAM;
 use crate::options::End;
 use base::slice::part;
-use program::message;
 use program::output::say;
+use program::{arguments, message};
+use std::io;
+use std::io::Write;
+use std::rt::Env;
 
-fn no_option(at: usize, buffer: &mut [u8]) {
-    let n = os::arg(at, buffer);
+fn no_option<W: Write>(rt: &impl Env, err: &mut W, at: usize, buffer: &mut [u8]) -> io::Result<()> {
+    let n = arguments::read(rt, at, buffer);
     let program = PROGRAM;
-    message::no_option(&program, part(buffer, 0, n));
+    message::no_option(err, &program, part(buffer, 0, n))
 }
 
-fn no_image() {
+fn no_image<W: Write>(err: &mut W) -> io::Result<()> {
     let program = PROGRAM;
-    message::no_image(&program);
+    message::no_image(err, &program)
 }
 
-fn help() {
+fn help<W: Write>(out: &mut W) -> io::Result<()> {
     say(
+        out,
         b"inspect [options] IMAGE
 
 Says what is in a board's two timetable banks: each bank's header, or why it is
@@ -47,7 +51,7 @@ refused and what happened to it; the bank that load gives, its key and sources.
 With wrong arguments, an image of another size or one that can't be read, one
 line is on standard error and nothing on standard output.
 ",
-    );
+    )
 }
 
 // What is wrong, by the index of its words.
@@ -66,9 +70,10 @@ fn wrong_word(end: End) -> u32 {
     }
 }
 
-fn wrong(end: End) {
+fn wrong<W: Write>(err: &mut W, end: End) -> io::Result<()> {
     let program = PROGRAM;
     message::wrong(
+        err,
         &program,
         b"one image at a time|\
           --offset needs a number of bytes, at most 16777216|\
@@ -81,16 +86,23 @@ fn wrong(end: End) {
           --pick needs five texts: line, route, stop code, stop, stop name|\
           --rows needs a source (0, 1, 2 or all) and a table's name or all",
         wrong_word(end),
-    );
+    )
 }
 
 // Writes the help, or what is wrong with the arguments.
-pub fn report(end: End, next: usize, buffer: &mut [u8]) {
+pub fn report<W: Write, E: Write>(
+    rt: &impl Env,
+    out: &mut W,
+    err: &mut E,
+    end: End,
+    next: usize,
+    buffer: &mut [u8],
+) -> io::Result<()> {
     match end {
-        End::More => return,
-        End::Help => help(),
-        End::NoOption => no_option(next, buffer),
-        End::NoImage => no_image(),
-        _ => wrong(end),
+        End::More => Ok(()),
+        End::Help => help(out),
+        End::NoOption => no_option(rt, err, next, buffer),
+        End::NoImage => no_image(err),
+        _ => wrong(err, end),
     }
 }

@@ -7,11 +7,12 @@ use leaf::bytes::get8;
 use program::arguments::follow;
 use program::bytes::copy;
 use program::image::{LARGEST_DUMP_64, Place};
-use program::lengths;
 use program::number::{low32, signed};
 use program::text::{Number, after, between, digits, find};
+use program::{arguments, lengths};
 use snapshot::freshness::{Day, Days};
 use std::num::wrapping_add_usize;
+use std::rt::Env;
 
 // One pick more than a key can have, and its lengths.
 const PICKS: usize = MAX_PICKS + 1;
@@ -220,8 +221,8 @@ fn ended(o: Options, end: End) -> Options {
 }
 
 // Writes argument k of the option at an index to the start of a buffer; gives its length.
-fn text_of(option: usize, k: usize, buffer: &mut [u8]) -> usize {
-    os::arg(wrapping_add_usize(option, k), buffer)
+fn text_of(rt: &impl Env, option: usize, k: usize, buffer: &mut [u8]) -> usize {
+    arguments::read(rt, wrapping_add_usize(option, k), buffer)
 }
 
 // The image, or what says which it is.
@@ -246,13 +247,19 @@ fn with_offset(i: Images, s: &[u8]) -> ImagesRead {
     })
 }
 
-fn read_image(i: Images, a: Argument, option: usize, buffer: &mut [u8]) -> ImagesRead {
+fn read_image(
+    rt: &impl Env,
+    i: Images,
+    a: Argument,
+    option: usize,
+    buffer: &mut [u8],
+) -> ImagesRead {
     match a {
         Argument::Image => with_image(i, option),
         Argument::Rest => ImagesRead::Is(Images { only: true, ..i }),
         Argument::Sample => ImagesRead::Is(Images { sample: true, ..i }),
         _ => {
-            let n = text_of(option, 1, buffer);
+            let n = text_of(rt, option, 1, buffer);
             with_offset(i, part(buffer, 0, n))
         }
     }
@@ -273,9 +280,9 @@ fn image_end(a: Argument) -> End {
     }
 }
 
-fn image_option(o: Options, a: Argument, buffer: &mut [u8]) -> Options {
+fn image_option(rt: &impl Env, o: Options, a: Argument, buffer: &mut [u8]) -> Options {
     let i = o.images;
-    let r = read_image(i, a, o.next, buffer);
+    let r = read_image(rt, i, a, o.next, buffer);
     match r {
         ImagesRead::Is(images) => Options {
             next: wrapping_add_usize(o.next, image_size(a)),
@@ -426,8 +433,8 @@ fn time_end(a: Argument) -> End {
     }
 }
 
-fn time_option(o: Options, a: Argument, buffer: &mut [u8]) -> Options {
-    let n = text_of(o.next, 1, buffer);
+fn time_option(rt: &impl Env, o: Options, a: Argument, buffer: &mut [u8]) -> Options {
+    let n = text_of(rt, o.next, 1, buffer);
     let t = o.times;
     let r = read_time(t, a, part(buffer, 0, n));
     match r {
@@ -453,6 +460,7 @@ fn kept(n: usize) -> u32 {
 
 // Appends the texts of a pick to those that are there; gives the offset after them.
 fn append_pick(
+    rt: &impl Env,
     s: Selection,
     option: usize,
     buffer: &mut [u8],
@@ -463,7 +471,7 @@ fn append_pick(
     let mut k = 0;
     while k < FIELDS {
         k += 1;
-        let n = kept(text_of(option, k, buffer));
+        let n = kept(text_of(rt, option, k, buffer));
         copy(part(buffer, 0, n as usize), texts, to);
         lengths::set(lengths, wrapping_add_usize(s.lengths, k - 1), n);
         to = wrapping_add_usize(to, n as usize);
@@ -473,6 +481,7 @@ fn append_pick(
 
 // A pick more than a key can have is kept, those after it aren't.
 fn with_pick(
+    rt: &impl Env,
     s: Selection,
     option: usize,
     buffer: &mut [u8],
@@ -482,7 +491,7 @@ fn with_pick(
     if LENGTHS_BEFORE < s.lengths {
         return s;
     }
-    let size = append_pick(s, option, buffer, texts, lengths);
+    let size = append_pick(rt, s, option, buffer, texts, lengths);
     Selection {
         asked: true,
         lengths: wrapping_add_usize(s.lengths, FIELDS),
@@ -492,6 +501,7 @@ fn with_pick(
 }
 
 fn read_selection(
+    rt: &impl Env,
     s: Selection,
     a: Argument,
     option: usize,
@@ -505,7 +515,7 @@ fn read_selection(
             identity: wrapping_add_usize(option, 1),
             ..s
         },
-        Argument::Pick => with_pick(s, option, buffer, texts, lengths),
+        Argument::Pick => with_pick(rt, s, option, buffer, texts, lengths),
         _ => Selection { asked: true, ..s },
     }
 }
@@ -527,6 +537,8 @@ fn selection_end(a: Argument) -> End {
 }
 
 fn selection_option(
+    rt: &impl Env,
+    count: usize,
     o: Options,
     a: Argument,
     buffer: &mut [u8],
@@ -534,11 +546,11 @@ fn selection_option(
     lengths: &mut [u32],
 ) -> Options {
     let n = selection_size(a);
-    if !follow(o.next, n, os::arg_count()) {
+    if !follow(o.next, n, count) {
         return ended(o, selection_end(a));
     }
     let s = o.selection;
-    let selection = read_selection(s, a, o.next, buffer, texts, lengths);
+    let selection = read_selection(rt, s, a, o.next, buffer, texts, lengths);
     Options {
         next: wrapping_add_usize(o.next, wrapping_add_usize(n, 1)),
         selection,
@@ -572,10 +584,10 @@ fn is_known(c: Choice) -> bool {
     }
 }
 
-fn with_rows(s: Shown, option: usize, buffer: &mut [u8]) -> ShownRead {
-    let n = text_of(option, 1, buffer);
+fn with_rows(rt: &impl Env, s: Shown, option: usize, buffer: &mut [u8]) -> ShownRead {
+    let n = text_of(rt, option, 1, buffer);
     let source = source_named(part(buffer, 0, n));
-    let m = text_of(option, SECOND, buffer);
+    let m = text_of(rt, option, SECOND, buffer);
     let table = table_named(part(buffer, 0, m));
     if !is_known(source) | !is_known(table) {
         return ShownRead::Wrong;
@@ -599,8 +611,8 @@ fn bank_named(s: &[u8]) -> Choice {
     }
 }
 
-fn with_bank(s: Shown, option: usize, buffer: &mut [u8]) -> ShownRead {
-    let n = text_of(option, 1, buffer);
+fn with_bank(rt: &impl Env, s: Shown, option: usize, buffer: &mut [u8]) -> ShownRead {
+    let n = text_of(rt, option, 1, buffer);
     let bank = bank_named(part(buffer, 0, n));
     if !is_known(bank) {
         return ShownRead::Wrong;
@@ -608,10 +620,10 @@ fn with_bank(s: Shown, option: usize, buffer: &mut [u8]) -> ShownRead {
     ShownRead::Is(Shown { bank, ..s })
 }
 
-fn read_shown(s: Shown, a: Argument, option: usize, buffer: &mut [u8]) -> ShownRead {
+fn read_shown(rt: &impl Env, s: Shown, a: Argument, option: usize, buffer: &mut [u8]) -> ShownRead {
     match a {
-        Argument::Rows => with_rows(s, option, buffer),
-        Argument::Bank => with_bank(s, option, buffer),
+        Argument::Rows => with_rows(rt, s, option, buffer),
+        Argument::Bank => with_bank(rt, s, option, buffer),
         _ => ShownRead::Is(Shown { json: true, ..s }),
     }
 }
@@ -631,9 +643,9 @@ fn shown_end(a: Argument) -> End {
     }
 }
 
-fn shown_option(o: Options, a: Argument, buffer: &mut [u8]) -> Options {
+fn shown_option(rt: &impl Env, o: Options, a: Argument, buffer: &mut [u8]) -> Options {
     let s = o.shown;
-    let r = read_shown(s, a, o.next, buffer);
+    let r = read_shown(rt, s, a, o.next, buffer);
     match r {
         ShownRead::Is(shown) => Options {
             next: wrapping_add_usize(o.next, shown_size(a)),
@@ -725,31 +737,38 @@ fn group_of(a: Argument) -> Group {
 }
 
 // The next argument; after `--` it is an image, whatever it says.
-fn next_argument(next: usize, only: bool, buffer: &mut [u8]) -> Argument {
-    let n = os::arg(next, buffer);
+fn next_argument(rt: &impl Env, next: usize, only: bool, buffer: &mut [u8]) -> Argument {
+    let n = arguments::read(rt, next, buffer);
     if only & (n != 0) {
         return Argument::Image;
     }
     argument_of(part(buffer, 0, n))
 }
 
-// Reads one option with its arguments.
-fn step(o: Options, buffer: &mut [u8], texts: &mut [u8], lengths: &mut [u32]) -> Options {
+// Reads one option with its arguments, of which there are `count`.
+fn step(
+    rt: &impl Env,
+    count: usize,
+    o: Options,
+    buffer: &mut [u8],
+    texts: &mut [u8],
+    lengths: &mut [u32],
+) -> Options {
     let images = o.images;
-    let a = next_argument(o.next, images.only, buffer);
+    let a = next_argument(rt, o.next, images.only, buffer);
     let g = group_of(a);
     match g {
-        Group::Image => image_option(o, a, buffer),
-        Group::Time => time_option(o, a, buffer),
-        Group::Selection => selection_option(o, a, buffer, texts, lengths),
-        Group::Shown => shown_option(o, a, buffer),
+        Group::Image => image_option(rt, o, a, buffer),
+        Group::Time => time_option(rt, o, a, buffer),
+        Group::Selection => selection_option(rt, count, o, a, buffer, texts, lengths),
+        Group::Shown => shown_option(rt, o, a, buffer),
         Group::Ends(end) => ended(o, end),
     }
 }
 
-fn has_more(end: End, next: usize) -> bool {
+fn has_more(end: End, next: usize, count: usize) -> bool {
     match end {
-        End::More => next < os::arg_count(),
+        End::More => next < count,
         _ => false,
     }
 }
@@ -781,15 +800,16 @@ fn finished(o: Options) -> Options {
 }
 
 // Reads all arguments. Each turn reads one or more of them.
-pub fn read(buffer: &mut [u8], texts: &mut [u8], lengths: &mut [u32]) -> Options {
+pub fn read(rt: &impl Env, buffer: &mut [u8], texts: &mut [u8], lengths: &mut [u32]) -> Options {
     let mut o = none();
-    let mut left = os::arg_count();
+    let count = arguments::count(rt);
+    let mut left = count;
     while 0 < left {
         let end = o.end;
-        if !has_more(end, o.next) {
+        if !has_more(end, o.next, count) {
             return finished(o);
         }
-        o = step(o, buffer, texts, lengths);
+        o = step(rt, count, o, buffer, texts, lengths);
         left -= 1;
     }
     finished(o)

@@ -2,6 +2,8 @@
 use crate::out::say_one;
 use base::slice::same_bytes;
 use program::output::say;
+use std::io;
+use std::io::Write;
 
 const ROUTES: u32 = 0;
 
@@ -28,17 +30,18 @@ pub enum Choice {
 }
 
 // A table's name.
-pub fn say_name(t: u32) {
+pub fn say_name<W: Write>(out: &mut W, t: u32) -> io::Result<()> {
     say_one(
+        out,
         b"routes|stops|trips|stop_times|calendar|calendar_dates|feed_info|transfers",
         t,
-    );
+    )
 }
 
 // A space and a table's name.
-pub fn say_table(t: u32) {
-    say(b" ");
-    say_name(t);
+pub fn say_table<W: Write>(out: &mut W, t: u32) -> io::Result<()> {
+    say(out, b" ")?;
+    say_name(out, t)
 }
 
 pub fn table_named(s: &[u8]) -> Choice {

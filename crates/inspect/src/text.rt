@@ -4,6 +4,8 @@ use base::slice::part;
 use leaf::bytes::get8;
 use program::bytes::{copy, put8};
 use program::output::say;
+use std::io;
+use std::io::Write;
 use std::num::wrapping_add_usize;
 
 const QUOTE: u8 = b'"';
@@ -257,53 +259,54 @@ pub fn put_character(s: &[u8], i: usize, line: &mut [u8], at: usize, json: bool)
     put_escaped(b, line, at, json)
 }
 
-fn say_character(s: &[u8], i: usize, json: bool) {
+fn say_character<W: Write>(out: &mut W, s: &[u8], i: usize, json: bool) -> io::Result<()> {
     let mut space = [0u8; LONGEST];
     let line: &mut [u8] = &mut space;
     let n = put_character(s, i, line, 0, json);
-    say(part(line, 0, n));
+    say(out, part(line, 0, n))
 }
 
 // Prints a text, without quotes.
-pub fn say_text(s: &[u8], json: bool) {
+pub fn say_text<W: Write>(out: &mut W, s: &[u8], json: bool) -> io::Result<()> {
     let mut skipped: usize = 0;
     let mut i = 0;
     while i < s.len() {
         if 0 < skipped {
             skipped -= 1;
         } else {
-            say_character(s, i, json);
+            say_character(out, s, i, json)?;
             skipped = shown_with(s, i, json);
         }
         i += 1;
     }
+    Ok(())
 }
 
-fn say_hex(b: u8) {
+fn say_hex<W: Write>(out: &mut W, b: u8) -> io::Result<()> {
     let mut space = [0u8; LONGEST];
     let line: &mut [u8] = &mut space;
     put_hex(line, 0, b);
-    say(part(line, 0, TWO));
+    say(out, part(line, 0, TWO))
 }
 
 // Prints bytes in hexadecimal.
-pub fn say_bytes(s: &[u8]) {
+pub fn say_bytes<W: Write>(out: &mut W, s: &[u8]) -> io::Result<()> {
     let mut i = 0;
     while i < s.len() {
-        say_hex(s[i]);
+        say_hex(out, s[i])?;
         i += 1;
     }
+    Ok(())
 }
 
 // Prints a text in quotes; bytes that aren't UTF-8 are in JSON an object with their hexadecimal digits.
-pub fn say_quoted(s: &[u8], json: bool) {
+pub fn say_quoted<W: Write>(out: &mut W, s: &[u8], json: bool) -> io::Result<()> {
     if json & !is_text(s) {
-        say(b"{\"hex\":\"");
-        say_bytes(s);
-        say(b"\"}");
-        return;
+        say(out, b"{\"hex\":\"")?;
+        say_bytes(out, s)?;
+        return say(out, b"\"}");
     }
-    say(b"\"");
-    say_text(s, json);
-    say(b"\"");
+    say(out, b"\"")?;
+    say_text(out, s, json)?;
+    say(out, b"\"")
 }
