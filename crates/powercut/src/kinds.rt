@@ -3,6 +3,8 @@ use base::slice::same_bytes;
 use program::number::low32;
 use program::output::{count, put, put_word};
 use region::{CAPACITY, CAPACITY_32, SECTOR_SIZE_32};
+use std::io;
+use std::io::Write;
 use writer::{TAIL_SIZE, TAIL_SIZE_32};
 
 // What is in the bank that is written: what the image has, nothing, a bank that is a generation older, an update cut half-way, one with only its
@@ -90,12 +92,12 @@ pub fn leftovers_named(s: &[u8]) -> Leftovers {
     }
 }
 
-pub fn put_leftover(fd: i32, l: Leftover) {
+pub fn put_leftover<W: Write>(out: &mut W, l: Leftover) -> io::Result<()> {
     put_word(
-        fd,
+        out,
         b"found|erased|older|half|headed|random",
         leftover_index(l),
-    );
+    )
 }
 
 pub fn updates_named(s: &[u8]) -> Updates {
@@ -214,17 +216,18 @@ pub fn operations(k: Kind) -> u32 {
     }
 }
 
-pub fn put_update(fd: i32, k: Kind) {
-    count(fd, b"update of ", low32(size(k) as u64));
-    put(fd, b" bytes");
+pub fn put_update<W: Write>(out: &mut W, k: Kind) -> io::Result<()> {
+    count(out, b"update of ", low32(size(k) as u64))?;
+    put(out, b" bytes")?;
     if is_compared(k) {
-        put(fd, b", compared first");
+        put(out, b", compared first")?;
     }
+    Ok(())
 }
 
-pub fn put_kinds(fd: i32, l: Leftover, k: Kind) {
-    put(fd, b"leftover ");
-    put_leftover(fd, l);
-    put(fd, b", ");
-    put_update(fd, k);
+pub fn put_kinds<W: Write>(out: &mut W, l: Leftover, k: Kind) -> io::Result<()> {
+    put(out, b"leftover ")?;
+    put_leftover(out, l)?;
+    put(out, b", ")?;
+    put_update(out, k)
 }

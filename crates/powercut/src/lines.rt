@@ -3,52 +3,51 @@ use crate::kinds;
 use crate::trial::{Count, Plan};
 use bank::Loaded;
 use header::Bank;
-use libc::STDOUT_FILENO;
 use program::output::{count, print, put};
+use std::io;
+use std::io::Write;
 use std::num::wrapping_sub_u32;
 
-fn put_bank(fd: i32, b: Bank) {
+fn put_bank<W: Write>(out: &mut W, b: Bank) -> io::Result<()> {
     print(
-        fd,
+        out,
         b"bank {} of generation {}",
         &[b.number as u64, b.generation as u64],
-    );
+    )
 }
 
-fn put_loaded(fd: i32, l: Loaded) {
+fn put_loaded<W: Write>(out: &mut W, l: Loaded) -> io::Result<()> {
     match l {
-        Loaded::Found(b) => put_bank(fd, b),
-        _ => put(fd, b"no bank"),
+        Loaded::Found(b) => put_bank(out, b),
+        _ => put(out, b"no bank"),
     }
 }
 
-fn put_verdict(fd: i32, c: Count) {
+fn put_verdict<W: Write>(out: &mut W, c: Count) -> io::Result<()> {
     if c.wrong == 0 {
-        put(fd, b"; right");
-        return;
+        return put(out, b"; right");
     }
     if c.byte == 0 {
-        print(
-            fd,
+        return print(
+            out,
             b"; {,} WRONG, the first at cut {,}",
             &[c.wrong as u64, c.first as u64],
         );
-        return;
     }
     print(
-        fd,
+        out,
         b"; {,} WRONG, the first at byte {,} of operation {,}",
         &[c.wrong as u64, c.byte as u64, c.first as u64],
-    );
+    )
 }
 
 // The result of an update's cuts.
-pub fn put_counts(fd: i32, p: Plan, c: Count) {
+pub fn put_counts<W: Write>(out: &mut W, p: Plan, c: Count) -> io::Result<()> {
     let l = p.found;
     let b = p.fresh;
     let operations = wrapping_sub_u32(c.cuts, 1);
     print(
-        fd,
+        out,
         b"{,} operations, {,} cuts between operations, {,} inside: {,} gave ",
         &[
             operations as u64,
@@ -56,34 +55,36 @@ pub fn put_counts(fd: i32, p: Plan, c: Count) {
             c.inside as u64,
             c.old as u64,
         ],
-    );
-    put_loaded(fd, l);
-    print(fd, b", {,} gave ", &[c.new as u64]);
-    put_bank(fd, b);
-    print(fd, b"; {,} begun again", &[c.again as u64]);
-    put_verdict(fd, c);
+    )?;
+    put_loaded(out, l)?;
+    print(out, b", {,} gave ", &[c.new as u64])?;
+    put_bank(out, b)?;
+    print(out, b"; {,} begun again", &[c.again as u64])?;
+    put_verdict(out, c)
 }
 
-pub fn update_line(p: Plan, c: Count) {
+// The line of an update that was tried. It is written out at once, so that a long run can be followed.
+pub fn update_line<W: Write>(out: &mut W, p: Plan, c: Count) -> io::Result<()> {
     let s = p.setting;
     let l = s.leftover;
     let k = s.update;
-    kinds::put_kinds(STDOUT_FILENO, l, k);
-    put(STDOUT_FILENO, b": ");
-    put_counts(STDOUT_FILENO, p, c);
-    put(STDOUT_FILENO, b"\n");
+    kinds::put_kinds(out, l, k)?;
+    put(out, b": ")?;
+    put_counts(out, p, c)?;
+    put(out, b"\n")?;
+    out.flush()
 }
 
 // The result of all updates.
-pub fn put_total(fd: i32, updates: u32, all: Count) {
+pub fn put_total<W: Write>(out: &mut W, updates: u32, all: Count) -> io::Result<()> {
     if updates == 1 {
-        put(fd, b"1 update");
+        put(out, b"1 update")?;
     } else {
-        count(fd, b"", updates);
-        put(fd, b" updates");
+        count(out, b"", updates)?;
+        put(out, b" updates")?;
     }
     print(
-        fd,
+        out,
         b", {,} cuts between operations, {,} inside, {,} begun again, {,} wrong",
         &[
             all.cuts as u64,
@@ -91,10 +92,10 @@ pub fn put_total(fd: i32, updates: u32, all: Count) {
             all.again as u64,
             all.wrong as u64,
         ],
-    );
+    )
 }
 
-pub fn last_line(updates: u32, all: Count) {
-    put_total(STDOUT_FILENO, updates, all);
-    put(STDOUT_FILENO, b"\n");
+pub fn last_line<W: Write>(out: &mut W, updates: u32, all: Count) -> io::Result<()> {
+    put_total(out, updates, all)?;
+    put(out, b"\n")
 }

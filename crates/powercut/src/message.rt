@@ -2,32 +2,42 @@
 use crate::PROGRAM;
 use crate::options::End;
 use base::slice::part;
-use program::message;
 use program::output::say;
+use program::{arguments, message};
+use std::io;
+use std::io::Write;
+use std::rt::Env;
 
-fn no_option(at: usize, buffer: &mut [u8]) {
-    let n = os::arg(at, buffer);
+fn no_option<R: Env, E: Write>(
+    rt: &R,
+    err: &mut E,
+    at: usize,
+    buffer: &mut [u8],
+) -> io::Result<()> {
+    let n = arguments::read(rt, at, buffer);
     let program = PROGRAM;
-    message::no_option(&program, part(buffer, 0, n));
+    message::no_option(err, &program, part(buffer, 0, n))
 }
 
 // Says that the picture's file is there and is something else.
-pub fn no_picture(name: &[u8]) {
+pub fn no_picture<E: Write>(err: &mut E, name: &[u8]) -> io::Result<()> {
     let program = PROGRAM;
     message::refuse(
+        err,
         &program,
         name,
         b" is there already and isn't an SVG picture; it is left as it is\n",
-    );
+    )
 }
 
-fn no_image() {
+fn no_image<E: Write>(err: &mut E) -> io::Result<()> {
     let program = PROGRAM;
-    message::no_image(&program);
+    message::no_image(err, &program)
 }
 
-fn help() {
+fn help<O: Write>(out: &mut O) -> io::Result<()> {
     say(
+        out,
         b"powercut [options] IMAGE
 
 Runs whole updates over a board's two timetable banks, cuts the power between
@@ -60,7 +70,7 @@ and 3 if a write failed. With wrong arguments, an image of another size or one
 that can't be read, one line is on standard error and nothing on standard
 output.
 ",
-    );
+    )
 }
 
 // What is wrong, by the index of its words.
@@ -75,9 +85,10 @@ fn wrong_word(end: End) -> u32 {
     }
 }
 
-fn wrong(end: End) {
+fn wrong<E: Write>(err: &mut E, end: End) -> io::Result<()> {
     let program = PROGRAM;
     message::wrong(
+        err,
         &program,
         b"one image at a time|\
           --offset needs a number of bytes, at most 16777216|\
@@ -86,16 +97,23 @@ fn wrong(end: End) {
           --torn needs some, all or none|\
           --svg needs a file's name",
         wrong_word(end),
-    );
+    )
 }
 
 // Writes the help, or what is wrong with the arguments.
-pub fn report(end: End, next: usize, buffer: &mut [u8]) {
+pub fn report<R: Env, O: Write, E: Write>(
+    rt: &R,
+    out: &mut O,
+    err: &mut E,
+    end: End,
+    next: usize,
+    buffer: &mut [u8],
+) -> io::Result<()> {
     match end {
-        End::More => return,
-        End::Help => help(),
-        End::NoOption => no_option(next, buffer),
-        End::NoImage => no_image(),
-        _ => wrong(end),
+        End::More => Ok(()),
+        End::Help => help(out),
+        End::NoOption => no_option(rt, err, next, buffer),
+        End::NoImage => no_image(err),
+        _ => wrong(err, end),
     }
 }

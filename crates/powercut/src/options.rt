@@ -3,10 +3,12 @@ use crate::kinds::{Leftovers, Updates, leftovers_named, updates_named};
 use crate::torn::{Cuts, cuts_named};
 use base::slice::{part, same_bytes};
 use leaf::bytes::get8;
-use program::arguments::follow;
+use program::arguments;
+use program::arguments::{count, follow};
 use program::image::{LARGEST_DUMP_64, Place};
 use program::text::{Number, digits};
 use std::num::wrapping_add_usize;
+use std::rt::Env;
 
 // How many arguments an option has, itself included.
 const ALONE: usize = 1;
@@ -91,8 +93,8 @@ fn after_arguments(o: Options, n: usize) -> Options {
 }
 
 // Writes the argument of an option to the start of a buffer; gives its length.
-fn text_of(o: Options, buffer: &mut [u8]) -> usize {
-    os::arg(wrapping_add_usize(o.next, 1), buffer)
+fn text_of<R: Env>(rt: &R, o: Options, buffer: &mut [u8]) -> usize {
+    arguments::read(rt, wrapping_add_usize(o.next, 1), buffer)
 }
 
 fn with_image(o: Options) -> Options {
@@ -116,8 +118,8 @@ fn with_sample(o: Options) -> Options {
     Options { sample: true, ..p }
 }
 
-fn with_offset(o: Options, buffer: &mut [u8]) -> Options {
-    let n = text_of(o, buffer);
+fn with_offset<R: Env>(rt: &R, o: Options, buffer: &mut [u8]) -> Options {
+    let n = text_of(rt, o, buffer);
     let Number::Is(v) = digits(part(buffer, 0, n)) else {
         return ended(o, End::Offset);
     };
@@ -131,8 +133,8 @@ fn with_offset(o: Options, buffer: &mut [u8]) -> Options {
     }
 }
 
-fn with_leftovers(o: Options, buffer: &mut [u8]) -> Options {
-    let n = text_of(o, buffer);
+fn with_leftovers<R: Env>(rt: &R, o: Options, buffer: &mut [u8]) -> Options {
+    let n = text_of(rt, o, buffer);
     let leftovers = leftovers_named(part(buffer, 0, n));
     match leftovers {
         Leftovers::Unknown => ended(o, End::Leftover),
@@ -143,8 +145,8 @@ fn with_leftovers(o: Options, buffer: &mut [u8]) -> Options {
     }
 }
 
-fn with_updates(o: Options, buffer: &mut [u8]) -> Options {
-    let n = text_of(o, buffer);
+fn with_updates<R: Env>(rt: &R, o: Options, buffer: &mut [u8]) -> Options {
+    let n = text_of(rt, o, buffer);
     let updates = updates_named(part(buffer, 0, n));
     match updates {
         Updates::Unknown => ended(o, End::Kind),
@@ -155,8 +157,8 @@ fn with_updates(o: Options, buffer: &mut [u8]) -> Options {
     }
 }
 
-fn with_cuts(o: Options, buffer: &mut [u8]) -> Options {
-    let n = text_of(o, buffer);
+fn with_cuts<R: Env>(rt: &R, o: Options, buffer: &mut [u8]) -> Options {
+    let n = text_of(rt, o, buffer);
     let cuts = cuts_named(part(buffer, 0, n));
     match cuts {
         Cuts::Unknown => ended(o, End::Torn),
@@ -167,8 +169,8 @@ fn with_cuts(o: Options, buffer: &mut [u8]) -> Options {
     }
 }
 
-fn with_picture(o: Options) -> Options {
-    if !follow(o.next, 1, os::arg_count()) {
+fn with_picture<R: Env>(rt: &R, o: Options) -> Options {
+    if !follow(o.next, 1, count(rt)) {
         return ended(o, End::Picture);
     }
     let p = after_arguments(o, WITH_ONE);
@@ -229,8 +231,8 @@ fn update_argument(s: &[u8]) -> Argument {
 }
 
 // Reads one option with its argument.
-fn step(o: Options, buffer: &mut [u8]) -> Options {
-    let n = os::arg(o.next, buffer);
+fn step<R: Env>(rt: &R, o: Options, buffer: &mut [u8]) -> Options {
+    let n = arguments::read(rt, o.next, buffer);
     if o.images_only & (n != 0) {
         return with_image(o);
     }
@@ -240,21 +242,21 @@ fn step(o: Options, buffer: &mut [u8]) -> Options {
         Argument::Empty => ended(o, End::NoImage),
         Argument::Rest => with_images_only(o),
         Argument::Sample => with_sample(o),
-        Argument::Offset => with_offset(o, buffer),
+        Argument::Offset => with_offset(rt, o, buffer),
         Argument::Help => ended(o, End::Help),
-        Argument::Leftover => with_leftovers(o, buffer),
-        Argument::Update => with_updates(o, buffer),
-        Argument::Picture => with_picture(o),
+        Argument::Leftover => with_leftovers(rt, o, buffer),
+        Argument::Update => with_updates(rt, o, buffer),
+        Argument::Picture => with_picture(rt, o),
         Argument::Progress => with_progress(o),
-        Argument::Torn => with_cuts(o, buffer),
+        Argument::Torn => with_cuts(rt, o, buffer),
         Argument::Unknown => ended(o, End::NoOption),
     }
 }
 
-fn has_more(o: Options) -> bool {
+fn has_more<R: Env>(rt: &R, o: Options) -> bool {
     let end = o.end;
     match end {
-        End::More => o.next < os::arg_count(),
+        End::More => o.next < count(rt),
         _ => false,
     }
 }
@@ -280,14 +282,14 @@ fn finished(o: Options) -> Options {
 }
 
 // Reads all arguments. Each turn reads one or more of them.
-pub fn read(buffer: &mut [u8]) -> Options {
+pub fn read<R: Env>(rt: &R, buffer: &mut [u8]) -> Options {
     let mut o = none();
-    let mut left = os::arg_count();
+    let mut left = count(rt);
     while 0 < left {
-        if !has_more(o) {
+        if !has_more(rt, o) {
             return finished(o);
         }
-        o = step(o, buffer);
+        o = step(rt, o, buffer);
         left -= 1;
     }
     finished(o)

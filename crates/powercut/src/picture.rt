@@ -10,6 +10,8 @@ use base::slice::part;
 use leaf::bytes::get8;
 use program::output::{field, print, put, put_word};
 use region::SECTOR_SIZE_32;
+use std::io;
+use std::io::Write;
 use std::num::{wrapping_add_u32, wrapping_sub_u32};
 use writer::TAIL_SIZE_32;
 
@@ -172,9 +174,9 @@ fn height(updates: Updates, c: Cuts) -> u32 {
     )
 }
 
-fn style(fd: i32) {
+fn style<W: Write>(out: &mut W) -> io::Result<()> {
     put(
-        fd,
+        out,
         b"<style>\
           text{font:11px sans-serif;fill:#222}\
           .v{font-size:30px;font-weight:bold}\
@@ -191,68 +193,69 @@ fn style(fd: i32) {
           rect{stroke:#fff}\
           rect:hover{stroke:#000}\
           </style>\n",
-    );
+    )
 }
 
-fn text(fd: i32, x: u32, y: u32) {
-    print(fd, b"<text x=\"{}\" y=\"{}\">", &[x as u64, y as u64]);
+fn text<W: Write>(out: &mut W, x: u32, y: u32) -> io::Result<()> {
+    print(out, b"<text x=\"{}\" y=\"{}\">", &[x as u64, y as u64])
 }
 
-fn line(fd: i32, y: u32, words: &[u8]) {
-    text(fd, MARGIN, y);
-    put(fd, words);
-    put(fd, b"</text>\n");
+fn line<W: Write>(out: &mut W, y: u32, words: &[u8]) -> io::Result<()> {
+    text(out, MARGIN, y)?;
+    put(out, words)?;
+    put(out, b"</text>\n")
 }
 
 // A text at the right end of the labels.
-fn label_start(fd: i32, y: u32) {
+fn label_start<W: Write>(out: &mut W, y: u32) -> io::Result<()> {
     let text_y = wrapping_add_u32(y, CELL_TEXT);
     print(
-        fd,
+        out,
         b"<text class=\"n\" x=\"{}\" y=\"{}\">",
         &[LABEL_X as u64, text_y as u64],
-    );
+    )
 }
 
-fn label(fd: i32, y: u32, words: &[u8]) {
-    label_start(fd, y);
-    put(fd, words);
-    put(fd, b"</text>\n");
+fn label<W: Write>(out: &mut W, y: u32, words: &[u8]) -> io::Result<()> {
+    label_start(out, y)?;
+    put(out, words)?;
+    put(out, b"</text>\n")
 }
 
-fn explain(fd: i32, c: Cuts) {
+fn explain<W: Write>(out: &mut W, c: Cuts) -> io::Result<()> {
     line(
-        fd,
+        out,
         CELLS_Y,
         b"A cell is a cut after a flash operation; the first one is before any. Point at a cell to read which operation it is.",
-    );
+    )?;
     line(
-        fd,
+        out,
         ROWS_Y,
         b"A row is a sector: its erase, then its 16 writes. The header's sector is erased first; header and commit word are written last.",
-    );
+    )?;
     line(
-        fd,
+        out,
         LEFTOVERS_Y,
         b"A column is what the written bank held before: found (as in the image), erased, older (good, one generation older),",
-    );
+    )?;
     line(
-        fd,
+        out,
         MORE_LEFTOVERS_Y,
         b"half (another update cut half-way), headed (another update, only its commit word missing), random (random bytes).",
-    );
+    )?;
     if are_tried(c) {
         line(
-            fd,
+            out,
             INSIDE_Y,
             b"Below the rows are the cuts inside three operations: a cell is 32 bytes, in the commit word one byte.",
-        );
+        )?;
     }
+    Ok(())
 }
 
-fn rect_start(fd: i32, mark: u8, x: u32, y: u32) {
+fn rect_start<W: Write>(out: &mut W, mark: u8, x: u32, y: u32) -> io::Result<()> {
     print(
-        fd,
+        out,
         b"<rect class=\"m{}\" x=\"{}\" y=\"{}\" width=\"{}\" height=\"{}\">",
         &[
             mark as u64,
@@ -261,153 +264,153 @@ fn rect_start(fd: i32, mark: u8, x: u32, y: u32) {
             CELL_WIDTH as u64,
             CELL_HEIGHT as u64,
         ],
-    );
+    )
 }
 
-fn legend_entry(fd: i32, mark: u8, x: u32, words: &[u8]) {
-    rect_start(fd, mark, x, LEGEND_Y);
-    put(fd, b"</rect>");
-    text(fd, x % X_LIMIT + LEGEND_TEXT, LEGEND_TEXT_Y);
-    put(fd, words);
-    put(fd, b"</text>\n");
+fn legend_entry<W: Write>(out: &mut W, mark: u8, x: u32, words: &[u8]) -> io::Result<()> {
+    rect_start(out, mark, x, LEGEND_Y)?;
+    put(out, b"</rect>")?;
+    text(out, x % X_LIMIT + LEGEND_TEXT, LEGEND_TEXT_Y)?;
+    put(out, words)?;
+    put(out, b"</text>\n")
 }
 
-fn legend(fd: i32) {
-    legend_entry(fd, strips::OLD, MARGIN, b"load gave what it gave before");
-    legend_entry(fd, strips::NEW, NEW_X, b"load gave the new bank");
+fn legend<W: Write>(out: &mut W) -> io::Result<()> {
+    legend_entry(out, strips::OLD, MARGIN, b"load gave what it gave before")?;
+    legend_entry(out, strips::NEW, NEW_X, b"load gave the new bank")?;
     legend_entry(
-        fd,
+        out,
         strips::BEGUN_AGAIN,
         AGAIN_X,
         b"darker: begun again from there, and committed",
-    );
+    )?;
     legend_entry(
-        fd,
+        out,
         strips::WRONG,
         WRONG_X,
         b"wrong: load gave something else, or an update begun again failed",
-    );
+    )
 }
 
 // The labels of the data's rows.
-fn sector_labels(fd: i32, n: u32, top: u32) {
+fn sector_labels<W: Write>(out: &mut W, n: u32, top: u32) -> io::Result<()> {
     let mut y = top;
     let mut k: u32 = 0;
     while k < n {
         k += 1;
-        label_start(fd, y);
-        print(fd, b"sector {}</text>\n", &[k as u64]);
+        label_start(out, y)?;
+        print(out, b"sector {}</text>\n", &[k as u64])?;
         y = wrapping_add_u32(y, CELL_HEIGHT);
     }
+    Ok(())
 }
 
-fn strip_labels(fd: i32, c: Cuts, top: u32) {
+fn strip_labels<W: Write>(out: &mut W, c: Cuts, top: u32) -> io::Result<()> {
     if !are_tried(c) {
-        return;
+        return Ok(());
     }
     let erase = wrapping_add_u32(top, GAP);
     let write = wrapping_add_u32(erase, strip_height(Target::HeaderErase));
     let word = wrapping_add_u32(write, strip_height(Target::HeaderWrite));
-    label(fd, erase, b"inside the header's erase");
-    label(fd, write, b"inside the header's write");
-    label(fd, word, b"inside the commit word");
+    label(out, erase, b"inside the header's erase")?;
+    label(out, write, b"inside the header's write")?;
+    label(out, word, b"inside the commit word")
 }
 
-fn title(fd: i32, k: Kind, y: u32) {
+fn title<W: Write>(out: &mut W, k: Kind, y: u32) -> io::Result<()> {
     print(
-        fd,
+        out,
         b"<text class=\"t\" x=\"{}\" y=\"{}\">",
         &[MARGIN as u64, y as u64],
-    );
-    kinds::put_update(fd, k);
-    put(fd, b"</text>\n");
+    )?;
+    kinds::put_update(out, k)?;
+    put(out, b"</text>\n")
 }
 
 // A kind's grid without its cells: title and labels.
-fn frame(fd: i32, updates: Updates, k: Kind, c: Cuts) {
+fn frame<W: Write>(out: &mut W, updates: Updates, k: Kind, c: Cuts) -> io::Result<()> {
     if !kinds::has_update(updates, k) {
-        return;
+        return Ok(());
     }
     let y = grid_y(updates, k, c);
-    title(fd, k, wrapping_add_u32(y, TITLE_TEXT));
+    title(out, k, wrapping_add_u32(y, TITLE_TEXT))?;
     let top = wrapping_add_u32(y, TITLE_HEIGHT + HEAD_HEIGHT);
     let rows = wrapping_add_u32(top, CELL_HEIGHT);
     let last = wrapping_add_u32(top, last_row(k) % ROWS_LIMIT * CELL_HEIGHT);
-    label(fd, top, b"before, header's erase");
-    sector_labels(fd, data_rows(k), rows);
-    label(fd, last, b"header, commit word");
-    strip_labels(fd, c, wrapping_add_u32(last, CELL_HEIGHT));
+    label(out, top, b"before, header's erase")?;
+    sector_labels(out, data_rows(k), rows)?;
+    label(out, last, b"header, commit word")?;
+    strip_labels(out, c, wrapping_add_u32(last, CELL_HEIGHT))
 }
 
 // Writes the picture's beginning: everything but the cells, the verdict and the total.
-pub fn start(fd: i32, updates: Updates, c: Cuts) {
+pub fn start<W: Write>(out: &mut W, updates: Updates, c: Cuts) -> io::Result<()> {
     let h = height(updates, c);
     print(
-        fd,
+        out,
         b"<svg xmlns=\"http://www.w3.org/2000/svg\" width=\"1100\" height=\"{}\" viewBox=\"0 0 1100 {}\">\n<title>powercut</title>\n",
         &[h as u64, h as u64],
-    );
-    style(fd);
+    )?;
+    style(out)?;
     print(
-        fd,
+        out,
         b"<path fill=\"#fff\" d=\"M0 0H1100V{}H0z\"/>\n",
         &[h as u64],
-    );
-    explain(fd, c);
-    legend(fd);
-    frame(fd, updates, Kind::Below, c);
-    frame(fd, updates, Kind::Above, c);
-    frame(fd, updates, Kind::Full, c);
-    frame(fd, updates, Kind::Compared, c);
+    )?;
+    explain(out, c)?;
+    legend(out)?;
+    frame(out, updates, Kind::Below, c)?;
+    frame(out, updates, Kind::Above, c)?;
+    frame(out, updates, Kind::Full, c)?;
+    frame(out, updates, Kind::Compared, c)
 }
 
 // Writes a byte of a name: XML's own signs are escaped, and what isn't printable ASCII becomes a question mark.
-fn put_byte(fd: i32, name: &[u8], i: usize) {
+fn put_byte<W: Write>(out: &mut W, name: &[u8], i: usize) -> io::Result<()> {
     let b = get8(name, i);
     if (b < b' ') | (b'~' < b) {
-        put(fd, b"?");
-        return;
+        return put(out, b"?");
     }
     match b {
-        b'&' => put(fd, b"&amp;"),
-        b'<' => put(fd, b"&lt;"),
-        b'>' => put(fd, b"&gt;"),
-        _ => put(fd, part(name, i, 1)),
+        b'&' => put(out, b"&amp;"),
+        b'<' => put(out, b"&lt;"),
+        b'>' => put(out, b"&gt;"),
+        _ => put(out, part(name, i, 1)),
     }
 }
 
-fn put_name(fd: i32, name: &[u8]) {
+fn put_name<W: Write>(out: &mut W, name: &[u8]) -> io::Result<()> {
     let mut i = 0;
     while i < name.len() {
-        put_byte(fd, name, i);
+        put_byte(out, name, i)?;
         i += 1;
     }
+    Ok(())
 }
 
-fn verdict(fd: i32, wrong: u32) {
+fn verdict<W: Write>(out: &mut W, wrong: u32) -> io::Result<()> {
     if wrong == 0 {
-        print(
-            fd,
+        return print(
+            out,
             b"<text class=\"v right\" x=\"{}\" y=\"{}\">No cut was wrong</text>\n",
             &[MARGIN as u64, VERDICT_Y as u64],
         );
-        return;
     }
     print(
-        fd,
+        out,
         b"<text class=\"v wrong\" x=\"{}\" y=\"{}\">WRONG: {,}</text>\n",
         &[MARGIN as u64, VERDICT_Y as u64, wrong as u64],
-    );
+    )
 }
 
 // Writes the picture's end: the verdict and the line for all updates, which are at its top.
-pub fn end(fd: i32, name: &[u8], updates: u32, all: Count) {
-    verdict(fd, all.wrong);
-    text(fd, MARGIN, TOTAL_Y);
-    put_name(fd, name);
-    put(fd, b": ");
-    put_total(fd, updates, all);
-    put(fd, b"</text>\n</svg>\n");
+pub fn end<W: Write>(out: &mut W, name: &[u8], updates: u32, all: Count) -> io::Result<()> {
+    verdict(out, all.wrong)?;
+    text(out, MARGIN, TOTAL_Y)?;
+    put_name(out, name)?;
+    put(out, b": ")?;
+    put_total(out, updates, all)?;
+    put(out, b"</text>\n</svg>\n")
 }
 
 // The cell of the cut after k of n operations. The data's come after the erase of the header's sector.
@@ -430,29 +433,28 @@ fn cell_of(k: u32, n: u32, last: u32) -> Cell {
 }
 
 // What load gave at a cut.
-fn put_mark(fd: i32, mark: u8) {
+fn put_mark<W: Write>(out: &mut W, mark: u8) -> io::Result<()> {
     put_word(
-        fd,
+        out,
         b": load gave what it gave before|: load gave the new bank|: WRONG|: not tried",
         u8_to_u32(mark % strips::BEGUN_AGAIN),
-    );
+    )?;
     if strips::BEGUN_AGAIN <= mark {
-        put(fd, b"; begun again");
+        put(out, b"; begun again")?;
     }
-    put(fd, b"</title></rect>\n");
+    put(out, b"</title></rect>\n")
 }
 
 // Which operation of the data a cell is.
-fn put_data_operation(fd: i32, c: Cell) {
+fn put_data_operation<W: Write>(out: &mut W, c: Cell) -> io::Result<()> {
     if c.place == 0 {
-        field(fd, b"erase of sector ", c.row);
-        return;
+        return field(out, b"erase of sector ", c.row);
     }
     print(
-        fd,
+        out,
         b"write {} of {} in sector {}",
         &[c.place as u64, WRITES as u64, c.row as u64],
-    );
+    )
 }
 
 // Whether the k-th of n operations is one of the data's.
@@ -469,49 +471,65 @@ fn header_operation(k: u32, n: u32) -> u32 {
 }
 
 // Which operation the k-th of n is.
-fn put_operation(fd: i32, k: u32, n: u32, c: Cell) {
+fn put_operation<W: Write>(out: &mut W, k: u32, n: u32, c: Cell) -> io::Result<()> {
     if k == 0 {
-        put(fd, b"before the first operation");
-        return;
+        return put(out, b"before the first operation");
     }
-    print(fd, b"after operation {,} of {,}, ", &[k as u64, n as u64]);
+    print(out, b"after operation {,} of {,}, ", &[k as u64, n as u64])?;
     if is_data(k, n) {
-        put_data_operation(fd, c);
+        put_data_operation(out, c)
     } else {
         put_word(
-            fd,
+            out,
             b"erase of the header's sector|write of the header|write of the commit word",
             header_operation(k, n),
-        );
+        )
     }
 }
 
 // Where a column's cells of a row and a place are.
-fn cell_start(fd: i32, mark: u8, x: u32, top: u32, c: Cell) {
+fn cell_start<W: Write>(out: &mut W, mark: u8, x: u32, top: u32, c: Cell) -> io::Result<()> {
     rect_start(
-        fd,
+        out,
         mark,
         wrapping_add_u32(x, c.place % ROW_CELLS * CELL_WIDTH),
         wrapping_add_u32(top, c.row % ROWS_LIMIT * CELL_HEIGHT),
-    );
-    put(fd, b"<title>");
+    )?;
+    put(out, b"<title>")
 }
 
 // Draws the cut after k of n operations.
-fn cut_cell(fd: i32, marks: &[u8], k: u32, n: u32, last: u32, x: u32, top: u32) {
+fn cut_cell<W: Write>(
+    out: &mut W,
+    marks: &[u8],
+    k: u32,
+    n: u32,
+    last: u32,
+    x: u32,
+    top: u32,
+) -> io::Result<()> {
     let mark = get8(marks, k as usize);
     let c = cell_of(k, n, last);
-    cell_start(fd, mark, x, top, c);
-    put_operation(fd, k, n, c);
-    put_mark(fd, mark);
+    cell_start(out, mark, x, top, c)?;
+    put_operation(out, k, n, c)?;
+    put_mark(out, mark)
 }
 
-fn cut_cells(fd: i32, marks: &[u8], cuts: u32, n: u32, last: u32, x: u32, top: u32) {
+fn cut_cells<W: Write>(
+    out: &mut W,
+    marks: &[u8],
+    cuts: u32,
+    n: u32,
+    last: u32,
+    x: u32,
+    top: u32,
+) -> io::Result<()> {
     let mut k: u32 = 0;
     while k < cuts {
-        cut_cell(fd, marks, k, n, last, x, top);
+        cut_cell(out, marks, k, n, last, x, top)?;
         k += 1;
     }
+    Ok(())
 }
 
 fn target_index(t: Target) -> u32 {
@@ -522,48 +540,56 @@ fn target_index(t: Target) -> u32 {
     }
 }
 
-fn put_target(fd: i32, t: Target) {
+fn put_target<W: Write>(out: &mut W, t: Target) -> io::Result<()> {
     put_word(
-        fd,
+        out,
         b"inside the erase of the header's sector, |inside the write of the header, |inside the write of the commit word, ",
         target_index(t),
-    );
+    )
 }
 
 // Draws cell k of the cuts inside an operation.
-fn strip_cell(fd: i32, marks: &[u8], t: Target, k: u32, x: u32, top: u32) {
+fn strip_cell<W: Write>(
+    out: &mut W,
+    marks: &[u8],
+    t: Target,
+    k: u32,
+    x: u32,
+    top: u32,
+) -> io::Result<()> {
     let mark = get8(marks, wrapping_add_u32(strips::start(t), k) as usize);
     let c = Cell {
         row: k / ROW_CELLS,
         place: k % ROW_CELLS,
     };
-    cell_start(fd, mark, x, top, c);
-    put_target(fd, t);
+    cell_start(out, mark, x, top, c)?;
+    put_target(out, t)?;
     let first = strips::first_byte(t, k);
     let last = strips::last_byte(t, k);
-    print(fd, b"bytes {,} to {,}", &[first as u64, last as u64]);
-    put_mark(fd, mark);
+    print(out, b"bytes {,} to {,}", &[first as u64, last as u64])?;
+    put_mark(out, mark)
 }
 
-fn strip(fd: i32, marks: &[u8], t: Target, x: u32, top: u32) {
+fn strip<W: Write>(out: &mut W, marks: &[u8], t: Target, x: u32, top: u32) -> io::Result<()> {
     let n = strips::cells(t);
     let mut k: u32 = 0;
     while k < n {
-        strip_cell(fd, marks, t, k, x, top);
+        strip_cell(out, marks, t, k, x, top)?;
         k += 1;
     }
+    Ok(())
 }
 
-fn three_strips(fd: i32, marks: &[u8], c: Cuts, x: u32, top: u32) {
+fn three_strips<W: Write>(out: &mut W, marks: &[u8], c: Cuts, x: u32, top: u32) -> io::Result<()> {
     if !are_tried(c) {
-        return;
+        return Ok(());
     }
     let erase = wrapping_add_u32(top, GAP);
     let write = wrapping_add_u32(erase, strip_height(Target::HeaderErase));
     let word = wrapping_add_u32(write, strip_height(Target::HeaderWrite));
-    strip(fd, marks, Target::HeaderErase, x, erase);
-    strip(fd, marks, Target::HeaderWrite, x, write);
-    strip(fd, marks, Target::CommitWord, x, word);
+    strip(out, marks, Target::HeaderErase, x, erase)?;
+    strip(out, marks, Target::HeaderWrite, x, write)?;
+    strip(out, marks, Target::CommitWord, x, word)
 }
 
 // Where the column of a leftover starts.
@@ -581,33 +607,40 @@ fn is_wrong(c: Count) -> u32 {
     if c.wrong == 0 { 0 } else { 1 }
 }
 
-fn head_verdict(fd: i32, c: Count) {
+fn head_verdict<W: Write>(out: &mut W, c: Count) -> io::Result<()> {
     if c.wrong == 0 {
-        put(fd, b": right<title>");
+        put(out, b": right<title>")
     } else {
-        print(fd, b": WRONG {,}<title>", &[c.wrong as u64]);
+        print(out, b": WRONG {,}<title>", &[c.wrong as u64])
     }
 }
 
 // A column's head: the leftover and the verdict; the update's line is its words.
-fn head(fd: i32, p: Plan, c: Count, x: u32, y: u32) {
+fn head<W: Write>(out: &mut W, p: Plan, c: Count, x: u32, y: u32) -> io::Result<()> {
     let s = p.setting;
     let l = s.leftover;
     put_word(
-        fd,
+        out,
         b"<text class=\"right\"|<text class=\"wrong\"",
         is_wrong(c),
-    );
+    )?;
     let text_y = wrapping_add_u32(y, HEAD_TEXT);
-    print(fd, b" x=\"{}\" y=\"{}\">", &[x as u64, text_y as u64]);
-    kinds::put_leftover(fd, l);
-    head_verdict(fd, c);
-    put_counts(fd, p, c);
-    put(fd, b"</title></text>\n");
+    print(out, b" x=\"{}\" y=\"{}\">", &[x as u64, text_y as u64])?;
+    kinds::put_leftover(out, l)?;
+    head_verdict(out, c)?;
+    put_counts(out, p, c)?;
+    put(out, b"</title></text>\n")
 }
 
 // Draws an update's column in the grid of its kind.
-pub fn draw(fd: i32, marks: &[u8], p: Plan, c: Count, leftovers: Leftovers, updates: Updates) {
+pub fn draw<W: Write>(
+    out: &mut W,
+    marks: &[u8],
+    p: Plan,
+    c: Count,
+    leftovers: Leftovers,
+    updates: Updates,
+) -> io::Result<()> {
     let s = p.setting;
     let k = s.update;
     let cuts = s.cuts;
@@ -615,7 +648,7 @@ pub fn draw(fd: i32, marks: &[u8], p: Plan, c: Count, leftovers: Leftovers, upda
     let y = wrapping_add_u32(grid_y(updates, k, cuts), TITLE_HEIGHT);
     let top = wrapping_add_u32(y, HEAD_HEIGHT);
     let last = last_row(k);
-    head(fd, p, c, x, y);
-    cut_cells(fd, marks, c.cuts, kinds::operations(k), last, x, top);
-    three_strips(fd, marks, cuts, x, wrapping_add_u32(top, rows_height(k)));
+    head(out, p, c, x, y)?;
+    cut_cells(out, marks, c.cuts, kinds::operations(k), last, x, top)?;
+    three_strips(out, marks, cuts, x, wrapping_add_u32(top, rows_height(k)))
 }

@@ -16,12 +16,13 @@ use base::slice::{part, same_bytes};
 use header::{Bank, Validated};
 use leaf::bytes::get8;
 use leaf::crc::crc32;
-use libc::STDERR_FILENO;
 use program::bytes::{copy, put8};
 use program::number::low32;
 use program::output::{count, put};
 use record::VERSION;
 use region::{REGION_SIZE, SECTOR_SIZE, bank_of};
+use std::io;
+use std::io::Write;
 use std::num::{wrapping_add_u32, wrapping_add_usize, wrapping_sub_u32};
 
 // The update is begun again after every 97th cut between operations, and after the last seven.
@@ -317,21 +318,30 @@ fn mark(o: Outcome) -> u8 {
     if o.again { strips::BEGUN_AGAIN + g } else { g }
 }
 
-fn show_progress(p: Plan, cut: u32) {
+fn show_progress<E: Write>(err: &mut E, p: Plan, cut: u32) -> io::Result<()> {
     let s = p.setting;
     let l = s.leftover;
     let k = s.update;
     if s.progress & (cut % SHOWN == 0) {
-        put(STDERR_FILENO, b"\r");
-        kinds::put_kinds(STDERR_FILENO, l, k);
-        count(STDERR_FILENO, b": cut ", cut);
-        count(STDERR_FILENO, b" of ", kinds::operations(k));
-        put(STDERR_FILENO, b"   ");
+        put(err, b"\r")?;
+        kinds::put_kinds(err, l, k)?;
+        count(err, b": cut ", cut)?;
+        count(err, b" of ", kinds::operations(k))?;
+        put(err, b"   ")?;
     }
+    Ok(())
 }
 
 // Tests the region after a cut.
-fn look(t: Tried, p: Plan, region: &[u8], before: &[u8], data: &[u8], scratch: &mut [u8]) -> Count {
+fn look<E: Write>(
+    err: &mut E,
+    t: Tried,
+    p: Plan,
+    region: &[u8],
+    before: &[u8],
+    data: &[u8],
+    scratch: &mut [u8],
+) -> Count {
     let u = t.update;
     let c = t.count;
     let k = p.update;
@@ -341,7 +351,7 @@ fn look(t: Tried, p: Plan, region: &[u8], before: &[u8], data: &[u8], scratch: &
     let right = commits_if_sampled(region, scratch, data, k, again) & good;
     let o = Outcome { right, over, again };
     put_mark(scratch, c.cuts, mark(o));
-    show_progress(p, c.cuts);
+    let _ = show_progress(err, p, c.cuts);
     counted(c, o)
 }
 
@@ -436,7 +446,8 @@ fn mark_wrong(before: Count, inside: Count, c: Count, scratch: &mut [u8]) {
 }
 
 // Tries the cuts inside the flash operation of a step, and the one after it.
-fn operate(
+fn operate<E: Write>(
+    err: &mut E,
     x: Step,
     p: Plan,
     region: &mut [u8],
@@ -449,14 +460,15 @@ fn operate(
     let update = x.update;
     let d = inside_if_tried(s, c, p, region, data, scratch);
     let t = Tried { update, count: d };
-    let e = look(t, p, region, before, data, scratch);
+    let e = look(err, t, p, region, before, data, scratch);
     mark_whole(s, e, scratch);
     mark_wrong(c, d, e, scratch);
     e
 }
 
 // Tries the cuts of a step that did a flash operation. One that `next_operation` did not give is wrong: it could not be cut inside.
-fn after_step(
+fn after_step<E: Write>(
+    err: &mut E,
     x: Step,
     p: Plan,
     region: &mut [u8],
@@ -469,14 +481,15 @@ fn after_step(
     let target = s.target;
     let c = x.count;
     if u.flash {
-        let d = operate(x, p, region, before, data, scratch);
+        let d = operate(err, x, p, region, before, data, scratch);
         return with_wrong_unless(d, is_operation(target));
     }
     c
 }
 
 // A step, with its cuts. The bytes that it changes are kept from before.
-fn step_with_cuts(
+fn step_with_cuts<E: Write>(
+    err: &mut E,
     t: Tried,
     p: Plan,
     region: &mut [u8],
@@ -495,7 +508,7 @@ fn step_with_cuts(
         update,
         count: c,
     };
-    let count = after_step(x, p, region, before, data, scratch);
+    let count = after_step(err, x, p, region, before, data, scratch);
     Tried { update, count }
 }
 
@@ -505,26 +518,40 @@ fn ended(t: Tried) -> bool {
 }
 
 // The beginning, and the cut before any operation.
-fn begun(p: Plan, region: &[u8], before: &[u8], data: &[u8], scratch: &mut [u8]) -> Tried {
+fn begun<E: Write>(
+    err: &mut E,
+    p: Plan,
+    region: &[u8],
+    before: &[u8],
+    data: &[u8],
+    scratch: &mut [u8],
+) -> Tried {
     let k = p.update;
     let update = begin(region, kinds::size(k), false, false);
     let t = Tried {
         update,
         count: none(),
     };
-    let count = look(t, p, region, before, data, scratch);
+    let count = look(err, t, p, region, before, data, scratch);
     Tried { update, count }
 }
 
 // All cuts of an update.
-fn cuts(p: Plan, region: &mut [u8], before: &[u8], data: &[u8], scratch: &mut [u8]) -> Count {
-    let mut t = begun(p, region, before, data, scratch);
+fn cuts<E: Write>(
+    err: &mut E,
+    p: Plan,
+    region: &mut [u8],
+    before: &[u8],
+    data: &[u8],
+    scratch: &mut [u8],
+) -> Count {
+    let mut t = begun(err, p, region, before, data, scratch);
     let mut calls = MOST_CALLS;
     while 0 < calls {
         if ended(t) {
             return t.count;
         }
-        t = step_with_cuts(t, p, region, before, data, scratch);
+        t = step_with_cuts(err, t, p, region, before, data, scratch);
         calls -= 1;
     }
     t.count
@@ -547,7 +574,8 @@ fn with_wrong_unless(c: Count, right: bool) -> Count {
 }
 
 // All cuts, and whether there are as many operations as there must be.
-fn counted_cuts(
+fn counted_cuts<E: Write>(
+    err: &mut E,
     p: Plan,
     region: &mut [u8],
     before: &[u8],
@@ -555,7 +583,7 @@ fn counted_cuts(
     scratch: &mut [u8],
 ) -> Count {
     let k = p.update;
-    let c = cuts(p, region, before, data, scratch);
+    let c = cuts(err, p, region, before, data, scratch);
     with_wrong_unless(
         c,
         (c.cuts == wrapping_add_u32(kinds::operations(k), 1)) & (c.new <= 1),
@@ -563,13 +591,20 @@ fn counted_cuts(
 }
 
 // Tries one update; one that is compared before it is compared after it too.
-pub fn trial(p: Plan, region: &mut [u8], before: &[u8], data: &[u8], scratch: &mut [u8]) -> Count {
+pub fn trial<E: Write>(
+    err: &mut E,
+    p: Plan,
+    region: &mut [u8],
+    before: &[u8],
+    data: &[u8],
+    scratch: &mut [u8],
+) -> Count {
     let k = p.update;
     if !kinds::is_compared(k) {
-        return counted_cuts(p, region, before, data, scratch);
+        return counted_cuts(err, p, region, before, data, scratch);
     }
     let first = compares(region, data, k, false);
-    let c = counted_cuts(p, region, before, data, scratch);
+    let c = counted_cuts(err, p, region, before, data, scratch);
     let second = compares(region, data, k, true);
     with_wrong_unless(c, first & second)
 }
