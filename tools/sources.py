@@ -1,0 +1,46 @@
+"""The functions of a .rt file and their contracts, as the tools read them."""
+import re
+
+HEAD = re.compile(r'^ *(?P<pub>pub )?(?:pub\([^)]*\) )?(?:extern "C" )?fn (?P<name>\w+)', re.M)
+END = re.compile(r"^\{?\}", re.M)
+PAIRS = {"(": ")", "[": "]", "{": "}"}
+
+
+def functions_of(text):
+    """Each function of a file: where it begins and ends, its name, whether it is public, its text."""
+    out = []
+    for m in HEAD.finditer(text):
+        end = END.search(text, m.end())
+        out.append((m.start(), end.end() if end else len(text), m["name"], bool(m["pub"]), text[m.start() : end.end() if end else len(text)]))
+    return out
+
+
+def after(text, at):
+    """The index after the bracket that closes the one at `at`."""
+    close = []
+    for i in range(at, len(text)):
+        if text[i] in PAIRS:
+            close.append(PAIRS[text[i]])
+        elif close and text[i] == close[-1]:
+            close.pop()
+            if not close:
+                return i + 1
+    return len(text)
+
+
+def contract_of(whole):
+    """A function's head and its clauses, each with its kind (requires or ensures), its name or "", and its text."""
+    whole = re.sub(r"//.*", "", whole)
+    begin, clauses = whole.find("{"), []
+    head = re.sub(r"\s*\b(?:requires|ensures)(?: \w+)?\s*\Z", "", whole[:begin])
+    at = len(head)
+    while m := re.match(r"\s*(requires|ensures)(?: (\w+))?\s*(?=\{)", whole[at:]):
+        end = after(whole, at + m.end())
+        clauses.append((m[1], m[2] or "", whole[at + m.end() + 1 : end - 1].strip()))
+        at = end
+    return head, clauses
+
+
+def claimed_by(clauses):
+    """The first names of the clauses of a function that promises claims."""
+    return [m[0] for kind, _, text in clauses if kind == "ensures" for m in [re.match(r"\w+", text)] if m]
