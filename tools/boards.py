@@ -2,11 +2,11 @@
 """Runs the proved programs for ./run: builds them where a source is newer, passes arguments on, and gives the exit status.
 
 Usage: boards.py build PROGRAM..         proves and builds what is missing or older than its sources
-       boards.py library CRATE           proves a library and writes its archive, as rt staticlib does
+       boards.py library CRATE           the same of a static library's archive, crates/CRATE/out/libCRATE.a
        boards.py inspect [ARGUMENT..]    inspect over one image or several; --summary is a table of one line a board
        boards.py powercut [ARGUMENT..]   powercut over one image
 
-A program in the proved language has no exit status of its own. So it is read from what the program says:
+What a program was asked can't be told from its own exit status. So that is read from what the program says:
 0 it did what was asked; 1 powercut: a cut was wrong; 2 the arguments or an image are wrong; 3 a write failed; 4 a proof or a build failed.
 """
 import errno
@@ -21,6 +21,8 @@ import sys
 import threading
 import time
 
+import prover
+
 root = pathlib.Path(__file__).resolve().parent.parent
 SAMPLE = root / "samples" / "two-good.img"
 RIGHT, CUT_WRONG, BAD_INPUT, WRITE_FAILED, BUILD_FAILED = 0, 1, 2, 3, 4
@@ -28,8 +30,6 @@ RIGHT, CUT_WRONG, BAD_INPUT, WRITE_FAILED, BUILD_FAILED = 0, 1, 2, 3, 4
 INSPECT_OPTIONS = {"--now": 1, "--days": 1, "--wanted": 1, "--identity": 1, "--pick": 5, "--match": 0, "--rows": 2, "--bank": 1,
                    "--offset": 1, "--json": 0}
 POWERCUT_OPTIONS = {"--leftover": 1, "--update": 1, "--torn": 1, "--svg": 1, "--offset": 1, "--progress": 0}
-# rt waits for all the jobs that it started before it starts more, so it gets more jobs than there are processors.
-JOBS = "6"
 CHUNK = 65536
 
 
@@ -44,8 +44,12 @@ def dependencies():
     for line in (root / "crates.txt").read_text(encoding="utf-8").split("\n"):
         name, colon, uses = line.split("#")[0].partition(":")
         if colon:
-            deps[name.strip()] = uses.split()
+            deps[name.split()[0]] = uses.split()
     return deps
+
+
+def program(name):
+    return root / "crates" / name / "out" / name
 
 
 def needed(name):
@@ -60,16 +64,15 @@ def needed(name):
 
 
 def is_fresh(name, built):
-    """Whether what is built is there, and no file or folder of its crates is newer."""
+    """Whether what is built is there, and no file or folder that its crates are proved from is newer."""
     if not built.exists():
         return False
     made = built.stat().st_mtime
     for crate in needed(name):
-        for folder, _, files in os.walk(root / "crates" / crate):
-            if "must-fail" in pathlib.Path(folder).relative_to(root / "crates" / crate).parts:
-                continue
-            if any(os.stat(os.path.join(folder, f)).st_mtime > made for f in files) or os.stat(folder).st_mtime > made:
-                return False
+        for part in ("src", "specs", "proofs"):
+            for folder, _, files in os.walk(root / "crates" / crate / part):
+                if any(os.stat(os.path.join(folder, f)).st_mtime > made for f in files) or os.stat(folder).st_mtime > made:
+                    return False
     return (root / "crates.txt").stat().st_mtime <= made
 
 
@@ -77,28 +80,31 @@ def clock(seconds):
     return f"{int(seconds) // 60}:{int(seconds) % 60:02d}"
 
 
-def prove(words, name, what):
-    """Runs rt, with a line for each crate that is proved; False if it fails."""
+def prove(words, name, what, ended):
+    """Runs rt in the crate's folder, with a line for each crate that is proved, until it says what it says once all is built; False if that fails."""
     if not shutil.which("rt"):
         say(f"run: {what} has to be built, and the Rattle kit's command rt is not on the path")
         return False
-    crates, done, begun, kept = len(needed(name)), 0, time.monotonic(), []
+    crates, done, begun, kept, crate = len(needed(name)), 0, time.monotonic(), [], ""
     say(f"proving {what}: {crates} crates; from nothing this takes some minutes, later runs need none")
-    child = subprocess.Popen(["rt", *words], cwd=root, stdout=subprocess.PIPE, stderr=subprocess.STDOUT, text=True, errors="replace",
-                             env={**os.environ, "RT_JOBS": os.environ.get("RT_JOBS", JOBS)})
+    child = subprocess.Popen(["rt", *words], cwd=root / "crates" / name, stdin=subprocess.DEVNULL, stdout=subprocess.PIPE, stderr=subprocess.STDOUT,
+                             text=True, errors="replace")
+    whole = False
     try:
         for line in child.stdout:
             kept.append(line.rstrip("\n")[:400])
-            proved = re.match(r"rt: (\w+) proved(.*)", line)
-            if proved:
+            of = re.match(r"crate (\w+): modules", line)
+            crate = of[1] if of else crate
+            if line.startswith("logic=proved "):
                 done += 1
-                say(f"  {done:2} of {crates}  {clock(time.monotonic() - begun)}  {proved[1]}{', unchanged' if 'unchanged' in proved[2] else ''}")
+                say(f"  {done:2} of {crates}  {clock(time.monotonic() - begun)}  {crate}")
+            whole = whole or line.startswith(ended)
     finally:
         child.stdout.close()
         status = child.wait()
-    if status:
+    if not whole or status and words[0] != "run":
         say("\n".join(kept[-40:]))
-        say(f"run: that failed: rt {' '.join(words)}")
+        say(f"run: that failed, with the status {status}: rt {' '.join(words)}")
         return False
     say(f"  proved and built in {clock(time.monotonic() - begun)}")
     return True
@@ -106,17 +112,23 @@ def prove(words, name, what):
 
 def build(name):
     """Builds a program unless it is there and newer than its sources; False if that fails."""
-    built = root / "target" / "bin" / name
-    if is_fresh(name, built):
+    if is_fresh(name, program(name)):
         return True
-    if not prove(["check", name], name, f"the program {name} and what it needs"):
+    # rt builds a program to run it, so it is asked for its help
+    if not prove(["run", "--", "--help"], name, f"the program {name} and what it needs", f"rt: running out/{name};"):
         return False
-    os.utime(built)
+    os.utime(program(name))
     return True
 
 
 def library(name):
-    return prove(["staticlib", name], name, f"the core's library {name}")
+    built = root / "crates" / name / "out" / f"lib{name}.a"
+    if is_fresh(name, built):
+        return True
+    # over the libraries of a run of `rt ci`, of which `rt lib` makes no use
+    if not prover.archive(name, built) and not prove(["lib"], name, f"the core's library {name}", "logic=proved "):
+        return False
+    return is_fresh(name, built)
 
 
 # Running.
@@ -132,16 +144,16 @@ def closed_output():
 
 
 def command(name, arguments):
-    return [str(root / "target" / "bin" / name), *arguments]
+    return [str(program(name)), *arguments]
 
 
 def told(name, code, words):
     """The exit status of a run, by what it said on standard error."""
-    if code:
-        return 128 - code if code < 0 else code
+    if code < 0:
+        return 128 - code
     if re.search(rf"(?:^|\n|\x1b\[K)(?:{name}: )?can't write\b", words):
         return WRITE_FAILED
-    return BAD_INPUT if f"{name}: " in words else RIGHT
+    return BAD_INPUT if f"{name}: " in words else code
 
 
 def split(arguments, known):

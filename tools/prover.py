@@ -134,6 +134,20 @@ def seed(crate, room):
     return False
 
 
+def archive(name, built):
+    """Builds a static library over the libraries that rt ci built here of these files; False where there are none, or where that fails."""
+    crate = crates().get(name) if shutil.which("rt") else None
+    if not crate or not all(map(is_from_ci, crate.below())):
+        return False
+    built.parent.mkdir(exist_ok=True)
+    words = crate.words(["--jobs", str(min(2, jobs()))], keeps=False)
+    run = subprocess.run([rtlib().RATTLE, "build", *words, "--toolchain", f"{rtlib().KIT}/toolchain", "--backend", "llvm", "-o", str(built)],
+                         cwd=crate.folder, stdin=subprocess.DEVNULL, stdout=subprocess.PIPE, stderr=subprocess.STDOUT, text=True, errors="replace")
+    if run.returncode:
+        print("\n".join(run.stdout.rstrip("\n").split("\n")[-20:]))
+    return run.returncode == 0
+
+
 # Logs.
 
 @functools.lru_cache(None)

@@ -26,7 +26,7 @@ fn main() {
         |_| {
             let here = env::var("CARGO_MANIFEST_DIR").unwrap();
             let root = Path::new(&here).parent().and_then(Path::parent).unwrap();
-            root.join("target/staticlib")
+            root.join("crates/bankcore/out")
         },
         Into::into,
     );
@@ -34,8 +34,8 @@ fn main() {
     println!("cargo:rerun-if-changed={}", library.display());
     if !library.is_file() {
         refuse(&format!(
-            "no static library at {}; build it with `rt staticlib bankcore`, or name its folder in \
-             BANKCORE_LIB_DIR",
+            "no static library at {}; build it with `rt lib` in crates/bankcore, or name its folder \
+             in BANKCORE_LIB_DIR",
             library.display()
         ));
     }
