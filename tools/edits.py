@@ -72,13 +72,14 @@ def alone(root, programs, name):
     *inner, last = function.split("::")
 
     def is_meant(p):
-        if any(o == name or o.endswith(f"::{name}") or name.endswith(f"::{o}") for o in p.of):
+        of = p.of if dot else [o.partition(".")[0] for o in p.of]
+        if any(o == name or o.endswith(f"::{name}") or name.endswith(f"::{o}") for o in of):
             return True
         for file, old, _ in [] if dot else p.places:
             path = root / "crates" / p.crate / file
             text = path.read_text(encoding="utf-8") if path.is_file() else ""
             at = text.find(old)
-            if file.endswith("/".join([*inner[-1:], ""])[:-1] + ".rt" if inner else ".rt") and any(b <= at < e and n == last for b, e, n, *_ in functions_of(text)):
+            if file.endswith(f"{'/'.join(inner)}.rt") and any(b <= at < e and n == last for b, e, n, *_ in functions_of(text)):
                 return True
         return False
 
