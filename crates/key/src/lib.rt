@@ -8,7 +8,7 @@ mod write;
 ghost use Rattle.key.specs.Claims.{Claims};
 ghost use Rattle.std.specs.Prelude.{◌≡◌, ◌+◌, ◌*◌, length};
 ghost use Rattle.key.specs.Picks.{passed_picks};
-ghost use Rattle.key.specs.Layout.{entry, key_of, fit, key_answer, after};
+ghost use Rattle.key.specs.Layout.{key_of, fit, key_answer, after};
 ghost use Rattle.key.specs.Match.{match_answer};
 
 use matching::match_key;

@@ -2,7 +2,7 @@
 ghost use Rattle.std.specs.Prelude.{◌≡◌, true, [], ◌∷◌, ◌++◌, map, ◌+◌, ◌-◌, ◌*◌, ◌≤◌, ◌<◌, length, take, drop, get_or};
 ghost use Rattle.key.specs.Order.{text_order, pick_order, field_count};
 ghost use Rattle.key.specs.Picks.{firsts, insert, distinct};
-ghost use Rattle.key.specs.Layout.{entry, sized, every};
+ghost use Rattle.key.specs.Layout.{sized, every};
 ghost use Rattle.key.specs.Steps.{number, Offsets, Rising, between, pick_in, Goes, Ordered, Below, Prepares, starts_size};
 
 use crate::{CODE_FIELD, FIELDS, LAST_FIELD, MAX_IDENTITY, MAX_TEXTS, NAME_FIELD};

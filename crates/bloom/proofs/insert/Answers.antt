@@ -1,13 +1,7 @@
 -- A filter of another size is refused and unchanged; else the four positions of the id's CRC are read and set (`insert-is`, `insert-left`).
-use Rattle.std.proofs.Common.{rules, ◌≡◌, ◌*◌, ◌/◌, ◌%◌, ◌<◌, ◌≤◌, true, length, ℕ, ◌+◌, ◌-◌, Bool, false, nat_eq, nat_lt, List, [], ◌∷◌, ◌++◌, slice_index_or, slice_set, bit_and, bit_or, Fits, w8, w32, w64, Bor, MutBor}
-use Rattle.bloom.specs.Claims.{Claims}
-use Rattle.base.specs.Number.{byte_bits}
-use Rattle.bloom.specs.Bloom as Bloom
-use Rattle.bloom.specs.Bloom.{max_filter}
-use Rattle.bloom.specs.Positions.{four, Within}
+use Rattle.std.proofs.Common.{true, false}
 use Rattle.bloom.proofs.insert.Goals as goal
 use Rattle.std.proofs.Common.{sym, ◌∙◌}
-use borrow.Author.Tests.{not-true, not-false}
 use Rattle.bloom.proofs.Calls.{insert-refused, insert-kept, insert-is, insert-left}
 
 pub returns-then-not-fits : goal.returns-then-not-fits

@@ -1,10 +1,5 @@
 -- Adding the step three times, wrapping, gives the positions of the definition (`summed`), and each is inside the filter.
-use Rattle.std.proofs.Common.{rules, ◌≡◌, ◌*◌, ◌/◌, ◌%◌, ◌<◌, ◌≤◌, true, length, ℕ, ◌+◌, ◌-◌, Bool, false, nat_eq, nat_lt, List, [], ◌∷◌, ◌++◌, slice_index_or, slice_set, bit_and, bit_or, Fits, w8, w32, w64, Bor, MutBor}
-use Rattle.bloom.specs.Claims.{Claims}
-use Rattle.base.specs.Number.{byte_bits}
-use Rattle.bloom.specs.Bloom as Bloom
-use Rattle.bloom.specs.Bloom.{max_filter}
-use Rattle.bloom.specs.Positions.{four, Within}
+use Rattle.std.proofs.Common.{rules}
 use Rattle.bloom.proofs.positions.Goals as goal
 use Rattle.bloom.proofs.Sums.{summed}
 

@@ -1,13 +1,7 @@
 -- A filter of another size is refused; else the answer is whether the four positions of the id's CRC are all set (`query-is`).
-use Rattle.std.proofs.Common.{rules, ◌≡◌, ◌*◌, ◌/◌, ◌%◌, ◌<◌, ◌≤◌, true, length, ℕ, ◌+◌, ◌-◌, Bool, false, nat_eq, nat_lt, List, [], ◌∷◌, ◌++◌, slice_index_or, slice_set, bit_and, bit_or, Fits, w8, w32, w64, Bor, MutBor}
-use Rattle.bloom.specs.Claims.{Claims}
-use Rattle.base.specs.Number.{byte_bits}
-use Rattle.bloom.specs.Bloom as Bloom
-use Rattle.bloom.specs.Bloom.{max_filter}
-use Rattle.bloom.specs.Positions.{four, Within}
+use Rattle.std.proofs.Common.{true, false}
 use Rattle.bloom.proofs.query.Goals as goal
 use Rattle.std.proofs.Common.{sym, ◌∙◌}
-use borrow.Author.Tests.{not-true, not-false}
 use Rattle.bloom.proofs.Calls.{query-refused, query-is}
 
 pub returns-then-not-fits : goal.returns-then-not-fits

@@ -1,16 +1,5 @@
 -- The bank's fields are the definition's, each by its function's contract.
-use Rattle.std.proofs.Common.{rules, ◌≡◌, ◌&&◌, ◌∷◌, [], ◌≤◌, length, take, ℕ, ◌+◌, ◌-◌, ◌*◌, ◌<◌, ◌/◌, ◌%◌, Bool, true, false, nat_eq, nat_lt, List, ◌++◌, slice_index_or, slice_set, bit_and, bit_or, Fits, w8, w32, w64, Bor, MutBor, ℤ, pos, ◌+ℤ◌, ◌-ℤ◌, ◌*ℤ◌, ◌≤ℤ◌, ◌<ℤ◌, FitsSigned, to_z, of_z}
-use Rattle.std.specs.Int.Signed.{le_z}
-use Rattle.base.specs.Number.{pick}
-use Rattle.header.specs.WriteHeader.{header_bytes, blank_word, commit_bytes}
-use Rattle.flash.specs.Flash.{write as writing}
-use Rattle.flash.specs.Flash.{performed}
-use Rattle.writer.specs.declared.Stage.TheVariants as Stages
-use Rattle.writer.specs.State as State
-use Rattle.due.specs.Due as Due
-use Rattle.commit.specs.Commit as Commit
-use Rattle.header.specs.Header.{commit_offset}
-use Rattle.region.specs.Region.{region_size, last_bank}
+use Rattle.std.proofs.Common.{length, w64, to_z, of_z}
 use Rattle.commit.proofs.bank_for.Goals as goal
 use mathlib.Core.Path.{ap, ◌∙◌}
 use mir.ValLaws.{to_z-of_z}

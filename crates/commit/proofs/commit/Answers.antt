@@ -1,22 +1,10 @@
 -- One case for each guard: region, order, current, fit; then the header is written. The number of the bank to be committed is 0 or 1, so
 -- the write is inside.
-use Rattle.std.proofs.Common.{rules, ◌≡◌, ◌&&◌, ◌∷◌, [], ◌≤◌, length, take, ℕ, ◌+◌, ◌-◌, ◌*◌, ◌<◌, ◌/◌, ◌%◌, Bool, true, false, nat_eq, nat_lt, List, ◌++◌, slice_index_or, slice_set, bit_and, bit_or, Fits, w8, w32, w64, Bor, MutBor}
-use Rattle.std.specs.Int.Signed.{le_z}
-use Rattle.base.specs.Number.{pick}
-use Rattle.header.specs.WriteHeader.{header_bytes, blank_word, commit_bytes}
-use Rattle.flash.specs.Flash.{write as writing}
-use Rattle.flash.specs.Flash.{performed}
-use Rattle.writer.specs.declared.Stage.TheVariants as Stages
-use Rattle.writer.specs.State as State
-use Rattle.due.specs.Due as Due
-use Rattle.commit.specs.Commit as Commit
-use Rattle.header.specs.Header.{commit_offset}
-use Rattle.region.specs.Region.{region_size, last_bank}
+use Rattle.std.proofs.Common.{true, false}
 use Rattle.commit.proofs.commit.Goals as goal
 use mathlib.Core.Path.{sym, ◌∙◌}
 use native.Mathlib.Omega.{arith}
 use Rattle.commit.proofs.Laws.{number_fits, fit_is, header_is, commit-done, commit-written, commit-unfit, kept-unfit, commit-obsolete, kept-obsolete, commit-turn, kept-turn, commit-region, kept-region}
-use borrow.Author.Tests.{not-true, not-false}
 
 pub returns-then-region-ne-REGION_SIZE : goal.returns-then-region-ne-REGION_SIZE
 returns-then-region-ne-REGION_SIZE c =

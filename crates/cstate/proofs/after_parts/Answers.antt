@@ -1,11 +1,4 @@
 -- Sources and tail are set in either case; what the state had of them before doesn't matter (`rest-set`).
-use Rattle.std.proofs.Common.{rules, ◌≡◌, ℕ, ◌+◌, ◌-◌, ◌*◌, ◌<◌, ◌≤◌, length, ◌/◌, ◌%◌, Bool, true, false, nat_eq, nat_lt, List, [], ◌∷◌, ◌++◌, slice_index_or, slice_set, bit_and, bit_or, Fits, w8, w32, w64, Bor, MutBor}
-use Rattle.cstate.specs.Claims.{Claims}
-use Rattle.base.specs.Number.{pick}
-use Rattle.writer.specs.declared.Stage.TheVariants as Stages
-use Rattle.writer.specs.Parts.{parts_of, whole_of}
-use Rattle.cstate.specs.State as Saved
-use Rattle.cstate.specs.Answers as Answers
 use Rattle.cstate.proofs.after_parts.Goals as goal
 use mathlib.Core.Path.{ap, ◌∙◌}
 use Rattle.cstate.specs.Answers.{is_answer, with_rest}

@@ -1,11 +1,5 @@
 -- Each field of the C state is that of the definition, by the functions' contracts; the time is held as it is, since it fits an i64.
-use Rattle.std.proofs.Common.{rules, ◌≡◌, ℕ, ◌+◌, ◌-◌, ◌*◌, ◌<◌, ◌≤◌, length, ◌/◌, ◌%◌, Bool, true, false, nat_eq, nat_lt, List, [], ◌∷◌, ◌++◌, slice_index_or, slice_set, bit_and, bit_or, Fits, w8, w32, w64, Bor, MutBor}
-use Rattle.cstate.specs.Claims.{Claims}
-use Rattle.base.specs.Number.{pick}
-use Rattle.writer.specs.declared.Stage.TheVariants as Stages
-use Rattle.writer.specs.Parts.{parts_of, whole_of}
-use Rattle.cstate.specs.State as Saved
-use Rattle.cstate.specs.Answers as Answers
+use Rattle.std.proofs.Common.{w64}
 use Rattle.cstate.proofs.state_with.Goals as goal
 use mir.ValLaws.{to_z-of_z}
 use Rattle.cstate.specs.State.{saved_of}

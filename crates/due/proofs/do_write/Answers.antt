@@ -1,19 +1,8 @@
 -- One write of the padded tail on the bank that isn't active (`one-op`), which is inside; the state after it is `written-tail`.
-use Rattle.std.proofs.Common.{rules, ◌≡◌, true, List, [], ◌++◌, ℕ, ◌+◌, ◌-◌, ◌%◌, ◌≤◌, eqb, length, take, ◌*◌, ◌<◌, ◌/◌, Bool, false, nat_lt, ◌∷◌, slice_index_or, slice_set, bit_and, bit_or, Fits, w8, w32, w64, Bor, MutBor}
-use Rattle.base.specs.Number.{pick}
-use Rattle.base.specs.Lists.{fill}
-use Rattle.record.specs.declared.Source.{Source}
-use Rattle.bank.specs.declared.Loaded.TheVariants as Loadeds
-use Rattle.flash.specs.Flash.{written_in, performed}
-use Rattle.writer.specs.declared.Answer.TheVariants as Answers
-use Rattle.writer.specs.declared.Beginning.{Beginning}
-use Rattle.writer.specs.declared.Operation.TheVariants as Operations
-use Rattle.writer.specs.declared.Stage.TheVariants as Stages
-use Rattle.writer.specs.State as State
+use Rattle.std.proofs.Common.{ℕ, ◌+◌, length, take}
+use Rattle.flash.specs.Flash.{written_in}
 use Rattle.writer.specs.Parts.{whole_of, step_with}
-use Rattle.due.specs.Due as Due
-use Rattle.region.specs.Region.{region_size, capacity, sector_size, last_sector, erased_byte, write_unit}
-use Rattle.writer.specs.State.{tail_size, last_write}
+use Rattle.region.specs.Region.{sector_size}
 use Rattle.due.proofs.do_write.Goals as goal
 use Rattle.writer.specs.declared.PartsStep.{PartsStep}
 use mathlib.Core.Path.{ap, ◌∙◌}

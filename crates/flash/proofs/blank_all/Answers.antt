@@ -1,10 +1,8 @@
 -- The invariant: the first i bytes are blanked (`blank-more`).
-use Rattle.std.proofs.Common.{rules, ◌≡◌, true, ◌+◌, ◌≤◌, length, ℕ, ◌-◌, ◌*◌, ◌<◌, ◌/◌, ◌%◌, Bool, false, nat_eq, nat_lt, List, [], ◌∷◌, ◌++◌, slice_index_or, slice_set, bit_and, bit_or, Fits, w8, w32, w64, Bor, MutBor}
-use Rattle.flash.specs.Flash.{blank, clear, erased_in, written_in}
-use Rattle.flash.specs.Claims.{Claims}
-use Rattle.region.specs.Region.{region_size, bank_size, last_bank}
+use Rattle.std.proofs.Common.{length}
+use Rattle.flash.specs.Flash.{blank}
 use Rattle.flash.proofs.blank_all.Goals as goal
-use mathlib.Core.Path.{refl, ap, ◌∙◌}
+use mathlib.Core.Path.{refl, ◌∙◌}
 use native.Mathlib.Omega.{arith}
 use lib.ListN.{length-set}
 use Rattle.flash.proofs.Steps.{blank-more}

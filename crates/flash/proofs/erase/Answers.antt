@@ -1,9 +1,7 @@
 -- Where the sector fits, blanking its bytes in the region is the model's erase (`erased-is`); else the model changes nothing either
 -- (`after-not`).
-use Rattle.std.proofs.Common.{rules, ◌≡◌, true, ◌+◌, ◌≤◌, length, ℕ, ◌-◌, ◌*◌, ◌<◌, ◌/◌, ◌%◌, Bool, false, nat_eq, nat_lt, List, [], ◌∷◌, ◌++◌, slice_index_or, slice_set, bit_and, bit_or, Fits, w8, w32, w64, Bor, MutBor}
-use Rattle.flash.specs.Flash.{blank, clear, erased_in, written_in}
-use Rattle.flash.specs.Claims.{Claims}
-use Rattle.region.specs.Region.{region_size, bank_size, last_bank}
+use Rattle.std.proofs.Common.{true, ◌+◌, ◌-◌, ◌*◌, false}
+use Rattle.region.specs.Region.{bank_size}
 use Rattle.flash.proofs.erase.Goals as goal
 use mathlib.Core.Path.{sym, ◌∙◌}
 use native.Mathlib.Omega.{arith}

@@ -1,7 +1,3 @@
-use Rattle.std.proofs.Common.{rules, ◌≡◌, true, ◌+◌, ◌≤◌, length, ℕ, ◌-◌, ◌*◌, ◌<◌, ◌/◌, ◌%◌, Bool, false, nat_eq, nat_lt, List, [], ◌∷◌, ◌++◌, slice_index_or, slice_set, bit_and, bit_or, Fits, w8, w32, w64, Bor, MutBor}
-use Rattle.flash.specs.Flash.{blank, clear, erased_in, written_in}
-use Rattle.flash.specs.Claims.{Claims}
-use Rattle.region.specs.Region.{region_size, bank_size, last_bank}
 use Rattle.flash.proofs.flash_holds.Goals as goal
 use Rattle.flash.proofs.Laws.{clears-only, erase-over, write-over, other-performed, done-zero, done-before, torn-whole, other-torn, first_part}
 

@@ -1,5 +1,3 @@
-use Rattle.std.proofs.Common.{rules, ◌≡◌, ℕ, ◌+◌, ◌-◌, ◌*◌, ◌<◌, ◌≤◌, length, ◌/◌, ◌%◌, Bool, true, false, nat_eq, nat_lt, List, [], ◌∷◌, ◌++◌, slice_index_or, slice_set, bit_and, bit_or, Fits, w8, w32, w64, Bor, MutBor}
-use Rattle.rfc4180.specs.Csv.{is_text}
 use Rattle.rfc4180.specs.Claims.{Claims}
 use Rattle.rfc4180.proofs.rows_hold.Goals as goal
 use Rattle.rfc4180.proofs.Grammar.{writes, sound, complete, read_back, one-reading, reads-crlf, in-numbers, lone-cr, lone-crs, text-unquoted}

@@ -1,9 +1,3 @@
-use Rattle.std.proofs.Common.{rules, ◌≡◌, true, false, ◌+◌, ◌≤◌, ◌<◌, ◌∷◌, [], ◌++◌, length, ℕ, ◌-◌, ◌*◌, ◌/◌, ◌%◌, Bool, nat_eq, nat_lt, List, slice_index_or, slice_set, bit_and, bit_or, Fits, w8, w32, w64, Bor, MutBor}
-use Rattle.run.specs.Run as Run
-use Rattle.run.specs.Appends as Appends
-use Rattle.run.specs.PartsRun as PartsRun
-use Rattle.run.specs.Run.{ran_writer, ran_region}
-use Rattle.writer.specs.State.{tail_size}
 use Rattle.run.proofs.append_all.Goals as goal
 use Rattle.run.specs.Appends.{appends}
 use Rattle.run.proofs.Laws.{joined}

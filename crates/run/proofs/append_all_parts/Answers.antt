@@ -1,19 +1,11 @@
 -- The invariant: running the appends of the bytes from i on, from the state and region so far, ends as running all of them from the start
 -- does. Each chunk keeps it (`fed-more`).
-use Rattle.std.proofs.Common.{rules, ◌≡◌, true, false, ◌+◌, ◌≤◌, ◌<◌, ◌∷◌, [], ◌++◌, length, ℕ, ◌-◌, ◌*◌, ◌/◌, ◌%◌, Bool, nat_eq, nat_lt, List, slice_index_or, slice_set, bit_and, bit_or, Fits, w8, w32, w64, Bor, MutBor}
-use Rattle.run.specs.Run as Run
-use Rattle.run.specs.Appends as Appends
-use Rattle.run.specs.PartsRun as PartsRun
 use Rattle.run.specs.Run.{ran_writer, ran_region}
-use Rattle.writer.specs.State.{tail_size}
 use Rattle.run.proofs.append_all_parts.Goals as goal
-use Rattle.record.specs.declared.Source.{Source}
 use Rattle.writer.specs.Parts.{whole_of}
-use mathlib.Core.Path.{refl, ap, ◌∙◌}
 use native.Mathlib.Omega.{arith}
-use lib.ListN.{drop, length-drop}
 use Rattle.run.specs.Appends.{appends}
-use Rattle.run.proofs.Laws.{rest-is, fed-more, fed-all-writer, fed-all-region}
+use Rattle.run.proofs.Laws.{fed-all-writer, fed-all-region}
 
 pub returns : goal.returns
 returns c =

@@ -1,11 +1,6 @@
 -- If the lower call appends the line, that one call does what the run does (`line-counted`); else the tail is unchanged (`tail-kept`), and the
 -- due calls come first, as in the definition.
-use Rattle.std.proofs.Common.{rules, ◌≡◌, true, false, ◌+◌, ◌≤◌, ◌<◌, ◌∷◌, [], ◌++◌, length, ℕ, ◌-◌, ◌*◌, ◌/◌, ◌%◌, Bool, nat_eq, nat_lt, List, slice_index_or, slice_set, bit_and, bit_or, Fits, w8, w32, w64, Bor, MutBor}
-use Rattle.run.specs.Run as Run
-use Rattle.run.specs.Appends as Appends
-use Rattle.run.specs.PartsRun as PartsRun
-use Rattle.run.specs.Run.{ran_writer, ran_region}
-use Rattle.writer.specs.State.{tail_size}
+use Rattle.std.proofs.Common.{true, false, ◌++◌, ℕ, List}
 use Rattle.run.proofs.append_short_line.Goals as goal
 use mathlib.Core.Path.{sym, subst, ◌∙◌}
 use Rattle.run.specs.Appends.{dues, appends}

@@ -1,11 +1,6 @@
 -- The lower call answers how many bytes it appended. If any, the state was in order and they fit, so the chunk leaves what its bytes one by
 -- one leave (`chunk-counted`); else the tail is unchanged (`tail-kept`), and one byte is appended, which the run may refuse as well.
-use Rattle.std.proofs.Common.{rules, ◌≡◌, true, false, ◌+◌, ◌≤◌, ◌<◌, ◌∷◌, [], ◌++◌, length, ℕ, ◌-◌, ◌*◌, ◌/◌, ◌%◌, Bool, nat_eq, nat_lt, List, slice_index_or, slice_set, bit_and, bit_or, Fits, w8, w32, w64, Bor, MutBor}
-use Rattle.run.specs.Run as Run
-use Rattle.run.specs.Appends as Appends
-use Rattle.run.specs.PartsRun as PartsRun
-use Rattle.run.specs.Run.{ran_writer, ran_region}
-use Rattle.writer.specs.State.{tail_size}
+use Rattle.std.proofs.Common.{true, false, ℕ, List}
 use Rattle.run.proofs.append_some.Goals as goal
 use mathlib.Core.Path.{sym, subst, ◌∙◌}
 use Rattle.run.specs.PartsRun.{AfterAppend}

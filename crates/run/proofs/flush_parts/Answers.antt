@@ -1,10 +1,4 @@
 -- With an operation due it is done, and two more at most; in the other stages three due calls change nothing (`quiet-flush`).
-use Rattle.std.proofs.Common.{rules, ◌≡◌, true, false, ◌+◌, ◌≤◌, ◌<◌, ◌∷◌, [], ◌++◌, length, ℕ, ◌-◌, ◌*◌, ◌/◌, ◌%◌, Bool, nat_eq, nat_lt, List, slice_index_or, slice_set, bit_and, bit_or, Fits, w8, w32, w64, Bor, MutBor}
-use Rattle.run.specs.Run as Run
-use Rattle.run.specs.Appends as Appends
-use Rattle.run.specs.PartsRun as PartsRun
-use Rattle.run.specs.Run.{ran_writer, ran_region}
-use Rattle.writer.specs.State.{tail_size}
 use Rattle.run.proofs.flush_parts.Goals as goal
 use mathlib.Core.Path.{refl}
 use Rattle.writer.specs.Parts.{whole_of}

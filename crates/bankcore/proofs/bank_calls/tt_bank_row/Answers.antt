@@ -1,19 +1,5 @@
 -- The row of the table's bytes, read by `tt_read_row`, is the bank's row (`block_row`); a refused block is a refused row (`block_refused`).
-use Rattle.std.proofs.Common.{rules, ◌≡◌, leb, length, ℕ, ◌+◌, ◌-◌, ◌*◌, ◌<◌, ◌≤◌, ◌/◌, ◌%◌, Bool, true, false, nat_eq, nat_lt, List, [], ◌∷◌, ◌++◌, slice_index_or, slice_set, bit_and, bit_or, Fits, w8, w32, w64, Bor, MutBor}
-use Rattle.base.specs.Number.{pick}
-use Rattle.key.specs.Layout as Keys
-use Rattle.key.specs.Picks as Picks
-use Rattle.bank.specs.Bank as Banks
-use Rattle.bank.specs.Turns as Turns
-use Rattle.snapshot.specs.Source as Sources
-use Rattle.snapshot.specs.Freshness as Freshness
-use Rattle.snapshot.specs.KeyMatch as Matches
-use Rattle.snapshot.specs.Rows as Rows
-use Rattle.rowread.specs.Stored as Stored
-use Rattle.bankcore.specs.BankAnswers as Answers
-use Rattle.record.specs.Record.{record_size}
-use Rattle.refusal.specs.Refusal.{number_of}
-use Rattle.refusal.specs.declared.Refusal.TheVariants.{Small}
+use Rattle.std.proofs.Common.{length}
 use Rattle.bankcore.proofs.bank_calls.tt_bank_row.Goals as goal
 use mathlib.Core.Path.{sym, ap, ◌∙◌}
 use Rattle.rowread.specs.declared.ReadAnswer.{ReadAnswer}

@@ -1,15 +1,5 @@
 -- One case for each operation.
-use Rattle.std.proofs.Common.{rules, ◌≡◌, ℕ, ◌+◌, ◌-◌, ◌*◌, ◌<◌, ◌≤◌, length, ◌/◌, ◌%◌, Bool, true, false, nat_eq, nat_lt, List, [], ◌∷◌, ◌++◌, slice_index_or, slice_set, bit_and, bit_or, Fits, w8, w32, w64, Bor, MutBor}
-use Rattle.record.specs.Record.{decoded, current_version}
-use Rattle.lower.specs.Lower as Lower
-use Rattle.due.specs.Due as Due
-use Rattle.commit.specs.Commit as Commit
-use Rattle.commit.specs.Unchanged as Unchanged
-use Rattle.cstate.specs.State.{writer_of}
-use Rattle.cstate.specs.Answers as Answers
-use Rattle.bankcore.specs.Stamp.{stamp_of}
-use Rattle.bankcore.specs.Operation as Operations
-use Rattle.bankcore.specs.Claims.{Claims}
+use Rattle.std.proofs.Common.{ℕ, ◌+◌, ◌*◌, length}
 use Rattle.bankcore.proofs.lower_calls.due_operation.Goals as goal
 use mathlib.Core.Path.{sym, ap, ◌∙◌}
 use Rattle.region.specs.Region.{sector_size}

@@ -1,22 +1,12 @@
 -- Out of range it is refused; else the next operation of the writer's parts is that of the writer.
-use Rattle.std.proofs.Common.{rules, ◌≡◌, ℕ, ◌+◌, ◌-◌, ◌*◌, ◌<◌, ◌≤◌, length, ◌/◌, ◌%◌, Bool, true, false, nat_eq, nat_lt, List, [], ◌∷◌, ◌++◌, slice_index_or, slice_set, bit_and, bit_or, Fits, w8, w32, w64, Bor, MutBor}
-use Rattle.record.specs.Record.{decoded, current_version}
-use Rattle.lower.specs.Lower as Lower
-use Rattle.due.specs.Due as Due
-use Rattle.commit.specs.Commit as Commit
-use Rattle.commit.specs.Unchanged as Unchanged
+use Rattle.std.proofs.Common.{true, false}
 use Rattle.cstate.specs.State.{writer_of}
-use Rattle.cstate.specs.Answers as Answers
-use Rattle.bankcore.specs.Stamp.{stamp_of}
-use Rattle.bankcore.specs.Operation as Operations
-use Rattle.bankcore.specs.Claims.{Claims}
 use Rattle.bankcore.proofs.lower_calls.tt_update_operation.Goals as goal
 use mathlib.Core.Path.{sym, ap, ◌∙◌}
 use Rattle.writer.specs.Parts.{whole_of}
 use Rattle.writer.specs.State.{in_range}
 use Rattle.bankcore.specs.Operation.{next_operation, no_operation}
 use Rattle.bankcore.proofs.Laws.{out_of_range, within-range}
-use borrow.Author.Tests.{not-true, not-false}
 
 pub returns-then-not-parts_in_range : goal.returns-then-not-parts_in_range
 unfolding in_range writer_of

@@ -1,15 +1,6 @@
 -- The call on the state's parts is the call on the state; a refused call leaves the sources (`not_done`).
-use Rattle.std.proofs.Common.{rules, ◌≡◌, ℕ, ◌+◌, ◌-◌, ◌*◌, ◌<◌, ◌≤◌, length, ◌/◌, ◌%◌, Bool, true, false, nat_eq, nat_lt, List, [], ◌∷◌, ◌++◌, slice_index_or, slice_set, bit_and, bit_or, Fits, w8, w32, w64, Bor, MutBor}
-use Rattle.record.specs.Record.{decoded, current_version}
-use Rattle.lower.specs.Lower as Lower
-use Rattle.due.specs.Due as Due
-use Rattle.commit.specs.Commit as Commit
-use Rattle.commit.specs.Unchanged as Unchanged
+use Rattle.std.proofs.Common.{Bool, List}
 use Rattle.cstate.specs.State.{writer_of}
-use Rattle.cstate.specs.Answers as Answers
-use Rattle.bankcore.specs.Stamp.{stamp_of}
-use Rattle.bankcore.specs.Operation as Operations
-use Rattle.bankcore.specs.Claims.{Claims}
 use Rattle.bankcore.proofs.lower_calls.tt_update_source.Goals as goal
 use mathlib.Core.Path.{refl, ap, ◌∙◌}
 use Rattle.writer.specs.declared.Step.{Step}

@@ -1,9 +1,5 @@
 -- The call on the state's parts is the call on the state; a refused row leaves the tail (`upper-left`).
-use Rattle.std.proofs.Common.{rules, ◌≡◌, ℕ, ◌+◌, ◌-◌, ◌*◌, ◌<◌, ◌≤◌, length, ◌/◌, ◌%◌, Bool, true, false, nat_eq, nat_lt, List, [], ◌∷◌, ◌++◌, slice_index_or, slice_set, bit_and, bit_or, Fits, w8, w32, w64, Bor, MutBor}
-use Rattle.record.specs.Record.{decoded, current_version}
-use Rattle.upper.specs.Upper as Upper
 use Rattle.cstate.specs.State.{writer_of}
-use Rattle.cstate.specs.Answers as Answers
 use Rattle.bankcore.proofs.upper_calls.tt_upper_row.Goals as goal
 use mathlib.Core.Path.{refl, sym, ap, ◌∙◌}
 use Rattle.writer.specs.declared.Step.{Step}

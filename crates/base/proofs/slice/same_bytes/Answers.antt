@@ -1,12 +1,8 @@
 -- Whether two slices are equal. The invariant: they are the same exactly if nothing differed before i and the rests from i on are the same.
 -- Slices of another length differ at once.
-use Rattle.std.proofs.Common.{rules, ◌≡◌, take, drop, ℕ, ◌+◌, ◌-◌, ◌*◌, ◌<◌, ◌≤◌, length, ◌/◌, ◌%◌, Bool, true, false, nat_eq, nat_lt, List, [], ◌∷◌, ◌++◌, slice_index_or, slice_set, bit_and, bit_or, Fits, w8, w32, w64, Bor, MutBor}
-use Rattle.base.specs.Claims.{Claims}
-use Rattle.base.specs.Same.{same}
 use Rattle.base.proofs.slice.same_bytes.Goals as goal
-use mathlib.Core.Path.{refl, sym}
+use mathlib.Core.Path.{sym}
 use native.Mathlib.Omega.{arith}
-use Rattle.base.specs.Number.{pick}
 use Rattle.base.proofs.Same.{bytes_next, bytes-end, other_length}
 
 pub returns-then-a-b : goal.returns-then-a-b

@@ -1,11 +1,8 @@
 -- Both registers after some bytes. Equal registers stay equal; after 256 bytes the second is the first and the 2048 steps of their
 -- difference, by linearity (`second`); else each is run by itself.
-use Rattle.std.proofs.Common.{rules, ◌≡◌, ◌+◌, ◌*◌, ◌%◌, ◌<◌, ℕ, ◌-◌, ◌≤◌, length, ◌/◌, Bool, true, false, nat_eq, nat_lt, List, [], ◌∷◌, ◌++◌, slice_index_or, slice_set, bit_and, bit_or, Fits, w8, w32, w64, Bor, MutBor}
-use Rattle.checksum.specs.Register.{steps, run}
-use Rattle.checksum.specs.Pending.{nibbles, nibble_bits}
-use Rattle.checksum.specs.Shift.{Shifts, shift_steps, first_steps, table_rows}
+use Rattle.checksum.specs.Register.{steps}
 use Rattle.checksum.proofs.pair.feed_both.Goals as goal
-use mathlib.Core.Path.{refl, ap, ap₂, ◌∙◌}
+use mathlib.Core.Path.{refl, ap₂, ◌∙◌}
 use native.Mathlib.Omega.{arith}
 use lib.Bits.{bit_xor}
 use Rattle.checksum.specs.Register.{step}

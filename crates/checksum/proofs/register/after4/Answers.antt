@@ -1,16 +1,9 @@
 -- Each arm is 4 steps of its nibble, computed. In the last arm the nibble is 15, since it is below 16 and none of the others.
-use Rattle.std.proofs.Common.{rules, arith, ◌≡◌, ◌+◌, ◌-◌, ◌*◌, ◌%◌, ◌^◌, ◌≤◌, ◌<◌, length, take, drop, ℕ, ◌/◌, Bool, true, false, nat_eq, nat_lt, List, [], ◌∷◌, ◌++◌, slice_index_or, slice_set, bit_and, bit_or, Fits, w8, w32, w64, Bor, MutBor}
-use Rattle.std.specs.Int.Bits.{bit_xor}
-use Rattle.base.specs.Little.{little, long_bytes}
-use Rattle.base.specs.Number.{byte_values, byte_bits, word_values, long_bits}
-use Rattle.checksum.specs.Register.{steps, run}
-use Rattle.checksum.specs.Pending.{three, five, two, after, nibbles, nibble_bits}
+use Rattle.std.proofs.Common.{arith, ◌≡◌, ◌%◌}
+use Rattle.checksum.specs.Register.{steps}
 use Rattle.checksum.proofs.register.after4.Goals as goal
 use mathlib.Core.Path.{ap, sym}
-use native.Mathlib.Nat.{mod-lt}
-use lib.Pow.{pow_pos}
 use Rattle.checksum.specs.Register.{step}
-use Rattle.checksum.proofs.TableLaws.{last}
 
 pub returns-in-0 : goal.returns-in-0
 unfolding steps step

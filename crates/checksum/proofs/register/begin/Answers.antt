@@ -1,10 +1,7 @@
 -- The first 1 to 8 bytes, shifted up by the bits that a word has more, and the part of the register that is above them (`first_word`).
-use Rattle.std.proofs.Common.{rules, ◌≡◌, ◌+◌, ◌-◌, ◌*◌, ◌%◌, ◌^◌, ◌≤◌, ◌<◌, length, take, drop, ℕ, ◌/◌, Bool, true, false, nat_eq, nat_lt, List, [], ◌∷◌, ◌++◌, slice_index_or, slice_set, bit_and, bit_or, Fits, w8, w32, w64, Bor, MutBor}
+use Rattle.std.proofs.Common.{◌≡◌, ◌+◌, ◌-◌, ◌*◌, ◌%◌, ◌^◌, length, drop, ℕ, ◌/◌}
 use Rattle.std.specs.Int.Bits.{bit_xor}
-use Rattle.base.specs.Little.{little, long_bytes}
-use Rattle.base.specs.Number.{byte_values, byte_bits, word_values, long_bits}
 use Rattle.checksum.specs.Register.{steps, run}
-use Rattle.checksum.specs.Pending.{three, five, two, after, nibbles, nibble_bits}
 use Rattle.checksum.proofs.register.begin.Goals as goal
 use mathlib.Core.Path.{ap, ◌∙◌}
 use native.Mathlib.Nat.{lt_of_le_of_lt}

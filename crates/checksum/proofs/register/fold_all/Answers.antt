@@ -1,13 +1,10 @@
 -- The first word is folded by itself (`first-fold`). The invariant: the pending words, run from offset i on, give what those at the start
 -- give. Each fold keeps it by `fold_at`; two are done a turn.
-use Rattle.std.proofs.Common.{rules, ◌≡◌, ◌+◌, ◌-◌, ◌*◌, ◌%◌, ◌^◌, ◌≤◌, ◌<◌, length, take, drop, ℕ, ◌/◌, Bool, true, false, nat_eq, nat_lt, List, [], ◌∷◌, ◌++◌, slice_index_or, slice_set, bit_and, bit_or, Fits, w8, w32, w64, Bor, MutBor}
-use Rattle.std.specs.Int.Bits.{bit_xor}
-use Rattle.base.specs.Little.{little, long_bytes}
-use Rattle.base.specs.Number.{byte_values, byte_bits, word_values, long_bits}
+use Rattle.std.proofs.Common.{◌≡◌, ◌+◌, ◌*◌, ◌^◌, length, drop, ℕ}
 use Rattle.checksum.specs.Register.{steps, run}
-use Rattle.checksum.specs.Pending.{three, five, two, after, nibbles, nibble_bits}
+use Rattle.checksum.specs.Pending.{five}
 use Rattle.checksum.proofs.register.fold_all.Goals as goal
-use mathlib.Core.Path.{refl, sym, ap, ◌∙◌}
+use mathlib.Core.Path.{sym, ap, ◌∙◌}
 use native.Mathlib.Nat.{zero-add}
 use native.Mathlib.Omega.{arith}
 use lib.Bits.{xor_zero_r}

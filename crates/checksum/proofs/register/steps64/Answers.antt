@@ -1,14 +1,11 @@
 -- The invariant: the digits from `row` on have made the steps that are left of x once the digits below are shifted out. One turn is
 -- `digit_split`.
-use Rattle.std.proofs.Common.{rules, ◌≡◌, ◌+◌, ◌-◌, ◌*◌, ◌%◌, ◌^◌, ◌≤◌, ◌<◌, length, take, drop, ℕ, ◌/◌, Bool, true, false, nat_eq, nat_lt, List, [], ◌∷◌, ◌++◌, slice_index_or, slice_set, bit_and, bit_or, Fits, w8, w32, w64, Bor, MutBor}
+use Rattle.std.proofs.Common.{◌≡◌, ◌+◌, ◌-◌, ◌*◌, ◌^◌, ◌<◌, ℕ, ◌/◌}
 use Rattle.std.specs.Int.Bits.{bit_xor}
-use Rattle.base.specs.Little.{little, long_bytes}
-use Rattle.base.specs.Number.{byte_values, byte_bits, word_values, long_bits}
-use Rattle.checksum.specs.Register.{steps, run}
-use Rattle.checksum.specs.Pending.{three, five, two, after, nibbles, nibble_bits}
+use Rattle.checksum.specs.Register.{steps}
 use Rattle.checksum.proofs.register.steps64.Goals as goal
 use mathlib.Core.Path.{sym, ap, ap₂, subst, ◌∙◌}
-use native.Mathlib.Nat.{div-eq_of_lt, div-one, lt_of_lt_of_le}
+use native.Mathlib.Nat.{div-eq_of_lt, lt_of_lt_of_le}
 use native.Mathlib.Omega.{arith}
 use lib.Pow.{pow_mono, shr_lt, shr-shr}
 use lib.Bits.{xor_comm}

@@ -1,10 +1,8 @@
 -- A fold into two words uses up the word at `at` (`fold_at`); of the two, the first is the word to go on with (`pending-at`).
-use Rattle.std.proofs.Common.{rules, ◌≡◌, ◌+◌, ◌-◌, ◌*◌, ◌%◌, ◌^◌, ◌≤◌, ◌<◌, length, take, drop, ℕ, ◌/◌, Bool, true, false, nat_eq, nat_lt, List, [], ◌∷◌, ◌++◌, slice_index_or, slice_set, bit_and, bit_or, Fits, w8, w32, w64, Bor, MutBor}
+use Rattle.std.proofs.Common.{◌≡◌, ◌+◌, drop, ℕ}
 use Rattle.std.specs.Int.Bits.{bit_xor}
-use Rattle.base.specs.Little.{little, long_bytes}
-use Rattle.base.specs.Number.{byte_values, byte_bits, word_values, long_bits}
 use Rattle.checksum.specs.Register.{steps, run}
-use Rattle.checksum.specs.Pending.{three, five, two, after, nibbles, nibble_bits}
+use Rattle.checksum.specs.Pending.{three, two}
 use Rattle.checksum.proofs.register.three_to_two.Goals as goal
 use mathlib.Core.Path.{refl, sym, ap, ◌∙◌}
 use native.Mathlib.Omega.{arith}

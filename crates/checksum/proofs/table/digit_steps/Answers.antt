@@ -1,7 +1,5 @@
 -- The two entries in the row `row % 5` are those of the row and of the row 5 after or before it (`first_entry`, `second-entry`).
-use Rattle.std.proofs.Common.{rules, ◌≡◌, ◌<◌, ℕ, ◌+◌, ◌-◌, ◌*◌, ◌≤◌, length, ◌/◌, ◌%◌, Bool, true, false, nat_eq, nat_lt, List, [], ◌∷◌, ◌++◌, slice_index_or, slice_set, bit_and, bit_or, Fits, w8, w32, w64, Bor, MutBor}
-use Rattle.checksum.specs.Register.{steps}
-use Rattle.checksum.specs.Pending.{digits, digit_values, rows, row_steps, packed}
+use Rattle.std.proofs.Common.{ℕ, ◌/◌, ◌%◌, true, false}
 use Rattle.checksum.proofs.table.digit_steps.Goals as goal
 use mathlib.Core.Path.{ap, ◌∙◌}
 use Prim.Native.Nat.{◌^◌}

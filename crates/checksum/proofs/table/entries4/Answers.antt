@@ -1,12 +1,11 @@
 -- Each arm has the two entries of its digit, computed. `tools/crc-table` writes the lines. In the last arm nothing is left, since the digit is
 -- below 128 and none of the others.
-use Rattle.std.proofs.Common.{rules, ◌≡◌, ◌<◌, ℕ, ◌+◌, ◌-◌, ◌*◌, ◌≤◌, length, ◌/◌, ◌%◌, Bool, true, false, nat_eq, nat_lt, List, [], ◌∷◌, ◌++◌, slice_index_or, slice_set, bit_and, bit_or, Fits, w8, w32, w64, Bor, MutBor}
+use Rattle.std.proofs.Common.{◌≡◌, ℕ}
 use Rattle.checksum.specs.Register.{steps}
-use Rattle.checksum.specs.Pending.{digits, digit_values, rows, row_steps, packed}
+use Rattle.checksum.specs.Pending.{packed}
 use Rattle.checksum.proofs.table.entries4.Goals as goal
 use mathlib.Core.Path.{ap, sym}
 use Rattle.checksum.specs.Register.{step}
-use Rattle.checksum.proofs.TableLaws.{nothing}
 
 at : {n d : ℕ} → n ≡ d → packed 4 d ≡ packed 4 n
 at e = ap (packed 4) (sym e)

@@ -1,9 +1,4 @@
 -- With a bank found it is compared; without one the update isn't what the bank has.
-use Rattle.std.proofs.Common.{rules, ◌≡◌, ◌≤◌, take, ℕ, ◌+◌, ◌-◌, ◌*◌, ◌<◌, length, ◌/◌, ◌%◌, Bool, true, false, nat_eq, nat_lt, List, [], ◌∷◌, ◌++◌, slice_index_or, slice_set, bit_and, bit_or, Fits, w8, w32, w64, Bor, MutBor}
-use Rattle.base.specs.Number.{pick}
-use Rattle.header.specs.Header.{records_of, max_sources}
-use Rattle.writer.specs.declared.Answer.TheVariants as Answers
-use Rattle.commit.specs.Unchanged as Unchanged
 use Rattle.commit.proofs.unchanged.is_unchanged.Goals as goal
 use mathlib.Core.Path.{sym, ap, ◌∙◌}
 use Rattle.commit.specs.Unchanged.{is_unchanged}

@@ -1,13 +1,8 @@
 -- The invariant: `same` says whether the first j blocks are equal (`same-take`). All eight are compared, without leaving early.
-use Rattle.std.proofs.Common.{rules, ◌≡◌, ◌≤◌, take, ℕ, ◌+◌, ◌-◌, ◌*◌, ◌<◌, length, ◌/◌, ◌%◌, Bool, true, false, nat_eq, nat_lt, List, [], ◌∷◌, ◌++◌, slice_index_or, slice_set, bit_and, bit_or, Fits, w8, w32, w64, Bor, MutBor}
-use Rattle.base.specs.Number.{pick}
-use Rattle.header.specs.Header.{records_of, max_sources}
-use Rattle.writer.specs.declared.Answer.TheVariants as Answers
-use Rattle.commit.specs.Unchanged as Unchanged
+use Rattle.std.proofs.Common.{rules, take, ◌<◌, length}
 use Rattle.commit.proofs.unchanged.same_blocks.Goals as goal
-use mathlib.Core.Path.{refl, ◌∙◌}
+use mathlib.Core.Path.{refl}
 use native.Mathlib.Omega.{arith}
-use lib.Seq.{take_all}
 use Rattle.record.specs.Record.{no_block}
 use Rattle.commit.specs.Unchanged.{same_block, same_each}
 use Rattle.commit.proofs.UnchangedLaws.{same-take}

@@ -1,17 +1,13 @@
 -- The invariant: `same` says whether the first i sources equal the first i records (`same-many`).
-use Rattle.std.proofs.Common.{rules, ◌≡◌, ◌≤◌, take, ℕ, ◌+◌, ◌-◌, ◌*◌, ◌<◌, length, ◌/◌, ◌%◌, Bool, true, false, nat_eq, nat_lt, List, [], ◌∷◌, ◌++◌, slice_index_or, slice_set, bit_and, bit_or, Fits, w8, w32, w64, Bor, MutBor}
-use Rattle.base.specs.Number.{pick}
-use Rattle.header.specs.Header.{records_of, max_sources}
-use Rattle.writer.specs.declared.Answer.TheVariants as Answers
-use Rattle.commit.specs.Unchanged as Unchanged
+use Rattle.std.proofs.Common.{rules, ◌<◌, length}
 use Rattle.commit.proofs.unchanged.same_sources.Goals as goal
-use mathlib.Core.Path.{refl, ap, ◌∙◌}
+use mathlib.Core.Path.{refl}
 use native.Mathlib.Omega.{arith}
 use Rattle.base.specs.Lists.{many}
 use Rattle.header.specs.Header.{record_at}
 use Rattle.lower.specs.Lower.{past_end}
 use Rattle.commit.specs.Unchanged.{same_source, same_each}
-use Rattle.commit.proofs.UnchangedLaws.{bound, same-many}
+use Rattle.commit.proofs.UnchangedLaws.{same-many}
 
 pub loop-i-init : goal.loop-i-init
 unfolding same_each many

@@ -1,9 +1,5 @@
 -- One case for each guard: region and order; then the comparison. The state stays in every case.
-use Rattle.std.proofs.Common.{rules, ◌≡◌, ◌≤◌, take, ℕ, ◌+◌, ◌-◌, ◌*◌, ◌<◌, length, ◌/◌, ◌%◌, Bool, true, false, nat_eq, nat_lt, List, [], ◌∷◌, ◌++◌, slice_index_or, slice_set, bit_and, bit_or, Fits, w8, w32, w64, Bor, MutBor}
-use Rattle.base.specs.Number.{pick}
-use Rattle.header.specs.Header.{records_of, max_sources}
-use Rattle.writer.specs.declared.Answer.TheVariants as Answers
-use Rattle.commit.specs.Unchanged as Unchanged
+use Rattle.std.proofs.Common.{true, false}
 use Rattle.commit.proofs.unchanged.unchanged.Goals as goal
 use mathlib.Core.Path.{sym, ◌∙◌}
 use mathlib.Core.Bool.{◌&&◌}
@@ -13,7 +9,6 @@ use Rattle.writer.specs.State.{position, in_range}
 use Rattle.writer.proofs.Laws.{ranged, count_fits}
 use Rattle.commit.specs.Commit.{is_idle}
 use Rattle.commit.proofs.UnchangedLaws.{asked, asked-turn, asked-region}
-use borrow.Author.Tests.{not-true, not-false}
 
 pub returns-then-region-ne-REGION_SIZE : goal.returns-then-region-ne-REGION_SIZE
 returns-then-region-ne-REGION_SIZE c =

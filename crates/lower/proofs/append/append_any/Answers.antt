@@ -1,19 +1,13 @@
 -- One case for each guard: order, then capacity; else as many bytes as the tail has space for are appended. It holds of whatever sources
 -- the state has.
-use Rattle.std.proofs.Common.{rules, ◌≡◌, List, ℕ, ◌+◌, ◌≤◌, length, take, ◌-◌, ◌*◌, ◌<◌, ◌/◌, ◌%◌, Bool, true, false, nat_eq, nat_lt, [], ◌∷◌, ◌++◌, slice_index_or, slice_set, bit_and, bit_or, Fits, w8, w32, w64, Bor, MutBor}
-use Rattle.std.proofs.lemmas.List.Edits.{sets}
-use Rattle.record.specs.declared.Source.{Source}
+use Rattle.std.proofs.Common.{true, false, []}
 use Rattle.writer.specs.Parts.{whole_of, step_with}
-use Rattle.writer.specs.declared.Answer.TheVariants as Answers
-use Rattle.lower.specs.Lower as Lower
-use Rattle.lower.specs.Appended.{parts_appended, step_appended, tail_appended}
-use Rattle.writer.specs.State.{tail_size}
+use Rattle.lower.specs.Appended.{step_appended, tail_appended}
 use Rattle.lower.proofs.append.append_any.Goals as goal
 use mathlib.Core.Path.{sym, ap, ◌∙◌}
 use native.Mathlib.Omega.{arith}
 use Rattle.lower.proofs.Laws.{takes-fits, bytes-appended, bytes-full, bytes-turn}
 use Rattle.lower.specs.declared.append.Appended.{Appended}
-use borrow.Author.Tests.{not-true, not-false}
 
 pub returns-then-not-may_append_parts : goal.returns-then-not-may_append_parts
 returns-then-not-may_append_parts c =

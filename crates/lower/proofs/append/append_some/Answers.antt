@@ -1,12 +1,7 @@
 -- While an operation is due none is appended (`appended-none`); else the first n that fit are (`appended-some`).
-use Rattle.std.proofs.Common.{rules, ◌≡◌, List, ℕ, ◌+◌, ◌≤◌, length, take, ◌-◌, ◌*◌, ◌<◌, ◌/◌, ◌%◌, Bool, true, false, nat_eq, nat_lt, [], ◌∷◌, ◌++◌, slice_index_or, slice_set, bit_and, bit_or, Fits, w8, w32, w64, Bor, MutBor}
-use Rattle.std.proofs.lemmas.List.Edits.{sets}
-use Rattle.record.specs.declared.Source.{Source}
+use Rattle.std.proofs.Common.{true, false}
 use Rattle.writer.specs.Parts.{whole_of, step_with}
-use Rattle.writer.specs.declared.Answer.TheVariants as Answers
-use Rattle.lower.specs.Lower as Lower
 use Rattle.lower.specs.Appended.{parts_appended, step_appended, tail_appended}
-use Rattle.writer.specs.State.{tail_size}
 use Rattle.lower.proofs.append.append_some.Goals as goal
 use mathlib.Core.Path.{sym, ap, ◌∙◌}
 use native.Mathlib.Omega.{arith}

@@ -1,8 +1,5 @@
 -- The answer and the state follow from what load gives; the time is held as it is, since it fits an i64.
-use Rattle.std.proofs.Common.{rules, ◌≡◌, List, ℕ, ◌+◌, ◌-◌, ◌*◌, ◌<◌, ◌≤◌, length, ◌/◌, ◌%◌, Bool, true, false, nat_eq, nat_lt, [], ◌∷◌, ◌++◌, slice_index_or, slice_set, bit_and, bit_or, Fits, w8, w32, w64, Bor, MutBor, ℤ, pos, ◌+ℤ◌, ◌-ℤ◌, ◌*ℤ◌, ◌≤ℤ◌, ◌<ℤ◌, FitsSigned, to_z, of_z}
-use Rattle.record.specs.declared.Source.{Source}
-use Rattle.writer.specs.Parts.{whole_of, step_with}
-use Rattle.lower.specs.Lower as Lower
+use Rattle.std.proofs.Common.{w64, to_z, of_z}
 use Rattle.lower.proofs.begin.begin.Goals as goal
 use mathlib.Core.Path.{ap, ◌∙◌}
 use mir.ValLaws.{to_z-of_z}

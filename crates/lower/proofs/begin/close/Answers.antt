@@ -1,7 +1,4 @@
-use Rattle.std.proofs.Common.{rules, ◌≡◌, List, ℕ, ◌+◌, ◌-◌, ◌*◌, ◌<◌, ◌≤◌, length, ◌/◌, ◌%◌, Bool, true, false, nat_eq, nat_lt, [], ◌∷◌, ◌++◌, slice_index_or, slice_set, bit_and, bit_or, Fits, w8, w32, w64, Bor, MutBor}
-use Rattle.record.specs.declared.Source.{Source}
 use Rattle.writer.specs.Parts.{whole_of, step_with}
-use Rattle.lower.specs.Lower as Lower
 use Rattle.lower.proofs.begin.close.Goals as goal
 use mathlib.Core.Path.{ap, ◌∙◌}
 use Rattle.writer.specs.declared.Parts.{Parts}

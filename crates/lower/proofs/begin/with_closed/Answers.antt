@@ -1,8 +1,5 @@
 -- The stage stays while an operation is due; else it follows from the contents that are closed.
-use Rattle.std.proofs.Common.{rules, ◌≡◌, List, ℕ, ◌+◌, ◌-◌, ◌*◌, ◌<◌, ◌≤◌, length, ◌/◌, ◌%◌, Bool, true, false, nat_eq, nat_lt, [], ◌∷◌, ◌++◌, slice_index_or, slice_set, bit_and, bit_or, Fits, w8, w32, w64, Bor, MutBor}
-use Rattle.record.specs.declared.Source.{Source}
-use Rattle.writer.specs.Parts.{whole_of, step_with}
-use Rattle.lower.specs.Lower as Lower
+use Rattle.std.proofs.Common.{true, false}
 use Rattle.lower.proofs.begin.with_closed.Goals as goal
 use mathlib.Core.Path.{sym, ap, ◌∙◌}
 use Rattle.writer.specs.declared.Stage.{Stage}

@@ -1,9 +1,4 @@
-use Rattle.std.proofs.Common.{rules, ◌≡◌, List, ℕ, ◌+◌, ◌-◌, ◌*◌, ◌<◌, ◌≤◌, length, ◌/◌, ◌%◌, Bool, true, false, nat_eq, nat_lt, [], ◌∷◌, ◌++◌, slice_index_or, slice_set, bit_and, bit_or, Fits, w8, w32, w64, Bor, MutBor}
-use Rattle.record.specs.declared.Source.{Source}
-use Rattle.writer.specs.Parts.{whole_of, step_with}
-use Rattle.writer.specs.State.{is_done}
-use Rattle.lower.specs.Sources as Sources
-use Rattle.lower.specs.Lower as Lower
+use Rattle.std.proofs.Common.{w64}
 use Rattle.lower.proofs.source.emptied.Goals as goal
 use mir.ValLaws.{to_z-of_z}
 use Rattle.record.specs.Record.{no_block}

@@ -1,10 +1,7 @@
 -- Three cases: begun, full after three sources, out of order. A refused call leaves the state.
-use Rattle.std.proofs.Common.{rules, ◌≡◌, List, ℕ, ◌+◌, ◌-◌, ◌*◌, ◌<◌, ◌≤◌, length, ◌/◌, ◌%◌, Bool, true, false, nat_eq, nat_lt, [], ◌∷◌, ◌++◌, slice_index_or, slice_set, bit_and, bit_or, Fits, w8, w32, w64, Bor, MutBor}
-use Rattle.record.specs.declared.Source.{Source}
+use Rattle.std.proofs.Common.{true, false}
 use Rattle.writer.specs.Parts.{whole_of, step_with}
 use Rattle.writer.specs.State.{is_done}
-use Rattle.lower.specs.Sources as Sources
-use Rattle.lower.specs.Lower as Lower
 use Rattle.lower.proofs.source.source_parts.Goals as goal
 use mathlib.Core.Path.{ap, ◌∙◌}
 use Rattle.writer.specs.declared.PartsStep.{PartsStep}

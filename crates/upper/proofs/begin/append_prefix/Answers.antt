@@ -1,13 +1,5 @@
 -- No identity, no prefix, no call. Else three bytes and the identity, appended one after the other, are the prefix (`appends-writer`).
-use Rattle.std.proofs.Common.{rules, ◌≡◌, ◌≤◌, ◌++◌, length, take, ℕ, ◌+◌, ◌-◌, ◌*◌, ◌<◌, ◌/◌, ◌%◌, Bool, true, false, nat_eq, nat_lt, List, [], ◌∷◌, slice_index_or, slice_set, bit_and, bit_or, Fits, w8, w32, w64, Bor, MutBor}
-use Rattle.key.specs.Layout as Key
-use Rattle.bank.specs.declared.Loaded.TheVariants as Loadeds
-use Rattle.writer.specs.declared.Answer.TheVariants as Answers
-use Rattle.lower.specs.Lower as Lower
-use Rattle.run.specs.Run.{ran_writer, ran_region}
-use Rattle.run.specs.Appends as Appends
-use Rattle.upper.specs.Upper as Upper
-use Rattle.region.specs.Region.{region_size}
+use Rattle.std.proofs.Common.{length, ℕ, ◌/◌, ◌%◌, false, List, [], ◌∷◌}
 use Rattle.upper.proofs.begin.append_prefix.Goals as goal
 use native.Mathlib.Omega.{arith}
 use Rattle.key.specs.Layout.{prefix}

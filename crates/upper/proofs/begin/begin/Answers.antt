@@ -1,13 +1,5 @@
 -- Another length than a region's is refused; else `begin_in`. The time is held as it is, since it fits an i64.
-use Rattle.std.proofs.Common.{rules, ◌≡◌, ◌≤◌, ◌++◌, length, take, ℕ, ◌+◌, ◌-◌, ◌*◌, ◌<◌, ◌/◌, ◌%◌, Bool, true, false, nat_eq, nat_lt, List, [], ◌∷◌, slice_index_or, slice_set, bit_and, bit_or, Fits, w8, w32, w64, Bor, MutBor, ℤ, pos, ◌+ℤ◌, ◌-ℤ◌, ◌*ℤ◌, ◌≤ℤ◌, ◌<ℤ◌, FitsSigned, to_z, of_z}
-use Rattle.key.specs.Layout as Key
-use Rattle.bank.specs.declared.Loaded.TheVariants as Loadeds
-use Rattle.writer.specs.declared.Answer.TheVariants as Answers
-use Rattle.lower.specs.Lower as Lower
-use Rattle.run.specs.Run.{ran_writer, ran_region}
-use Rattle.run.specs.Appends as Appends
-use Rattle.upper.specs.Upper as Upper
-use Rattle.region.specs.Region.{region_size}
+use Rattle.std.proofs.Common.{w64, ℤ, to_z, of_z}
 use Rattle.upper.proofs.begin.begin.Goals as goal
 use mathlib.Core.Path.{ap, ◌∙◌}
 use native.Mathlib.Omega.{arith}
@@ -16,7 +8,6 @@ use Rattle.refusal.specs.declared.Refusal.TheVariants.{Region}
 use Rattle.bank.specs.declared.Loaded.TheVariants.{Refused as NotRead}
 use Rattle.writer.specs.declared.Answer.TheVariants.{Refused}
 use Rattle.lower.specs.Lower.{started}
-use Rattle.upper.specs.Upper.{begin_step, begin_region}
 use Rattle.upper.proofs.Laws.{begin-region}
 
 pub returns-then-region-ne-REGION_SIZE : goal.returns-then-region-ne-REGION_SIZE

@@ -1,14 +1,7 @@
 -- The key without its prefix is written to a buffer that is always large enough, so a refusal means that the picks don't fit. Then the
 -- identity's length; then the lower beginning and the run of the key's bytes.
-use Rattle.std.proofs.Common.{rules, ◌≡◌, ◌≤◌, ◌++◌, length, take, ℕ, ◌+◌, ◌-◌, ◌*◌, ◌<◌, ◌/◌, ◌%◌, Bool, true, false, nat_eq, nat_lt, List, [], ◌∷◌, slice_index_or, slice_set, bit_and, bit_or, Fits, w8, w32, w64, Bor, MutBor, ℤ, pos, ◌+ℤ◌, ◌-ℤ◌, ◌*ℤ◌, ◌≤ℤ◌, ◌<ℤ◌, FitsSigned, to_z, of_z}
-use Rattle.key.specs.Layout as Key
-use Rattle.bank.specs.declared.Loaded.TheVariants as Loadeds
-use Rattle.writer.specs.declared.Answer.TheVariants as Answers
-use Rattle.lower.specs.Lower as Lower
+use Rattle.std.proofs.Common.{length, ℕ, true, false, w64, ℤ, to_z, of_z}
 use Rattle.run.specs.Run.{ran_writer, ran_region}
-use Rattle.run.specs.Appends as Appends
-use Rattle.upper.specs.Upper as Upper
-use Rattle.region.specs.Region.{region_size}
 use Rattle.upper.proofs.begin.begin_in.Goals as goal
 use mathlib.Core.Path.{ap, ◌∙◌}
 use mir.ValLaws.{to_z-of_z}

@@ -1,13 +1,5 @@
 -- One case for each guard: region and order; then the run. No bytes are appended, so it always fits.
-use Rattle.std.proofs.Common.{rules, ◌≡◌, ◌≤◌, ◌++◌, length, take, ℕ, ◌+◌, ◌-◌, ◌*◌, ◌<◌, ◌/◌, ◌%◌, Bool, true, false, nat_eq, nat_lt, List, [], ◌∷◌, slice_index_or, slice_set, bit_and, bit_or, Fits, w8, w32, w64, Bor, MutBor}
-use Rattle.key.specs.Layout as Key
-use Rattle.bank.specs.declared.Loaded.TheVariants as Loadeds
-use Rattle.writer.specs.declared.Answer.TheVariants as Answers
-use Rattle.lower.specs.Lower as Lower
-use Rattle.run.specs.Run.{ran_writer, ran_region}
-use Rattle.run.specs.Appends as Appends
-use Rattle.upper.specs.Upper as Upper
-use Rattle.region.specs.Region.{region_size}
+use Rattle.std.proofs.Common.{true, false}
 use Rattle.upper.proofs.begin.close.Goals as goal
 use mathlib.Core.Path.{refl, ◌∙◌}
 use mathlib.Core.Bool.{not}

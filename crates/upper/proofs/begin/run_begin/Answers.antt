@@ -1,13 +1,6 @@
 -- The prefix, then the first n bytes, are appended one after the other, which is the run of both joined.
-use Rattle.std.proofs.Common.{rules, ◌≡◌, ◌≤◌, ◌++◌, length, take, ℕ, ◌+◌, ◌-◌, ◌*◌, ◌<◌, ◌/◌, ◌%◌, Bool, true, false, nat_eq, nat_lt, List, [], ◌∷◌, slice_index_or, slice_set, bit_and, bit_or, Fits, w8, w32, w64, Bor, MutBor}
-use Rattle.key.specs.Layout as Key
-use Rattle.bank.specs.declared.Loaded.TheVariants as Loadeds
-use Rattle.writer.specs.declared.Answer.TheVariants as Answers
-use Rattle.lower.specs.Lower as Lower
+use Rattle.std.proofs.Common.{◌++◌, take, ℕ, List}
 use Rattle.run.specs.Run.{ran_writer, ran_region}
-use Rattle.run.specs.Appends as Appends
-use Rattle.upper.specs.Upper as Upper
-use Rattle.region.specs.Region.{region_size}
 use Rattle.upper.proofs.begin.run_begin.Goals as goal
 use mathlib.Core.Path.{refl, ap, ◌∙◌}
 use native.Mathlib.Nat.{sub-zero}

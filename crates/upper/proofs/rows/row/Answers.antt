@@ -1,12 +1,5 @@
 -- The call on a whole state is the call on its parts and its tail; the sources stay.
-use Rattle.std.proofs.Common.{rules, ◌≡◌, true, ◌≤◌, List, ◌++◌, length, take, ℕ, ◌+◌, ◌-◌, ◌*◌, ◌<◌, ◌/◌, ◌%◌, Bool, false, nat_eq, nat_lt, [], ◌∷◌, slice_index_or, slice_set, bit_and, bit_or, Fits, w8, w32, w64, Bor, MutBor}
-use Rattle.record.specs.declared.Source.{Source}
 use Rattle.writer.specs.Parts.{whole_of, step_with}
-use Rattle.run.specs.Appends as Appends
-use Rattle.run.specs.PartsRun as PartsRun
-use Rattle.upper.specs.Upper as Upper
-use Rattle.region.specs.Region.{region_size}
-use Rattle.base.specs.Table.{last_table}
 use Rattle.upper.proofs.rows.row.Goals as goal
 use mathlib.Core.Path.{ap, ◌∙◌}
 use Rattle.writer.specs.declared.Parts.{Parts}

@@ -1,13 +1,7 @@
 -- A row written in the short buffer is the row; if it isn't written there, the long buffer decides. Then capacity; then the run of the
 -- row's bytes.
-use Rattle.std.proofs.Common.{rules, ◌≡◌, true, ◌≤◌, List, ◌++◌, length, take, ℕ, ◌+◌, ◌-◌, ◌*◌, ◌<◌, ◌/◌, ◌%◌, Bool, false, nat_eq, nat_lt, [], ◌∷◌, slice_index_or, slice_set, bit_and, bit_or, Fits, w8, w32, w64, Bor, MutBor}
-use Rattle.record.specs.declared.Source.{Source}
+use Rattle.std.proofs.Common.{true, List, ◌++◌, length, ℕ, ◌+◌, false}
 use Rattle.writer.specs.Parts.{whole_of, step_with}
-use Rattle.run.specs.Appends as Appends
-use Rattle.run.specs.PartsRun as PartsRun
-use Rattle.upper.specs.Upper as Upper
-use Rattle.region.specs.Region.{region_size}
-use Rattle.base.specs.Table.{last_table}
 use Rattle.upper.proofs.rows.row_in.Goals as goal
 use mathlib.Core.Path.{refl, sym, ap, ◌∙◌}
 use native.Mathlib.Omega.{arith}
@@ -19,7 +13,6 @@ use Rattle.run.specs.Run.{ran_writer, ran_region}
 use Rattle.run.specs.Appends.{dues, appends}
 use Rattle.upper.specs.Upper.{row, appended_bytes, run_of}
 use Rattle.upper.proofs.Laws.{row_written, row-length, row-there, upper-done, upper-full}
-use borrow.Author.Tests.{not-true, not-false}
 use Rattle.region.specs.Region.{capacity}
 
 pub returns-then-not-fits : goal.returns-then-not-fits

@@ -1,13 +1,7 @@
 -- One case for each guard: region and order; then the row. The open table is one of the eight (`open-fits`). It holds of whatever sources
 -- the state has.
-use Rattle.std.proofs.Common.{rules, ◌≡◌, true, ◌≤◌, List, ◌++◌, length, take, ℕ, ◌+◌, ◌-◌, ◌*◌, ◌<◌, ◌/◌, ◌%◌, Bool, false, nat_eq, nat_lt, [], ◌∷◌, slice_index_or, slice_set, bit_and, bit_or, Fits, w8, w32, w64, Bor, MutBor}
-use Rattle.record.specs.declared.Source.{Source}
+use Rattle.std.proofs.Common.{true, false, []}
 use Rattle.writer.specs.Parts.{whole_of, step_with}
-use Rattle.run.specs.Appends as Appends
-use Rattle.run.specs.PartsRun as PartsRun
-use Rattle.upper.specs.Upper as Upper
-use Rattle.region.specs.Region.{region_size}
-use Rattle.base.specs.Table.{last_table}
 use Rattle.upper.proofs.rows.row_parts.Goals as goal
 use mathlib.Core.Path.{refl, ap, ◌∙◌}
 use native.Mathlib.Omega.{arith}

@@ -1,8 +1,6 @@
 -- Two numbers written into eight zeros are the dates' bytes (`dates-are`).
-use Rattle.std.proofs.Common.{rules, ◌≡◌, ◌++◌, ℕ, ◌+◌, ◌-◌, ◌*◌, ◌<◌, ◌≤◌, length, ◌/◌, ◌%◌, Bool, true, false, nat_eq, nat_lt, List, [], ◌∷◌, slice_index_or, slice_set, bit_and, bit_or, Fits, w8, w32, w64, Bor, MutBor}
+use Rattle.std.proofs.Common.{ℕ, List}
 use Rattle.leaf.specs.Bytes.{le32}
-use Rattle.run.specs.Run.{ran_writer, ran_region}
-use Rattle.upper.specs.Upper as Upper
 use Rattle.upper.proofs.source.dates.Goals as goal
 use mathlib.Core.Path.{ap, ◌∙◌}
 use Rattle.leaf.specs.Bytes.{written}

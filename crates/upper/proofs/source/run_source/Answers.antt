@@ -1,8 +1,7 @@
 -- Due calls, the lower call, due calls and the dates: the run of the call (`call-writer`, `call-region`).
-use Rattle.std.proofs.Common.{rules, ◌≡◌, ◌++◌, ℕ, ◌+◌, ◌-◌, ◌*◌, ◌<◌, ◌≤◌, length, ◌/◌, ◌%◌, Bool, true, false, nat_eq, nat_lt, List, [], ◌∷◌, slice_index_or, slice_set, bit_and, bit_or, Fits, w8, w32, w64, Bor, MutBor}
+use Rattle.std.proofs.Common.{◌++◌, ℕ, List}
 use Rattle.leaf.specs.Bytes.{le32}
 use Rattle.run.specs.Run.{ran_writer, ran_region}
-use Rattle.upper.specs.Upper as Upper
 use Rattle.upper.proofs.source.run_source.Goals as goal
 use mathlib.Core.Path.{ap, ◌∙◌}
 use Rattle.run.specs.Run.{source, lower_step}

@@ -1,16 +1,8 @@
 -- One case for each guard: region and order; then the run. No bytes are appended, so it always fits.
-use Rattle.std.proofs.Common.{rules, ◌≡◌, ◌++◌, ◌≤◌, ◌∷◌, length, take, ℕ, ◌+◌, ◌-◌, ◌*◌, ◌<◌, ◌/◌, ◌%◌, Bool, true, false, nat_eq, nat_lt, List, [], slice_index_or, slice_set, bit_and, bit_or, Fits, w8, w32, w64, Bor, MutBor}
-use Rattle.run.specs.Run.{ran_writer, ran_region}
-use Rattle.upper.specs.Upper as Upper
-use Rattle.row.specs.Columns.{names_line}
-use Rattle.run.specs.Run as Run
-use Rattle.run.specs.Appends as Appends
-use Rattle.base.specs.Table.{last_table}
-use Rattle.upper.specs.Sizes.{names_size}
+use Rattle.std.proofs.Common.{true, false}
 use Rattle.upper.proofs.table.end.Goals as goal
 use mathlib.Core.Path.{refl, sym, ◌∙◌}
 use native.Mathlib.Omega.{arith}
-use borrow.Author.Tests.{not-true, not-false}
 use Rattle.upper.specs.Upper.{table_end, appended_bytes}
 use Rattle.upper.proofs.Laws.{end_fits, upper-done, upper-turn, upper-region}
 

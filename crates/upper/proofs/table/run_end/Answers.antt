@@ -1,12 +1,4 @@
 -- Due calls, the lower call, due calls: the run of the call (`call-writer`, `call-region`).
-use Rattle.std.proofs.Common.{rules, ◌≡◌, ◌++◌, ◌≤◌, ◌∷◌, length, take, ℕ, ◌+◌, ◌-◌, ◌*◌, ◌<◌, ◌/◌, ◌%◌, Bool, true, false, nat_eq, nat_lt, List, [], slice_index_or, slice_set, bit_and, bit_or, Fits, w8, w32, w64, Bor, MutBor}
-use Rattle.run.specs.Run.{ran_writer, ran_region}
-use Rattle.upper.specs.Upper as Upper
-use Rattle.row.specs.Columns.{names_line}
-use Rattle.run.specs.Run as Run
-use Rattle.run.specs.Appends as Appends
-use Rattle.base.specs.Table.{last_table}
-use Rattle.upper.specs.Sizes.{names_size}
 use Rattle.upper.proofs.table.run_end.Goals as goal
 use Rattle.run.specs.Run.{end, lower_step}
 use Rattle.run.specs.Appends.{dues, appends}

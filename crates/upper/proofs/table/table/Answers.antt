@@ -1,17 +1,11 @@
 -- One case for each guard: region, table, order, capacity; then the run.
-use Rattle.std.proofs.Common.{rules, ◌≡◌, ◌++◌, ◌≤◌, ◌∷◌, length, take, ℕ, ◌+◌, ◌-◌, ◌*◌, ◌<◌, ◌/◌, ◌%◌, Bool, true, false, nat_eq, nat_lt, List, [], slice_index_or, slice_set, bit_and, bit_or, Fits, w8, w32, w64, Bor, MutBor}
+use Rattle.std.proofs.Common.{◌++◌, ◌∷◌, ℕ, ◌+◌, true, false, List}
 use Rattle.run.specs.Run.{ran_writer, ran_region}
-use Rattle.upper.specs.Upper as Upper
-use Rattle.row.specs.Columns.{names_line}
-use Rattle.run.specs.Run as Run
-use Rattle.run.specs.Appends as Appends
-use Rattle.base.specs.Table.{last_table}
-use Rattle.upper.specs.Sizes.{names_size}
 use Rattle.upper.proofs.table.table.Goals as goal
 use mathlib.Core.Path.{refl, sym, ap, ◌∙◌}
 use native.Mathlib.Omega.{arith}
 use lib.Dec.{leb}
-use borrow.Author.Tests.{not-true, not-false, le-leb, lt-leb}
+use borrow.Author.Tests.{le-leb, lt-leb}
 use Rattle.writer.specs.State.{position}
 use Rattle.run.specs.Run.{table}
 use Rattle.run.specs.Appends.{dues, appends}
