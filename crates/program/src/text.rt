@@ -1,5 +1,5 @@
 // Words and numbers in a text, and bytes as text.
-ghost use Rattle.std.specs.Prelude.{◌≡◌, suc, ◌-◌, take, drop};
+ghost use Rattle.std.specs.Prelude.{IfOk, IfErr, IsUtf8, ◌≡◌, suc, ◌-◌, take, drop};
 ghost use Rattle.program.specs.Text.{index_from, value_of, number_of};
 
 use base::number::u8_to_u64;
@@ -102,7 +102,10 @@ pub fn digits(s: &[u8]) -> Number
 }
 
 // A file's name as the text that std opens a file by. A name that is no UTF-8 is refused as std refuses such names.
-pub fn path_of(name: &[u8]) -> io::Result<&str> {
+pub fn path_of(name: &[u8]) -> io::Result<&str>
+    ensures text { IfOk result (λ s. s.now ≡ name.now) }
+    ensures refused { IfErr result (λ _. ¬ (IsUtf8 name.now)) }
+{
     match str::from_utf8(name) {
         Ok(text) => Ok(text),
         Err(_) => Err(io::Error::from(ErrorKind::InvalidFilename)),
