@@ -20,7 +20,7 @@ use Rattle.key.specs.Match.{match_answer}
 use Rattle.base.specs.Same.{same}
 use Rattle.key.specs.Steps.{Offsets, Rising, between, Below, Ordered, stretch, starts_size, starts_of, Ready, NotReady}
 use Rattle.key.specs.declared.KeyAnswer.TheVariants.{Written, Refused}
-use Rattle.key.specs.declared.SameKey.TheVariants as sameKey
+use Rattle.key.specs.declared.SameKey.TheVariants as same_key
 use Rattle.key.specs.declared.matching.Matched.{Matched}
 use Rattle.key.specs.declared.matching.Matched.TheVariants.{To, Differs}
 use Rattle.key.proofs.TextOffsets.{between_is, rising, pick_same, firsts_same}
@@ -171,28 +171,28 @@ module _ (f : ℕ → Pick) (n : ℕ) (order : List ℕ) (m : ℕ) (o : Ordered 
 -- ---- same_key
 
 module _ (x id b : Text) (l : List ℕ) where
-  pub match-unfit : false ≡ fit b l → sameKey.Refused Argument ≡ match_answer x id b l
+  pub match-unfit : false ≡ fit b l → same_key.Refused Argument ≡ match_answer x id b l
   unfolding match_answer
   match-unfit e = rw (← e)
 
   module _ (fits : true ≡ fit b l) where
-    pub match-identity : max_identity < length id → sameKey.Refused Identity ≡ match_answer x id b l
+    pub match-identity : max_identity < length id → same_key.Refused Identity ≡ match_answer x id b l
     unfolding match_answer
     match-identity h = rw (← fits, lt-leb (length id) max_identity h)
 
-    pub is_same : length id ≤ max_identity → same x (key_of id (passed_picks b l)) ≡ true → sameKey.Same ≡ match_answer x id b l
+    pub is_same : length id ≤ max_identity → same x (key_of id (passed_picks b l)) ≡ true → same_key.Same ≡ match_answer x id b l
     unfolding match_answer
     is_same h e = rw (← fits, le-leb (length id) max_identity h, e)
 
-    pub is-other : length id ≤ max_identity → same x (key_of id (passed_picks b l)) ≡ false → sameKey.Other ≡ match_answer x id b l
+    pub is-other : length id ≤ max_identity → same x (key_of id (passed_picks b l)) ≡ false → same_key.Other ≡ match_answer x id b l
     unfolding match_answer
     is-other h e = rw (← fits, le-leb (length id) max_identity h, e)
 
-pub match-refused : (x id b : Text) (l : List ℕ) (r : Refusal) → NotReady id b l r → sameKey.Refused r ≡ match_answer x id b l
+pub match-refused : (x id b : Text) (l : List ℕ) (r : Refusal) → NotReady id b l r → same_key.Refused r ≡ match_answer x id b l
 match-refused x id b l r =
     ⊎_elim
-    (λ h. ap sameKey.Refused h.0 ∙ match-unfit x id b l h.1)
-    (λ h. ap sameKey.Refused h.0 ∙ match-identity x id b l h.1 h.2)
+    (λ h. ap same_key.Refused h.0 ∙ match-unfit x id b l h.1)
+    (λ h. ap same_key.Refused h.0 ∙ match-identity x id b l h.1 h.2)
 
 -- an empty identity is never refused
 pub fit_refused : (id b : Text) (l : List ℕ) (r : Refusal) → length id ≡ 0 → NotReady id b l r → false ≡ fit b l

@@ -52,7 +52,7 @@ use Rattle.commit.specs.declared.Stamp.{Stamp}
 use Rattle.commit.specs.declared.Stamp.TheVariants.{Given, Missing}
 use Rattle.commit.specs.Commit.{checked_time, routes_offset, bank_for, records_for, is_idle, may_commit, is_current, commit_step, commit_ops}
 use Rattle.run.specs.Run.{commit}
-use Rattle.powerloss.specs.History.{Update, bank_of as bankFrom, records_of, records_after, checks, update_after}
+use Rattle.powerloss.specs.History.{Update, bank_of as bank_from, records_of, records_after, checks, update_after}
 use Rattle.powerloss.specs.Machine.{Image}
 use Rattle.powerloss.specs.Claim.{StampTyped}
 use Rattle.powerloss.proofs.Load.{target_fits, then-valid, valid-generation, load-new}
@@ -102,8 +102,8 @@ module _ (region : List ℕ) (hd : Loaded) (w : Writer) (u : Update) (o : Open r
 
   module _ (stamp : Stamp) (z : w.contents.fill ≡ 0) (c : 1 ≤ w.tables.count) where
     -- the bank that the history holds then is the one that is written
-    pub bank-is : bankFrom (checks (checked_time stamp u.now) u) ≡ bank_for w stamp
-    unfolding bankFrom bank_for
+    pub bank-is : bank_from (checks (checked_time stamp u.now) u) ≡ bank_for w stamp
+    unfolding bank_from bank_for
     bank-is =
         let n : length u.data· ≡ w.contents.written = o.tied.counted.length· ∙ omega arith in
         let cn : length (records_of u) ≡ w.tables.count = ap length records_is ∙ length-records in
@@ -223,7 +223,7 @@ module _ (region : List ℕ) (hd : Loaded) (rs : List Source) (im : Image) (w : 
 -- ---- the commit word
 
 abbrev pub held_new : Update → Loaded
-held_new u = Found (bankFrom u)
+held_new u = Found (bank_from u)
 
 abbrev pub image_new : List ℕ → Update → Image
 image_new region u = record { bank = bank_of region u.number; given = some u.data· }
@@ -277,37 +277,37 @@ module _ (region : List ℕ) (hd : Loaded) (rs : List Source) (im : Image) (w : 
     length-new = length-applied region (target w.beginning.active) k.size (target_fits w.beginning.active) (write commit_offset commit_bytes)
 
     few : length (records_of u) ≤ 3
-    unfolding bankFrom
-    few = fit_count (bankFrom u) (records_of u) place.1.fit
+    unfolding bank_from
+    few = fit_count (bank_from u) (records_of u) place.1.fit
 
-    bank-new : bank_of r' n ≡ header_bytes (bankFrom u) (records_of u) commit_bytes ++ rest
+    bank-new : bank_of r' n ≡ header_bytes (bank_from u) (records_of u) commit_bytes ++ rest
     unfolding r' n rest
     bank-new =
         bank-at region hd w.beginning.active rs im k place.0 (write commit_offset commit_bytes)
         ∙ ap (λ (x : List ℕ). done (length commit_bytes) (write commit_offset commit_bytes) x) place.1.lies
-        ∙ word_write (bankFrom u) (records_of u) place.1.proper few (fill 255 2896 ++ (u.data· ++ place.1.rest))
+        ∙ word_write (bank_from u) (records_of u) place.1.proper few (fill 255 2896 ++ (u.data· ++ place.1.rest))
 
-    number_is : (bankFrom u).number ≡ n
-    unfolding bankFrom n
+    number_is : (bank_from u).number ≡ n
+    unfolding bank_from n
     number_is = o.tied.began.number
 
-    header-new : header_of n (bank_of r' n) ≡ Good (bankFrom u)
-    unfolding bankFrom
+    header-new : header_of n (bank_of r' n) ≡ Good (bank_from u)
+    unfolding bank_from
     header-new =
         ap (header_of n) bank-new
-        ∙ ap (λ (x : ℕ). header_of x (header_bytes (bankFrom u) (records_of u) commit_bytes ++ rest)) (sym number_is)
-        ∙ committed (bankFrom u) (records_of u) rest refl place.1.numbers place.1.proper refl place.1.fit
+        ∙ ap (λ (x : ℕ). header_of x (header_bytes (bank_from u) (records_of u) commit_bytes ++ rest)) (sym number_is)
+        ∙ committed (bank_from u) (records_of u) rest refl place.1.numbers place.1.proper refl place.1.fit
 
     data-new : data_of (bank_of r' n) (length u.data·) ≡ u.data·
     unfolding rest
-    data-new = ap (λ (x : List ℕ). data_of x (length u.data·)) bank-new ∙ header-data (bankFrom u) (records_of u) place.1.proper few u.data· place.1.rest
+    data-new = ap (λ (x : List ℕ). data_of x (length u.data·)) bank-new ∙ header-data (bank_from u) (records_of u) place.1.proper few u.data· place.1.rest
 
     bank-number : bank_of r' u.number ≡ bank_of r' n
     unfolding n
     bank-number = ap (bank_of r') o.tied.began.number
 
-    data-ok : data_ok r' (bankFrom u) ≡ true
-    unfolding data_ok bankFrom
+    data-ok : data_ok r' (bank_from u) ≡ true
+    unfolding data_ok bank_from
     data-ok =
         eq-eqb (crc32 0 (data_of (bank_of r' u.number) (length u.data·))) (crc32 0 u.data·)
         (ap (crc32 0) (ap (λ (x : List ℕ). data_of x (length u.data·)) bank-number ∙ data-new))
@@ -316,12 +316,12 @@ module _ (region : List ℕ) (hd : Loaded) (rs : List Source) (im : Image) (w : 
     unfolding n
     n-fits = target_fits w.beginning.active
 
-    valid-new : validated r' n ≡ Good (bankFrom u)
-    valid-new = then-valid r' n (bankFrom u) length-new n-fits header-new data-ok
+    valid-new : validated r' n ≡ Good (bank_from u)
+    valid-new = then-valid r' n (bank_from u) length-new n-fits header-new data-ok
 
     generation-new : generation r' n ≡ next_generation w.beginning.active
-    unfolding bankFrom
-    generation-new = sym (valid-generation r' n (bankFrom u) length-new n-fits valid-new) ∙ o.tied.began.generation
+    unfolding bank_from
+    generation-new = sym (valid-generation r' n (bank_from u) length-new n-fits valid-new) ∙ o.tied.began.generation
 
     small-active : Small w.beginning.active
     small-active = subst Small (sym place.0.active) k.small
@@ -332,20 +332,20 @@ module _ (region : List ℕ) (hd : Loaded) (rs : List Source) (im : Image) (w : 
         let v = live_at region hd w.beginning.active rs im k place.0 (write commit_offset commit_bytes) in
         subst (λ (x : Loaded). or_else (validated (applied (target w.beginning.active) (write commit_offset commit_bytes) region) (1 - target x)) Nothing ≡ x) (sym place.0.active) v.other
 
-    loads-new : loaded r' ≡ Found (bankFrom u)
+    loads-new : loaded r' ≡ Found (bank_from u)
     unfolding n
     loads-new =
-        load-new r' n (bankFrom u) length-new n-fits valid-new
+        load-new r' n (bank_from u) length-new n-fits valid-new
         (follows r' w.beginning.active length-new (ranged w o.tied.range).active small-active other-new generation-new)
 
     records-new : Header.records_of 3 (bank_of r' u.number) (length (records_of u)) ≡ records_of u
-    unfolding bankFrom
+    unfolding bank_from
     records-new =
         ap (λ (x : List ℕ). Header.records_of 3 x (length (records_of u))) (bank-number ∙ bank-new)
-        ∙ records-are (bankFrom u) (records_of u) refl place.1.numbers place.1.proper few rest
+        ∙ records-are (bank_from u) (records_of u) refl place.1.numbers place.1.proper few rest
 
     pub word_kept : Kept (applied (target w.beginning.active) (write commit_offset commit_bytes) region) (held_new u) (records_of u) (image_new (applied (target w.beginning.active) (write commit_offset commit_bytes) region) u)
-    unfolding bankFrom r'
+    unfolding bank_from r'
     word_kept =
         record {
           size = length-new;
@@ -363,7 +363,7 @@ module _ (region : List ℕ) (hd : Loaded) (rs : List Source) (im : Image) (w : 
         let b = bank_of region (target a) in
         let lb = length-bank region (target a) k.size (target_fits a) in
         let e : byte b 47 ≡ 255 =
-        ap (λ (x : List ℕ). byte x 47) place.1.lies ∙ byte-47 (bankFrom u) (records_of u) (fill 255 2896 ++ (u.data· ++ place.1.rest)) in
+        ap (λ (x : List ℕ). byte x 47) place.1.lies ∙ byte-47 (bank_from u) (records_of u) (fill 255 2896 ++ (u.data· ++ place.1.rest)) in
         kept-unmarked-at region hd a rs im k place.0 (write commit_offset commit_bytes) j
         (unmarked (done j (write commit_offset commit_bytes) b) (write-past j 44 3 commit_bytes b (omega arith) (inl (omega arith)) ∙ e))
 

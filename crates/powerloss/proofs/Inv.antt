@@ -36,7 +36,7 @@ use Rattle.writer.specs.declared.Contents.{Contents}
 use Rattle.writer.specs.declared.Tables.{Tables}
 use Rattle.writer.specs.declared.Writer.{Writer}
 use Rattle.writer.specs.State.{position, target, next_generation, is_open, in_range, tail_size}
-use Rattle.powerloss.specs.History.{Note, Update, bank_of as bankOfUpdate, records_of, records_after}
+use Rattle.powerloss.specs.History.{Note, Update, bank_of as bank_of_update, records_of, records_after}
 use Rattle.powerloss.specs.Machine.{Image, bank_in, records_in}
 use Rattle.powerloss.specs.Claim.{Holds}
 use Rattle.powerloss.proofs.Load.{load-own, load-other, unmarked-refused, valid_same, target_fits}
@@ -119,9 +119,9 @@ pub record Laid (lo hi wr fl : ℕ) (tail d b : List ℕ) : Type 0 where
 -- the header is written, its commit word blank
 pub record HeaderLies (u : Update) (b : List ℕ) : Type 0 where
   pub rest : List ℕ
-  pub lies : b ≡ header_bytes (bankOfUpdate u) (records_of u) blank_word ++ (fill 255 2896 ++ (u.data· ++ rest))
-  pub fit : is_fit (bankOfUpdate u) (records_of u) ≡ true
-  pub numbers : Numbers (bankOfUpdate u)
+  pub lies : b ≡ header_bytes (bank_of_update u) (records_of u) blank_word ++ (fill 255 2896 ++ (u.data· ++ rest))
+  pub fit : is_fit (bank_of_update u) (records_of u) ≡ true
+  pub numbers : Numbers (bank_of_update u)
   pub proper : All Proper (records_of u)
 
 abbrev pub Lies : Stage → Contents → List ℕ → Update → List ℕ → Type 0

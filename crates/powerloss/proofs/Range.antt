@@ -1,4 +1,4 @@
--- States stay within their ranges: each change of bytes, stage or tables that a call makes keeps the tests of `inRange`. By cases on the
+-- States stay within their ranges: each change of bytes, stage or tables that a call makes keeps the tests of `in_range`. By cases on the
 -- tests.
 use mathlib.Core.Path.{◌≡◌, refl, sym, ap, ◌∙◌}
 use mathlib.Core.Bool.{Bool, true, false, not, ◌&&◌, ◌||◌, false≢true, and-false}

@@ -100,10 +100,10 @@ names-are = refl
 abbrev values : ℕ → List ℕ
 values z = 49 ∷ 48 ∷ z ∷ 51 ∷ []
 
-abbrev rowOf· : ℕ → List ℕ
-rowOf· z = 49 ∷ 48 ∷ 44 ∷ z ∷ 44 ∷ 51 ∷ 10 ∷ []
+abbrev row_text : ℕ → List ℕ
+row_text z = 49 ∷ 48 ∷ 44 ∷ z ∷ 44 ∷ 51 ∷ 10 ∷ []
 
-row_is : (z : ℕ) → special z ≡ false → appended_bytes (row (values z) lengths) ≡ rowOf· z
+row_is : (z : ℕ) → special z ≡ false → appended_bytes (row (values z) lengths) ≡ row_text z
 unfolding appended_bytes row_of cut_by field_of any_special
 row_is z e = rw e (unfold special in refl)
 
@@ -169,7 +169,7 @@ module _ (hd : Loaded) (ok : active_ok hd ≡ true) (comparing : Bool) (region :
   row-still = record { fit = record { size = l; range = rw ok refl }; closed = refl; none· = refl; idle = refl }
 
   module _ (z : ℕ) (e : special z ≡ false) where
-    row-bytes : row_of (passed_values (values z) lengths) ≡ rowOf· z
+    row-bytes : row_of (passed_values (values z) lengths) ≡ row_text z
     unfolding appended_bytes
     row-bytes = row_is z e
 
@@ -177,7 +177,7 @@ module _ (hd : Loaded) (ok : active_ok hd ≡ true) (comparing : Bool) (region :
     unfolding refusal_of columns_of columns in_range contents_ok tables_ok stage_ok is_due
     row_fits = rw (eq-eqb (length region) region_size l, ok, row_is z e, row-bytes) refl
 
-    does-row : Does (row (values z) lengths) region s3 (ends (st hd comparing Idle (tk 0 53 (crc32 a (rowOf· z)) false false) (tb 1 0 9 (crc32 b (rowOf· z)) 1) ss (sets tail 46 (rowOf· z))) region)
+    does-row : Does (row (values z) lengths) region s3 (ends (st hd comparing Idle (tk 0 53 (crc32 a (row_text z)) false false) (tb 1 0 9 (crc32 b (row_text z)) 1) ss (sets tail 46 (row_text z))) region)
     unfolding with_bytes stage_of is_due
     does-row =
         upper-outcome region s3 (row (values z) lengths) _ row_fits
@@ -438,13 +438,13 @@ abbrev crc3 : ℕ
 crc3 = crc32 crc2 names
 
 abbrev crc_all : ℕ → ℕ
-crc_all z = crc32 crc3 (rowOf· z)
+crc_all z = crc32 crc3 (row_text z)
 
 abbrev crc_names : ℕ
 crc_names = crc32 0 names
 
 abbrev crc_routes : ℕ → ℕ
-crc_routes z = crc32 crc_names (rowOf· z)
+crc_routes z = crc32 crc_names (row_text z)
 
 abbrev tail2 : List ℕ
 tail2 = sets tail1 1 dates
@@ -453,10 +453,10 @@ abbrev tail3 : List ℕ
 tail3 = sets tail2 9 names
 
 abbrev tail_all : ℕ → List ℕ
-tail_all z = sets tail3 46 (rowOf· z)
+tail_all z = sets tail3 46 (row_text z)
 
 abbrev data_with : ℕ → List ℕ
-data_with z = key ++ (dates ++ (names ++ rowOf· z))
+data_with z = key ++ (dates ++ (names ++ row_text z))
 
 abbrev at_end : Loaded → Bool → ℕ → Writer
 at_end hd comparing z = st hd comparing Idle (tk 0 53 (crc_all z) false false) (tb 1 8 9 (crc_routes z) 1) (sources2 (crc_routes z)) (tail_all z)
@@ -695,12 +695,12 @@ stamp_before_now = gives earlier now refl refl earlier-fits
 
 crc-data : crc_all 55 ≡ crc32 0 data·
 crc-data =
-    ap (λ (x : ℕ). crc32 (crc32 x names) (rowOf· 55)) (crc32-append 0 key dates)
-    ∙ ap (λ (x : ℕ). crc32 x (rowOf· 55)) (crc32-append 0 (key ++ dates) names)
-    ∙ crc32-append 0 (key ++ (dates ++ names)) (rowOf· 55)
+    ap (λ (x : ℕ). crc32 (crc32 x names) (row_text 55)) (crc32-append 0 key dates)
+    ∙ ap (λ (x : ℕ). crc32 x (row_text 55)) (crc32-append 0 (key ++ dates) names)
+    ∙ crc32-append 0 (key ++ (dates ++ names)) (row_text 55)
 
 crc-routes : crc_routes 55 ≡ crc32 0 (names ++ row_bytes)
-crc-routes = crc32-append 0 names (rowOf· 55)
+crc-routes = crc32-append 0 names (row_text 55)
 
 -- the bytes that the tail holds, and three of 255
 data-op : padded (take 53 (tail_all 55)) ≡ data· ++ (255 ∷ 255 ∷ 255 ∷ [])

@@ -11,14 +11,14 @@ use Rattle.run.specs.Appends.{appends}
 
 -- parts q, a tail and a region after a run from parts p and their tail
 abbrev pub Ran : List ℕ → Beginning → Parts → List ℕ → List Lower → Parts → List ℕ → List ℕ → Type 0
-Ran region b p tail cs q tailAfter after =
-    (ss : List Source) → (whole_of b q ss tailAfter ≡ ran_writer region (whole_of b p ss tail) cs) × (after ≡ ran_region region (whole_of b p ss tail) cs)
+Ran region b p tail cs q tail_after after =
+    (ss : List Source) → (whole_of b q ss tail_after ≡ ran_writer region (whole_of b p ss tail) cs) × (after ≡ ran_region region (whole_of b p ss tail) cs)
 
 -- parts q, a tail and a region: appending the bytes after the first n to these ends as appending all of them to parts p does
 abbrev pub AfterAppend : List ℕ → Beginning → Parts → List ℕ → List ℕ → ℕ → Parts → List ℕ → List ℕ → Type 0
-AfterAppend region b p tail bs n q tailAfter after =
+AfterAppend region b p tail bs n q tail_after after =
     (1 ≤ n) × (n ≤ length bs)
-    × ((ss : List Source) → (ran_writer after (whole_of b q ss tailAfter) (appends (drop n bs)) ≡ ran_writer region (whole_of b p ss tail) (appends bs)) × (ran_region after (whole_of b q ss tailAfter) (appends (drop n bs)) ≡ ran_region region (whole_of b p ss tail) (appends bs)))
+    × ((ss : List Source) → (ran_writer after (whole_of b q ss tail_after) (appends (drop n bs)) ≡ ran_writer region (whole_of b p ss tail) (appends bs)) × (ran_region after (whole_of b q ss tail_after) (appends (drop n bs)) ≡ ran_region region (whole_of b p ss tail) (appends bs)))
 
 -- how many bytes a call appended
 abbrev pub count_of : Answer → ℕ

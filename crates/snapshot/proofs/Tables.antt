@@ -10,7 +10,7 @@ use Rattle.header.specs.declared.Validated.TheVariants.{Good}
 use Rattle.bank.specs.Bank.{named}
 use Rattle.row.specs.Columns.{columns_of, column_count, names_line}
 use Rattle.row.proofs.Names.{names-are-a-row}
-use Rattle.rowread.specs.Claims.{Reads, at_end as endOfTable, onward as further, table_of}
+use Rattle.rowread.specs.Claims.{Reads, at_end as end_of_table, onward as further, table_of}
 use Rattle.rowread.proofs.Table.{reads-table}
 use Rattle.snapshot.specs.Rows.{table_in}
 use Rattle.snapshot.specs.Claims.{BankReads, at_end, onward, ReadsBank}
@@ -23,7 +23,7 @@ Text = List ℕ
 module _ (region : Text) (n i t capacity slots : ℕ) (b : Bank) (e : named region n ≡ Good b) (l : ltb i b.count ≡ true) (h : leb t last_table ≡ true) where
   -- what is read of the table's bytes is read of the bank
   from-table : (offset : ℕ) (rows : List (List Text)) → Reads (table_in region b i t) (column_count t) capacity slots offset rows → BankReads region n i t capacity slots offset rows
-  from-table offset [] (endOfTable q) = at_end (sym (is-answer region n i t offset capacity slots b h e l) ∙ q)
+  from-table offset [] (end_of_table q) = at_end (sym (is-answer region n i t offset capacity slots b h e l) ∙ q)
   from-table offset (vs ∷ rows) (further {next = next} q v r) =
       onward (sym (is-answer region n i t offset capacity slots b h e l) ∙ q) (sym (is-values region n i t offset capacity slots b h e) ∙ v) (from-table next rows r)
 

@@ -19,7 +19,7 @@ use Rattle.leaf.proofs.Laws.{length-written}
 use Rattle.key.specs.declared.KeyAnswer.{KeyAnswer}
 use Rattle.key.specs.declared.KeyAnswer.TheVariants.{Written as KeyWritten, Refused as KeyRefused}
 use Rattle.key.specs.Picks as Picks
-use Rattle.key.specs.Layout.{prefix, key_of, every, sized, fit, key_answer, within as keyWithin, after as keyAfter, max_identity}
+use Rattle.key.specs.Layout.{prefix, key_of, every, sized, fit, key_answer, within as key_within, after as key_after, max_identity}
 use Rattle.key.proofs.Sizes.{entry-small, small, few}
 use Rattle.key.proofs.Answers.{key-length}
 use Rattle.row.specs.declared.RowAnswer.{RowAnswer}
@@ -286,9 +286,9 @@ key-false : (p : Bool) (m : ℕ) (x : Refusal) → pick p (KeyWritten m) (KeyRef
 key-false true m x e = cc
 key-false false m x e = refl
 
-module _ (b l out o : List ℕ) (a : KeyAnswer) (h : length out ≡ max_body) (e : a ≡ key_answer [] b l (length out)) (k : o ≡ keyAfter a (key_of [] (Picks.passed_picks b l)) out) where
+module _ (b l out o : List ℕ) (a : KeyAnswer) (h : length out ≡ max_body) (e : a ≡ key_answer [] b l (length out)) (k : o ≡ key_after a (key_of [] (Picks.passed_picks b l)) out) where
   key-by : (p : Bool) → fit b l ≡ p → a ≡ pick p (KeyWritten (length (key_of [] (Picks.passed_picks b l)))) (KeyRefused Argument)
-  unfolding key_answer keyWithin
+  unfolding key_answer key_within
   key-by true f = e ∙ rw (f, le-leb (length (key_of [] (Picks.passed_picks b l))) (length out) (omega (arith, body-short b l f)))
   key-by false f = e ∙ rw f
 
@@ -303,7 +303,7 @@ module _ (b l out o : List ℕ) (a : KeyAnswer) (h : length out ≡ max_body) (e
     key-fit = key-both.0
 
     key-out : o ≡ written out 0 (key_of [] (Picks.passed_picks b l))
-    key-out = k ∙ ap (λ (x : KeyAnswer). keyAfter x (key_of [] (Picks.passed_picks b l)) out) f
+    key-out = k ∙ ap (λ (x : KeyAnswer). key_after x (key_of [] (Picks.passed_picks b l)) out) f
 
     pub key-inside : n ≤ length o
     key-inside = omega (arith, key-both.1, body-short b l key-fit, ap length key-out, length-written out 0 (key_of [] (Picks.passed_picks b l)))
