@@ -178,6 +178,35 @@ def refused_by_itself(folder, said, crate, name, names):
     return function_refused(said, crate, name)
 
 
+def answers_of(folder, name):
+    """The file of a function's answers, by its path in the crate, and its parts: the head, then one for each answer."""
+    for path in [p for p in proofs_of(folder, name.partition(".")[0]) if p.name == "Answers.antt"]:
+        return path.relative_to(folder).as_posix(), re.split(r"\n(?=pub )", path.read_text(encoding="utf-8"))
+    return None, []
+
+
+def gone_of(said, file):
+    """The goals and the fields that answers name and that are gone; a field with those that are nearest."""
+    errors = re.findall(rf"{re.escape(file)}:\S+ error: (.*)", said)
+    goals = [m[1] for e in errors for m in [re.match(r"`([^`]+)`: `goal\.\1`: .*can be named from here", e)] if m]
+    fields = [(m[1], re.findall(r"\.([\w-]+)", m[2])) for e in errors for m in [re.search(r"has no field `([^`]+)` \(nearest: ([^)]*)\)", e)] if m]
+    return goals, fields
+
+
+def searched(line):
+    """The goals of a function that have no answer and that the check doesn't find."""
+    return re.findall(r"`([^`]+)`", line.partition("`search` did not prove ")[2].partition(";")[0])
+
+
+def respelled(parts, old, new):
+    return [re.sub(rf"(?<![\w-]){re.escape(old)}(?![\w-])", new, p) for p in parts]
+
+
+def renamed(answers, goals):
+    """The answers, each for another goal."""
+    return [respelled([a], a.split(" ")[1], g)[0] for a, g in zip(answers, goals)]
+
+
 def refused_alone(said, crate, name):
     """The same where its own changes were the only ones: then a claim is refused if the function that promises it is, by a fact."""
     return function_refused(said, crate, name.partition(".")[0]) or ("" if facts_of(said) else "is refused for its form alone")
