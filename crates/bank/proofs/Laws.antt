@@ -8,19 +8,18 @@ use lib.ListN.{length}
 use Rattle.refusal.specs.declared.Refusal.{Refusal}
 use Rattle.refusal.specs.declared.Refusal.TheVariants.{Region, Argument, Data}
 use Rattle.header.specs.declared.Bank.{Bank}
-use Rattle.header.specs.declared.Validated.TheVariants.{Good, Refused}
 use Rattle.region.specs.Region.{region_size, bank_of}
 use Rattle.header.specs.Header.{header_of}
-use Rattle.bank.specs.declared.Loaded.TheVariants.{Found, Nothing, Refused as NotRead}
 use Rattle.bank.specs.Bank.{named, data_ok, then_data, validated, first_tried, loaded}
+use Rattle.std.specs.Prelude.{Ok, Err, Some, None}
 
 module _ (region : List ℕ) where
   module _ (n : ℕ) where
-    pub no-region : eqb (length region) region_size ≡ false → Refused Region ≡ named region n
+    pub no-region : eqb (length region) region_size ≡ false → Err Region ≡ named region n
     unfolding named
     no-region e = rw e
 
-    pub no-bank : eqb (length region) region_size ≡ true → leb n 1 ≡ false → Refused Argument ≡ named region n
+    pub no-bank : eqb (length region) region_size ≡ true → leb n 1 ≡ false → Err Argument ≡ named region n
     unfolding named
     no-bank e f = rw (e, f)
 
@@ -28,32 +27,32 @@ module _ (region : List ℕ) where
     unfolding named
     named-is e f = rw (e, f)
 
-    pub data-good : (b : Bank) → named region n ≡ Good b → data_ok region b ≡ true → Good b ≡ validated region n
+    pub data-good : (b : Bank) → named region n ≡ Ok b → data_ok region b ≡ true → Ok b ≡ validated region n
     unfolding validated
     data-good b h d = sym (ap (then_data region) h ∙ rw d)
 
-    pub data-bad : (b : Bank) → named region n ≡ Good b → data_ok region b ≡ false → Refused Data ≡ validated region n
+    pub data-bad : (b : Bank) → named region n ≡ Ok b → data_ok region b ≡ false → Err Data ≡ validated region n
     unfolding validated
     data-bad b h d = sym (ap (then_data region) h ∙ rw d)
 
-    pub header-bad : (r : Refusal) → named region n ≡ Refused r → Refused r ≡ validated region n
+    pub header-bad : (r : Refusal) → named region n ≡ Err r → Err r ≡ validated region n
     unfolding validated
     header-bad r h = sym (ap (then_data region) h)
 
-  pub load-no-region : eqb (length region) region_size ≡ false → NotRead Region ≡ loaded region
+  pub load-no-region : eqb (length region) region_size ≡ false → Err Region ≡ loaded region
   unfolding loaded
   load-no-region e = rw e
 
-  pub load-first : (b : Bank) → eqb (length region) region_size ≡ true → validated region (first_tried region) ≡ Good b → Found b ≡ loaded region
+  pub load-first : (b : Bank) → eqb (length region) region_size ≡ true → validated region (first_tried region) ≡ Ok b → Ok (Some b) ≡ loaded region
   unfolding loaded
   load-first b e f = rw (e, f)
 
-  pub load-second : (r : Refusal) (b : Bank) → eqb (length region) region_size ≡ true → validated region (first_tried region) ≡ Refused r → validated region (1 - first_tried region) ≡ Good b
-      → Found b ≡ loaded region
+  pub load-second : (r : Refusal) (b : Bank) → eqb (length region) region_size ≡ true → validated region (first_tried region) ≡ Err r → validated region (1 - first_tried region) ≡ Ok b
+      → Ok (Some b) ≡ loaded region
   unfolding loaded
   load-second r b e f g = rw (e, f, g)
 
-  pub load-none : (r s : Refusal) → eqb (length region) region_size ≡ true → validated region (first_tried region) ≡ Refused r → validated region (1 - first_tried region) ≡ Refused s
-      → Nothing ≡ loaded region
+  pub load-none : (r s : Refusal) → eqb (length region) region_size ≡ true → validated region (first_tried region) ≡ Err r → validated region (1 - first_tried region) ≡ Err s
+      → (Ok None) ≡ loaded region
   unfolding loaded
   load-none r s e f g = rw (e, f, g)

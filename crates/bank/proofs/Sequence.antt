@@ -15,34 +15,34 @@ use Rattle.leaf.specs.Crc.{crc32}
 use Rattle.leaf.proofs.Checksum.{crc32-append, crc32-nil}
 use Rattle.refusal.specs.declared.Refusal.TheVariants.{Region, Argument, Data}
 use Rattle.header.specs.declared.Bank.{Bank}
-use Rattle.header.specs.declared.Validated.{Validated}
-use Rattle.header.specs.declared.Validated.TheVariants.{Good, Refused as Bad}
 use Rattle.region.specs.Region.{region_size, capacity, bank_of, data_of, sector_size}
 use Rattle.header.specs.Header.{header_of}
 use Rattle.header.proofs.Laws.{no-refusal, passed, span-length}
 use Rattle.bank.specs.declared.turns.Checking.{Checking}
-use Rattle.bank.specs.declared.turns.Progress.TheVariants.{Hashed, Yes, Refused}
+use Rattle.bank.specs.declared.turns.Progress.TheVariants.{Hashed, Yes}
 use Rattle.bank.specs.declared.turns.Turn.{Turn}
 use Rattle.bank.specs.Bank.{named, validated, then_data, data_ok, data_in}
 use Rattle.bank.specs.Turns.{stays, fresh, verdict, hashed, on_bank, turned, after, total, reported, as_verdict, Divided, TurnsValidate}
 use Rattle.bank.proofs.Laws.{no-region, no-bank, named-is}
 use Rattle.bank.proofs.Cases.{turn-bank, some_left}
+use Rattle.std.specs.Prelude.{Ok, Err, Result}
+use Rattle.refusal.specs.declared.Refusal.{Refusal}
 
 -- a bank that `named` finds is in a region of its size, and its header passes
 pub record Named (region : List ℕ) (n : ℕ) (b : Bank) : Type 0 where
   pub region-size : eqb (length region) region_size ≡ true
   pub bank-number : leb n 1 ≡ true
-  pub header : header_of n (bank_of region n) ≡ Good b
+  pub header : header_of n (bank_of region n) ≡ Ok b
 
-named_by : (region : List ℕ) (n : ℕ) (b : Bank) (s t : Bool) → eqb (length region) region_size ≡ s → leb n 1 ≡ t → named region n ≡ Good b → Named region n b
+named_by : (region : List ℕ) (n : ℕ) (b : Bank) (s t : Bool) → eqb (length region) region_size ≡ s → leb n 1 ≡ t → named region n ≡ Ok b → Named region n b
 named_by region n b false t es et e = no-refusal Region b (no-region region n es ∙ e)
 named_by region n b true false es et e = no-refusal Argument b (no-bank region n es et ∙ e)
 named_by region n b true true es et e = record { region-size = es; bank-number = et; header = named-is region n es et ∙ e }
 
-pub named-passes : (region : List ℕ) (n : ℕ) (b : Bank) → named region n ≡ Good b → Named region n b
+pub named-passes : (region : List ℕ) (n : ℕ) (b : Bank) → named region n ≡ Ok b → Named region n b
 named-passes region n b e = named_by region n b (eqb (length region) region_size) (leb n 1) refl refl e
 
-module _ (region : List ℕ) (n : ℕ) (b : Bank) (e : named region n ≡ Good b) where
+module _ (region : List ℕ) (n : ℕ) (b : Bank) (e : named region n ≡ Ok b) where
   abbrev bytes : List ℕ
   bytes = data_in region b
 
@@ -58,7 +58,7 @@ module _ (region : List ℕ) (n : ℕ) (b : Bank) (e : named region n ≡ Good b
       let p = named-passes region n b e in
       sym (turn-bank region (at k) m b p.region-size (rw p.bank-number (le-leb k capacity (omega (arith, length-fits)))) p.header)
 
-  hash_at : (k m : ℕ) → k < b.length → turned region (at k) m ≡ record { progress = Hashed (min m (b.length - k)); next = at (k + min m (b.length - k)) }
+  hash_at : (k m : ℕ) → k < b.length → turned region (at k) m ≡ record { progress = Ok (Hashed (min m (b.length - k))); next = at (k + min m (b.length - k)) }
   unfolding hashed
   hash_at k m h =
       let c = min m (b.length - k) in
@@ -66,7 +66,7 @@ module _ (region : List ℕ) (n : ℕ) (b : Bank) (e : named region n ≡ Good b
       crc32-append 0 (take k bytes) (take c (drop k bytes)) ∙ ap (crc32 0) (sym (take-add k c bytes)) in
       turn_at k m (omega arith)
       ∙ sym (some_left region b (at k) m (le-leb k b.length (omega arith)) (ne_eqb k b.length (λ q. omega arith)))
-      ∙ (λ i. record { progress = Hashed c; next = record { bank = n; position = k + c; crc = j i } })
+      ∙ (λ i. record { progress = Ok (Hashed c); next = record { bank = n; position = k + c; crc = j i } })
 
   verdict-at : (k m : ℕ) → k ≡ b.length → turned region (at k) m ≡ stays (at k) (verdict b (at k))
   unfolding on_bank
@@ -79,7 +79,7 @@ module _ (region : List ℕ) (n : ℕ) (b : Bank) (e : named region n ≡ Good b
     next : (turned region (at k) m).next ≡ at (k + count)
     fits : k + count ≤ b.length
 
-  said : (p : Bool) → reported (pick p Yes (Refused Data)) ≡ 0
+  said : (p : Bool) → reported (pick p (Ok Yes) (Err Data)) ≡ 0
   said true = refl
   said false = refl
 
@@ -128,7 +128,7 @@ module _ (region : List ℕ) (n : ℕ) (b : Bank) (e : named region n ≡ Good b
   first : fresh n ≡ at 0
   first = ap (λ (x : ℕ). record { bank = n; position = 0; crc = x }) (sym (crc32-nil 0 (lit< tt)))
 
-  as-verdict : (t : Bool) → pick t Yes (Refused Data) ≡ as_verdict (pick t (Good b) (Bad Data))
+  as-verdict : (t : Bool) → pick t (Ok Yes) (Err Data) ≡ as_verdict (pick t (Ok b) (Err Data))
   as-verdict true = refl
   as-verdict false = refl
 
@@ -139,9 +139,9 @@ module _ (region : List ℕ) (n : ℕ) (b : Bank) (e : named region n ≡ Good b
   verdict-is : verdict b (at b.length) ≡ as_verdict (validated region n)
   unfolding validated data_ok
   verdict-is =
-      ap (λ (l : List ℕ). pick (eqb (crc32 0 l) b.crc) Yes (Refused Data)) all-bytes
+      ap (λ (l : List ℕ). pick (eqb (crc32 0 l) b.crc) (Ok Yes) (Err Data)) all-bytes
       ∙ as-verdict (eqb (crc32 0 bytes) b.crc)
-      ∙ ap (λ (x : Validated). as_verdict (then_data region x)) (sym e)
+      ∙ ap (λ (x : Result Bank Refusal). as_verdict (then_data region x)) (sym e)
 
   pub divided : (ns : List ℕ) → Divided region n b ns
   divided ns =

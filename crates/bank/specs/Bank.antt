@@ -1,24 +1,21 @@
 -- A bank of a region: named by number, validated, loaded.
-use Rattle.std.specs.Prelude.{Bool, List, ℕ, ◌-◌, leb, eqb, length}
+use Rattle.std.specs.Prelude.{Bool, List, ℕ, ◌-◌, leb, eqb, length, Ok, Err, Some, None, Result, Option}
 use Rattle.base.specs.Number.{pick}
 use Rattle.leaf.specs.Bytes.{word}
 use Rattle.leaf.specs.Crc.{crc32}
 use Rattle.leaf.specs.Generation.{newer}
 use Rattle.refusal.specs.declared.Refusal.TheVariants.{Region, Argument, Data}
 use Rattle.header.specs.declared.Bank.{Bank}
-use Rattle.header.specs.declared.Validated.{Validated}
-use Rattle.header.specs.declared.Validated.TheVariants.{Good, Refused}
 use Rattle.region.specs.Region.{region_size, last_bank, bank_of, data_of}
 use Rattle.header.specs.Header.{generation_offset, header_of}
-use Rattle.bank.specs.declared.Loaded.{Loaded}
-use Rattle.bank.specs.declared.Loaded.TheVariants.{Found, Nothing, Refused as NotRead}
+use Rattle.refusal.specs.declared.Refusal.{Refusal}
 
 -- what a call that names a bank by number tests: 1, 2, then 3 to 6
-unfoldable pub named : List ℕ → ℕ → Validated
+unfoldable pub named : List ℕ → ℕ → Result Bank Refusal
 named region n =
     pick (eqb (length region) region_size)
-    (pick (leb n last_bank) (header_of n (bank_of region n)) (Refused Argument))
-    (Refused Region)
+    (pick (leb n last_bank) (header_of n (bank_of region n)) (Err Argument))
+    (Err Region)
 
 -- a bank's data
 abbrev pub data_in : List ℕ → Bank → List ℕ
@@ -28,12 +25,12 @@ data_in region b = data_of (bank_of region b.number) b.length
 unfoldable pub data_ok : List ℕ → Bank → Bool
 data_ok region b = eqb (crc32 0 (data_in region b)) b.crc
 
-abbrev pub then_data : List ℕ → Validated → Validated
-then_data region (Good b) = pick (data_ok region b) (Good b) (Refused Data)
-then_data region (Refused r) = Refused r
+abbrev pub then_data : List ℕ → Result Bank Refusal → Result Bank Refusal
+then_data region (Ok b) = pick (data_ok region b) (Ok b) (Err Data)
+then_data region (Err r) = Err r
 
 -- 1, 2, then 3 to 7
-unfoldable pub validated : List ℕ → ℕ → Validated
+unfoldable pub validated : List ℕ → ℕ → Result Bank Refusal
 validated region n = then_data region (named region n)
 
 -- the generation word, as it is, from bad banks too
@@ -44,13 +41,13 @@ generation region n = word (bank_of region n) generation_offset
 unfoldable pub first_tried : List ℕ → ℕ
 first_tried region = pick (newer (generation region last_bank) (generation region 0)) last_bank 0
 
-abbrev pub or_else : Validated → Loaded → Loaded
-or_else (Good b) other = Found b
-or_else (Refused r) other = other
+abbrev pub or_else : Result Bank Refusal → Result (Option Bank) Refusal → Result (Option Bank) Refusal
+or_else (Ok b) other = Ok (Some b)
+or_else (Err r) other = other
 
 -- load: the first bank to pass is given; the only refusal is 1
-unfoldable pub loaded : List ℕ → Loaded
+unfoldable pub loaded : List ℕ → Result (Option Bank) Refusal
 loaded region =
     pick (eqb (length region) region_size)
-    (or_else (validated region (first_tried region)) (or_else (validated region (last_bank - first_tried region)) Nothing))
-    (NotRead Region)
+    (or_else (validated region (first_tried region)) (or_else (validated region (last_bank - first_tried region)) (Ok None)))
+    (Err Region)

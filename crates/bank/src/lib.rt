@@ -8,29 +8,22 @@ ghost use Rattle.region.specs.Region.{last_bank};
 ghost use Rattle.bank.specs.Bank as Banks;
 
 use base::slice::part;
-use header::{Bank, GENERATION_OFFSET, Validated, header_of};
+use header::{Bank, GENERATION_OFFSET, header_of};
 use leaf::bytes::get;
 use leaf::crc::crc32;
 use leaf::generation::newer;
 use refusal::Refusal;
 use region::{LAST_BANK, REGION_SIZE, SECTOR_SIZE, bank_of};
 
-#[derive(Clone, Copy)]
-pub enum Loaded {
-    Found(Bank),
-    Nothing,
-    Refused(Refusal),
-}
-
 // Tests a bank that a call names by number: 1, 2, then 3 to 6.
-pub fn header(region: &[u8], number: u32) -> Validated
+pub fn header(region: &[u8], number: u32) -> Result<Bank, Refusal>
     ensures { result ≡ Banks.named region.now number }
 {
     if region.len() != REGION_SIZE {
-        return Validated::Refused(Refusal::Region);
+        return Err(Refusal::Region);
     }
     if LAST_BANK < number {
-        return Validated::Refused(Refusal::Argument);
+        return Err(Refusal::Argument);
     }
     let l = bank_of(region, number);
     header_of(l, number)
@@ -52,19 +45,19 @@ fn data_ok(region: &[u8], b: Bank) -> bool
 }
 
 // Tests a bank's header and data: 1, 2, then 3 to 7.
-pub fn validate(region: &[u8], number: u32) -> Validated
+pub fn validate(region: &[u8], number: u32) -> Result<Bank, Refusal>
     ensures { result ≡ Banks.validated region.now number }
 {
     let h = header(region, number);
     match h {
-        Validated::Good(b) => {
+        Ok(b) => {
             if data_ok(region, b) {
-                Validated::Good(b)
+                Ok(b)
             } else {
-                Validated::Refused(Refusal::Data)
+                Err(Refusal::Data)
             }
         }
-        Validated::Refused(r) => Validated::Refused(r),
+        Err(r) => Err(r),
     }
 }
 
@@ -86,18 +79,18 @@ fn first_tried(region: &[u8]) -> u32
 }
 
 // The bank to use: the first that passes.
-pub fn load(region: &[u8]) -> Loaded
+pub fn load(region: &[u8]) -> Result<Option<Bank>, Refusal>
     ensures { result ≡ Banks.loaded region.now }
 {
     if region.len() != REGION_SIZE {
-        return Loaded::Refused(Refusal::Region);
+        return Err(Refusal::Region);
     }
     let first = first_tried(region);
-    let Validated::Good(b) = validate(region, first) else {
-        let Validated::Good(c) = validate(region, LAST_BANK - first) else {
-            return Loaded::Nothing;
+    let Ok(b) = validate(region, first) else {
+        let Ok(c) = validate(region, LAST_BANK - first) else {
+            return Ok(None);
         };
-        return Loaded::Found(c);
+        return Ok(Some(c));
     };
-    Loaded::Found(b)
+    Ok(Some(b))
 }

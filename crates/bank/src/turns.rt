@@ -5,7 +5,7 @@ ghost use Rattle.bank.specs.Turns as Turns;
 
 use crate::{data_in, header};
 use base::slice::part;
-use header::{Bank, Validated, header_of};
+use header::{Bank, header_of};
 use leaf::crc::crc32;
 use refusal::Refusal;
 use region::{CAPACITY_32, LAST_BANK, REGION_SIZE, bank_of};
@@ -26,12 +26,11 @@ pub struct Checking {
 pub enum Progress {
     Hashed(u32),
     Yes,
-    Refused(Refusal),
 }
 
 #[derive(Clone, Copy)]
 pub struct Turn {
-    pub progress: Progress,
+    pub progress: Result<Progress, Refusal>,
     pub next: Checking,
 }
 
@@ -41,21 +40,21 @@ pub fn check_start(region: &[u8], number: u32) -> Turn
 {
     let h = header(region, number);
     match h {
-        Validated::Good(_) => stays(
+        Ok(_) => stays(
             Checking {
                 bank: number,
                 position: 0,
                 crc: 0,
             },
-            Progress::Hashed(0),
+            Ok(Progress::Hashed(0)),
         ),
-        Validated::Refused(r) => stays(
+        Err(r) => stays(
             Checking {
                 bank: NO_BANK,
                 position: 0,
                 crc: 0,
             },
-            Progress::Refused(r),
+            Err(r),
         ),
     }
 }
@@ -74,20 +73,20 @@ fn hashed(region: &[u8], b: Bank, s: Checking, n: u32) -> Turn
         position: s.position + count,
         crc,
     };
-    stays(next, Progress::Hashed(count))
+    stays(next, Ok(Progress::Hashed(count)))
 }
 
 fn on_bank(region: &[u8], b: Bank, s: Checking, n: u32) -> Turn
     ensures { result ≡ Turns.on_bank region.now b s n }
 {
     if b.length < s.position {
-        return stays(s, Progress::Refused(Refusal::Turn));
+        return stays(s, Err(Refusal::Turn));
     }
     if s.position == b.length {
         if s.crc == b.crc {
-            return stays(s, Progress::Yes);
+            return stays(s, Ok(Progress::Yes));
         }
-        return stays(s, Progress::Refused(Refusal::Data));
+        return stays(s, Err(Refusal::Data));
     }
     hashed(region, b, s, n)
 }
@@ -97,20 +96,20 @@ pub fn check_turn(region: &[u8], s: Checking, n: u32) -> Turn
     ensures { result ≡ Turns.turned region.now s n }
 {
     if region.len() != REGION_SIZE {
-        return stays(s, Progress::Refused(Refusal::Region));
+        return stays(s, Err(Refusal::Region));
     }
     if !((s.bank <= LAST_BANK) & (s.position <= CAPACITY_32)) {
-        return stays(s, Progress::Refused(Refusal::Turn));
+        return stays(s, Err(Refusal::Turn));
     }
     let l = bank_of(region, s.bank);
     let h = header_of(l, s.bank);
     match h {
-        Validated::Good(b) => on_bank(region, b, s, n),
-        Validated::Refused(r) => stays(s, Progress::Refused(r)),
+        Ok(b) => on_bank(region, b, s, n),
+        Err(r) => stays(s, Err(r)),
     }
 }
 
-fn stays(s: Checking, p: Progress) -> Turn
+fn stays(s: Checking, p: Result<Progress, Refusal>) -> Turn
     ensures { result ≡ Turns.stays s p }
 {
     Turn {

@@ -9,29 +9,30 @@ use Rattle.base.specs.Number.{pick}
 use Rattle.refusal.specs.declared.Refusal.TheVariants.{Full, Turn}
 use Rattle.refusal.specs.Refusal.{number_of}
 use Rattle.writer.specs.declared.Writer.{Writer}
-use Rattle.writer.specs.declared.Answer.{Answer}
-use Rattle.writer.specs.declared.Answer.TheVariants.{Done, Appended, NoneDue, Same, Different, Refused}
+use Rattle.writer.specs.declared.Answer.TheVariants.{Done, Appended, NoneDue, Same, Different}
 use Rattle.writer.specs.State.{stays, position, is_due, is_done, in_range}
 use Rattle.lower.specs.Lower.{may_append, accepted, with_bytes, appended, bytes_step}
-use Rattle.rowread.specs.declared.ReadAnswer.{ReadAnswer}
-use Rattle.rowread.specs.declared.ReadAnswer.TheVariants.{Stored, End, Refused as NoRow}
 use Rattle.cstate.specs.Answers.{is_answer}
 use Rattle.bankcore.specs.BankAnswers.{of_bank_row, as_bank_row}
 use Rattle.bankcore.specs.RowAnswers.{of_read}
 use Rattle.bankcore.specs.Operation.{no_operation, next_operation, operation_of}
 use Rattle.region.specs.Region.{capacity}
+use Rattle.std.specs.Prelude.{Ok, Err, Some, None, Result, Option}
+use Rattle.refusal.specs.declared.Refusal.{Refusal}
+use Rattle.rowread.specs.declared.Stored.{Stored}
+use Rattle.writer.specs.declared.Answer.{Answer}
 
 -- a refused call isn't done
-pub not_done : (a : Answer) → is_answer a ≡ false → is_done a ≡ false
-not_done Done e = absurd (false≢true (sym e))
-not_done (Appended n) e = refl
-not_done NoneDue e = refl
-not_done Same e = refl
-not_done Different e = refl
-not_done (Refused r) e = refl
+pub not_done : (a : Result Answer Refusal) → is_answer a ≡ false → is_done a ≡ false
+not_done (Ok Done) e = absurd (false≢true (sym e))
+not_done (Ok (Appended n)) e = refl
+not_done (Ok NoneDue) e = refl
+not_done (Ok Same) e = refl
+not_done (Ok Different) e = refl
+not_done (Err r) e = refl
 
 module _ (w : Writer) where
-  refused-by : (m f d : Bool) (n : ℕ) (v : Writer) → let s = pick m (pick f (pick d (record { answer = Appended 0; writer = w }) (record { answer = Appended n; writer = v })) (stays w Full)) (stays w Turn) in is_answer s.answer ≡ false → s.writer.tail ≡ w.tail
+  refused-by : (m f d : Bool) (n : ℕ) (v : Writer) → let s = pick m (pick f (pick d (record { answer = Ok (Appended 0); writer = w }) (record { answer = Ok (Appended n); writer = v })) (stays w Full)) (stays w Turn) in is_answer s.answer ≡ false → s.writer.tail ≡ w.tail
   refused-by true true true n v e = refl
   refused-by true true false n v e = absurd (false≢true (sym e))
   refused-by true false d n v e = refl
@@ -45,10 +46,10 @@ module _ (w : Writer) where
       refused-by (may_append w) (leb (position w.contents + length xs) capacity) (is_due w.contents) n (with_bytes w (take n xs)) e
 
 -- a row's numbers are the same for a bank's row
-pub as_row : (x : ReadAnswer) → as_bank_row (of_read x) ≡ of_bank_row x
-as_row (Stored next size) = refl
-as_row End = refl
-as_row (NoRow r) = refl
+pub as_row : (x : Result (Option Stored) Refusal) → as_bank_row (of_read x) ≡ of_bank_row x
+as_row (Ok (Some s)) = refl
+as_row (Ok None) = refl
+as_row (Err r) = refl
 
 -- the next operation: refused out of range, else by the stage
 pub out_of_range : (w : Writer) → in_range w ≡ false → operation_of w ≡ no_operation (number_of Turn)

@@ -1,31 +1,16 @@
 -- Each answer as numbers for C. Refusal 0 means none; on a refusal the other numbers are 0, but freshness has unknown times, and a turn
 -- the state after it.
-use Rattle.std.specs.Prelude.{List, ℕ, leb, pos, length}
+use Rattle.std.specs.Prelude.{List, ℕ, leb, pos, length, Ok, Err, Some, None, Result, Option, true, false, Bool}
 use Rattle.base.specs.Number.{pick}
 use Rattle.leaf.specs.Bytes.{written}
 use Rattle.refusal.specs.declared.Refusal.TheVariants.{Small}
 use Rattle.refusal.specs.Refusal.{number_of}
-use Rattle.key.specs.declared.KeyAnswer.{KeyAnswer}
-use Rattle.key.specs.declared.KeyAnswer.TheVariants.{Written, Refused as NoKey}
-use Rattle.key.specs.declared.SameKey.{SameKey}
-use Rattle.key.specs.declared.SameKey.TheVariants.{Same, Other, Refused as NoMatch}
 use Rattle.record.specs.Record.{source_bytes, record_size}
 use Rattle.header.specs.declared.Bank.{Bank}
-use Rattle.header.specs.declared.Validated.{Validated}
-use Rattle.header.specs.declared.Validated.TheVariants.{Good, Refused as Bad}
-use Rattle.bank.specs.declared.Loaded.{Loaded}
-use Rattle.bank.specs.declared.Loaded.TheVariants.{Found, Nothing, Refused as NotRead}
-use Rattle.bank.specs.declared.turns.Progress.{Progress}
-use Rattle.bank.specs.declared.turns.Progress.TheVariants.{Hashed, Yes, Refused as NoTurn}
+use Rattle.bank.specs.declared.turns.Progress.TheVariants.{Hashed, Yes}
 use Rattle.bank.specs.declared.turns.Turn.{Turn}
 use Rattle.snapshot.specs.declared.source.SourceAnswer.{SourceAnswer}
-use Rattle.snapshot.specs.declared.Outcome.{Outcome}
-use Rattle.snapshot.specs.declared.Outcome.TheVariants.{Done, Refused as NoSource}
-use Rattle.snapshot.specs.declared.freshness.FreshAnswer.{FreshAnswer}
-use Rattle.snapshot.specs.declared.freshness.FreshAnswer.TheVariants.{Fresh, Refused as NotFresh}
 use Rattle.snapshot.specs.Freshness.{unknown}
-use Rattle.rowread.specs.declared.ReadAnswer.{ReadAnswer}
-use Rattle.rowread.specs.declared.ReadAnswer.TheVariants.{Stored, End, Refused as NoRow}
 use Rattle.bankcore.specs.declared.bank_calls.BankNumbers.{BankNumbers}
 use Rattle.bankcore.specs.declared.bank_calls.BankRowNumbers.{BankRowNumbers}
 use Rattle.bankcore.specs.declared.row_calls.ReadNumbers.{ReadNumbers}
@@ -33,6 +18,10 @@ use Rattle.bankcore.specs.declared.bank_calls.FreshNumbers.{FreshNumbers}
 use Rattle.bankcore.specs.declared.bank_calls.KeyNumbers.{KeyNumbers}
 use Rattle.bankcore.specs.declared.bank_calls.MatchNumbers.{MatchNumbers}
 use Rattle.bankcore.specs.declared.bank_calls.TurnNumbers.{TurnNumbers}
+use Rattle.refusal.specs.declared.Refusal.{Refusal}
+use Rattle.snapshot.specs.declared.freshness.Freshness.{Freshness}
+use Rattle.rowread.specs.declared.Stored.{Stored}
+use Rattle.bank.specs.declared.turns.Progress.{Progress}
 
 abbrev pub of_bank : Bank → BankNumbers
 of_bank b =
@@ -52,43 +41,43 @@ of_bank b =
 abbrev pub no_bank : ℕ → BankNumbers
 no_bank r = record { refusal = r; found = 0; number = 0; version = 0; generation = 0; length = 0; crc = 0; count = 0; key = 0; checked = pos 0 }
 
-abbrev pub of_validated : Validated → BankNumbers
-of_validated (Good b) = of_bank b
-of_validated (Bad r) = no_bank (number_of r)
+abbrev pub of_validated : Result Bank Refusal → BankNumbers
+of_validated (Ok b) = of_bank b
+of_validated (Err r) = no_bank (number_of r)
 
-abbrev pub of_loaded : Loaded → BankNumbers
-of_loaded (Found b) = of_bank b
-of_loaded Nothing = no_bank 0
-of_loaded (NotRead r) = no_bank (number_of r)
+abbrev pub of_loaded : Result (Option Bank) Refusal → BankNumbers
+of_loaded (Ok (Some b)) = of_bank b
+of_loaded (Ok None) = no_bank 0
+of_loaded (Err r) = no_bank (number_of r)
 
-abbrev pub of_fresh : FreshAnswer → FreshNumbers
-of_fresh (Fresh f) = record { refusal = 0; checked = f.checked; updated = f.updated }
-of_fresh (NotFresh r) = record { refusal = number_of r; checked = unknown; updated = unknown }
+abbrev pub of_fresh : Result Freshness Refusal → FreshNumbers
+of_fresh (Ok f) = record { refusal = 0; checked = f.checked; updated = f.updated }
+of_fresh (Err r) = record { refusal = number_of r; checked = unknown; updated = unknown }
 
-abbrev pub of_key : KeyAnswer → KeyNumbers
-of_key (Written n) = record { refusal = 0; length = n }
-of_key (NoKey r) = record { refusal = number_of r; length = 0 }
+abbrev pub of_key : Result ℕ Refusal → KeyNumbers
+of_key (Ok n) = record { refusal = 0; length = n }
+of_key (Err r) = record { refusal = number_of r; length = 0 }
 
-abbrev pub of_match : SameKey → MatchNumbers
-of_match Same = record { refusal = 0; same = 1 }
-of_match Other = record { refusal = 0; same = 0 }
-of_match (NoMatch r) = record { refusal = number_of r; same = 0 }
+abbrev pub of_match : Result Bool Refusal → MatchNumbers
+of_match (Ok true) = record { refusal = 0; same = 1 }
+of_match (Ok false) = record { refusal = 0; same = 0 }
+of_match (Err r) = record { refusal = number_of r; same = 0 }
 
 -- a turn's progress: refusal, verdict, count
-abbrev pub refusal_in : Progress → ℕ
-refusal_in (Hashed n) = 0
-refusal_in Yes = 0
-refusal_in (NoTurn r) = number_of r
+abbrev pub refusal_in : Result Progress Refusal → ℕ
+refusal_in (Ok (Hashed n)) = 0
+refusal_in (Ok Yes) = 0
+refusal_in (Err r) = number_of r
 
-abbrev pub verdict_in : Progress → ℕ
-verdict_in (Hashed n) = 0
-verdict_in Yes = 1
-verdict_in (NoTurn r) = 0
+abbrev pub verdict_in : Result Progress Refusal → ℕ
+verdict_in (Ok (Hashed n)) = 0
+verdict_in (Ok Yes) = 1
+verdict_in (Err r) = 0
 
-abbrev pub count_in : Progress → ℕ
-count_in (Hashed n) = n
-count_in Yes = 0
-count_in (NoTurn r) = 0
+abbrev pub count_in : Result Progress Refusal → ℕ
+count_in (Ok (Hashed n)) = n
+count_in (Ok Yes) = 0
+count_in (Err r) = 0
 
 abbrev pub of_turn : Turn → TurnNumbers
 of_turn t =
@@ -102,22 +91,22 @@ of_turn t =
     }
 
 -- a source is given as its record of version 3 in a lent output; 9 if that is shorter
-abbrev pub refusal_of : ℕ → Outcome → ℕ
-refusal_of capacity Done = pick (leb record_size capacity) 0 (number_of Small)
-refusal_of capacity (NoSource r) = number_of r
+abbrev pub refusal_of : ℕ → Result Unit Refusal → ℕ
+refusal_of capacity (Ok tt) = pick (leb record_size capacity) 0 (number_of Small)
+refusal_of capacity (Err r) = number_of r
 
-abbrev pub output_of : List ℕ → SourceAnswer → Outcome → List ℕ
-output_of out a Done = written out 0 (source_bytes a.source)
-output_of out a (NoSource r) = out
+abbrev pub output_of : List ℕ → SourceAnswer → Result Unit Refusal → List ℕ
+output_of out a (Ok tt) = written out 0 (source_bytes a.source)
+output_of out a (Err r) = out
 
 -- a row of a bank: found is 1 if one was read; at the table's end all are 0
 abbrev pub no_bank_row : ℕ → BankRowNumbers
 no_bank_row r = record { refusal = r; found = 0; next = 0; size = 0 }
 
-abbrev pub of_bank_row : ReadAnswer → BankRowNumbers
-of_bank_row (Stored next size) = record { refusal = 0; found = 1; next = next; size = size }
-of_bank_row End = no_bank_row 0
-of_bank_row (NoRow r) = no_bank_row (number_of r)
+abbrev pub of_bank_row : Result (Option Stored) Refusal → BankRowNumbers
+of_bank_row (Ok (Some s)) = record { refusal = 0; found = 1; next = s.next; size = s.size }
+of_bank_row (Ok None) = no_bank_row 0
+of_bank_row (Err r) = no_bank_row (number_of r)
 
 -- the same numbers as those of a row that is read
 abbrev pub as_bank_row : ReadNumbers → BankRowNumbers

@@ -1,5 +1,5 @@
 -- What is proved of the next operation beyond its call's promise (proofs/Told.antt).
-use Rattle.std.specs.Prelude.{Bool, List, [], ◌∷◌, ◌≡◌, ℕ, length}
+use Rattle.std.specs.Prelude.{Bool, List, [], ◌∷◌, ◌≡◌, ℕ, length, Option, ℤ}
 use Rattle.region.specs.Region.{sector_size}
 use Rattle.record.specs.Types.{All}
 use Rattle.header.specs.Types.{Proper}
@@ -7,7 +7,6 @@ use Rattle.flash.specs.Flash.{Op, erase, write, offset, size}
 use Rattle.writer.specs.declared.Writer.{Writer}
 use Rattle.writer.specs.State.{target, tail_size}
 use Rattle.due.specs.Due.{due_ops}
-use Rattle.commit.specs.declared.Stamp.{Stamp}
 use Rattle.commit.specs.Commit.{commit_ops, word_ops, records_for}
 use Rattle.bankcore.specs.declared.lower_calls.OperationNumbers.{OperationNumbers}
 use Rattle.bankcore.specs.Operation.{operation, operation_erase, operation_write, operation_header, operation_commit_word, operation_of}
@@ -28,7 +27,7 @@ DueIsTold =
 -- so is the header that the first commit call writes, from records that have their types
 abbrev pub HeaderIsTold : Type 0
 HeaderIsTold =
-    (region : List ℕ) (w : Writer) (stamp : Stamp) (current : Bool) (op : Op)
+    (region : List ℕ) (w : Writer) (stamp : Option ℤ) (current : Bool) (op : Op)
     → All Proper (records_for w)
     → commit_ops region w stamp current ≡ op ∷ []
     → operation_of w ≡ operation operation_header (target w.beginning.active) (offset op) (size op)

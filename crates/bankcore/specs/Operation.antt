@@ -1,14 +1,12 @@
 -- The operation that comes next in an update, as numbers for C: what the due call does, else what a commit writes. Refusal 0 means none; on a
 -- refusal the other numbers are 0.
-use Rattle.std.specs.Prelude.{not, ◌&&◌, ℕ, ◌+◌, ◌*◌, ◌-◌, ◌%◌}
+use Rattle.std.specs.Prelude.{not, ◌&&◌, ℕ, ◌+◌, ◌*◌, ◌-◌, ◌%◌, Ok, Err, Some, None, Result, Option}
 use Rattle.base.specs.Number.{pick}
 use Rattle.leaf.specs.Bytes.{word_size}
 use Rattle.refusal.specs.declared.Refusal.TheVariants.{Turn}
 use Rattle.refusal.specs.Refusal.{number_of}
 use Rattle.region.specs.Region.{sector_size, write_unit}
 use Rattle.header.specs.Header.{commit_offset, header_size}
-use Rattle.bank.specs.declared.Loaded.{Loaded}
-use Rattle.bank.specs.declared.Loaded.TheVariants.{Found, Nothing, Refused as NotRead}
 use Rattle.writer.specs.declared.Beginning.{Beginning}
 use Rattle.writer.specs.declared.Contents.{Contents}
 use Rattle.writer.specs.declared.Operation.{Operation}
@@ -18,6 +16,8 @@ use Rattle.writer.specs.declared.Stage.TheVariants.{Idle, Due, HeaderWritten, Co
 use Rattle.writer.specs.declared.Writer.{Writer}
 use Rattle.writer.specs.State.{target, in_range}
 use Rattle.bankcore.specs.declared.lower_calls.OperationNumbers.{OperationNumbers}
+use Rattle.refusal.specs.declared.Refusal.{Refusal}
+use Rattle.header.specs.declared.Bank.{Bank}
 
 -- the numbers of operations
 abbrev pub operation_none : ℕ
@@ -46,17 +46,17 @@ abbrev pub operation : ℕ → ℕ → ℕ → ℕ → OperationNumbers
 operation kind bank offset length = record { refusal = 0; kind = kind; bank = bank; offset = offset; length = length }
 
 -- the bank that is compared with; 0 with no active bank
-unfoldable pub compared : Loaded → ℕ
-compared (Found b) = b.number
-compared Nothing = 0
-compared (NotRead r) = 0
+unfoldable pub compared : Result (Option Bank) Refusal → ℕ
+compared (Ok (Some b)) = b.number
+compared (Ok None) = 0
+compared (Err r) = 0
 
 -- "The last write is padded with 255 to a multiple of 4."
 abbrev pub padded_length : ℕ → ℕ
 padded_length n = n + (write_unit - n % write_unit) % write_unit
 
 -- what the due call does: an erase and a write change the bank that isn't active, a comparison reads the active one
-unfoldable pub due_operation : Loaded → Operation → OperationNumbers
+unfoldable pub due_operation : Result (Option Bank) Refusal → Operation → OperationNumbers
 due_operation l (Erase k) = operation operation_erase (target l) (k * sector_size) sector_size
 due_operation l (Write a n) = operation operation_write (target l) (sector_size + a) (padded_length n)
 due_operation l (Compare a n) = operation operation_compare (compared l) (sector_size + a) n
@@ -66,7 +66,7 @@ unfoldable pub idle_operation : Beginning → Contents → OperationNumbers
 idle_operation b t = pick (t.closed && not b.comparing) (operation operation_header (target b.active) 0 header_size) (no_operation 0)
 
 -- the second commit call's
-abbrev pub word_operation : Loaded → OperationNumbers
+abbrev pub word_operation : Result (Option Bank) Refusal → OperationNumbers
 word_operation l = operation operation_commit_word (target l) commit_offset word_size
 
 unfoldable pub next_operation : Beginning → Contents → Stage → OperationNumbers

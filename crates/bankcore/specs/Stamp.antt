@@ -1,8 +1,6 @@
 -- The host's stamp as C passes it: a flag, and a time that counts only if the flag is set.
-use Rattle.std.specs.Prelude.{Bool, true, false, ℤ}
-use Rattle.commit.specs.declared.Stamp.{Stamp}
-use Rattle.commit.specs.declared.Stamp.TheVariants.{Given, Missing}
+use Rattle.std.specs.Prelude.{Bool, true, false, ℤ, Some, None, Option}
 
-abbrev pub stamp_of : Bool → ℤ → Stamp
-stamp_of true s = Given s
-stamp_of false s = Missing
+abbrev pub stamp_of : Bool → ℤ → Option ℤ
+stamp_of true s = Some s
+stamp_of false s = None

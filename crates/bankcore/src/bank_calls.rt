@@ -6,9 +6,9 @@ ghost use Rattle.key.specs.Picks as Picks;
 ghost use Rattle.bank.specs.Bank as Banks;
 ghost use Rattle.bank.specs.Turns as Turns;
 ghost use Rattle.snapshot.specs.Source as Sources;
-ghost use Rattle.snapshot.specs.Freshness as Freshness;
+ghost use Rattle.snapshot.specs.Freshness as Fresh;
 ghost use Rattle.snapshot.specs.KeyMatch as Matches;
-ghost use Rattle.rowread.specs.Stored as Stored;
+ghost use Rattle.rowread.specs.Stored as StoredRows;
 ghost use Rattle.snapshot.specs.Rows as Rows;
 ghost use Rattle.bankcore.specs.BankAnswers as Answers;
 ghost use Rattle.record.specs.Record.{record_size};
@@ -16,16 +16,13 @@ ghost use Rattle.refusal.specs.Refusal.{number_of};
 ghost use Rattle.refusal.specs.declared.Refusal.TheVariants.{Small};
 
 use crate::row_calls::{ReadNumbers, tt_read_row};
-use bank::Loaded;
 use bank::turns::{Checking, Progress, Turn};
-use header::{Bank, Validated};
-use key::{KeyAnswer, SameKey};
+use header::Bank;
 use record::RECORD_SIZE;
 use refusal::{Refusal, number_u32};
 use row::column_count;
-use snapshot::Outcome;
-use snapshot::freshness::{Day, Days, FreshAnswer};
-use snapshot::rows::{BlockAnswer, bytes_of, table_block};
+use snapshot::freshness::{Day, Days, Freshness};
+use snapshot::rows::{bytes_of, table_block};
 
 // A bank, if found is 1: its number, format version and generation, the data's length and CRC, how many sources it has, the key's length,
 // and when it was checked.
@@ -126,35 +123,35 @@ fn of_bank(b: Bank) -> BankNumbers
     }
 }
 
-fn of_validated(v: Validated) -> BankNumbers
+fn of_validated(v: Result<Bank, Refusal>) -> BankNumbers
     ensures { result ≡ Answers.of_validated v }
 {
     match v {
-        Validated::Good(b) => of_bank(b),
-        Validated::Refused(r) => no_bank(number_u32(r)),
+        Ok(b) => of_bank(b),
+        Err(r) => no_bank(number_u32(r)),
     }
 }
 
-fn of_loaded(l: Loaded) -> BankNumbers
+fn of_loaded(l: Result<Option<Bank>, Refusal>) -> BankNumbers
     ensures { result ≡ Answers.of_loaded l }
 {
     match l {
-        Loaded::Found(b) => of_bank(b),
-        Loaded::Nothing => no_bank(0),
-        Loaded::Refused(r) => no_bank(number_u32(r)),
+        Ok(Some(b)) => of_bank(b),
+        Ok(None) => no_bank(0),
+        Err(r) => no_bank(number_u32(r)),
     }
 }
 
-fn of_fresh(f: FreshAnswer) -> FreshNumbers
+fn of_fresh(f: Result<Freshness, Refusal>) -> FreshNumbers
     ensures { result ≡ Answers.of_fresh f }
 {
     match f {
-        FreshAnswer::Fresh(f) => FreshNumbers {
+        Ok(f) => FreshNumbers {
             refusal: 0,
             checked: f.checked,
             updated: f.updated,
         },
-        FreshAnswer::Refused(r) => FreshNumbers {
+        Err(r) => FreshNumbers {
             refusal: number_u32(r),
             checked: i64::MIN,
             updated: i64::MIN,
@@ -162,34 +159,34 @@ fn of_fresh(f: FreshAnswer) -> FreshNumbers
     }
 }
 
-fn of_key(k: KeyAnswer) -> KeyNumbers
+fn of_key(k: Result<usize, Refusal>) -> KeyNumbers
     ensures { result ≡ Answers.of_key k }
 {
     match k {
-        KeyAnswer::Written(n) => KeyNumbers {
+        Ok(n) => KeyNumbers {
             refusal: 0,
             length: n,
         },
-        KeyAnswer::Refused(r) => KeyNumbers {
+        Err(r) => KeyNumbers {
             refusal: number_u32(r),
             length: 0,
         },
     }
 }
 
-fn of_match(m: SameKey) -> MatchNumbers
+fn of_match(m: Result<bool, Refusal>) -> MatchNumbers
     ensures { result ≡ Answers.of_match m }
 {
     match m {
-        SameKey::Same => MatchNumbers {
+        Ok(true) => MatchNumbers {
             refusal: 0,
             same: 1,
         },
-        SameKey::Other => MatchNumbers {
+        Ok(false) => MatchNumbers {
             refusal: 0,
             same: 0,
         },
-        SameKey::Refused(r) => MatchNumbers {
+        Err(r) => MatchNumbers {
             refusal: number_u32(r),
             same: 0,
         },
@@ -214,9 +211,9 @@ fn of_turn(t: Turn) -> TurnNumbers
 {
     let p = t.progress;
     match p {
-        Progress::Hashed(n) => turn_of(t.next, 0, 0, n),
-        Progress::Yes => turn_of(t.next, 0, 1, 0),
-        Progress::Refused(r) => turn_of(t.next, number_u32(r), 0, 0),
+        Ok(Progress::Hashed(n)) => turn_of(t.next, 0, 0, n),
+        Ok(Progress::Yes) => turn_of(t.next, 0, 1, 0),
+        Err(r) => turn_of(t.next, number_u32(r), 0, 0),
     }
 }
 
@@ -385,7 +382,7 @@ pub extern "C" fn tt_fresh(
     wanted2: bool,
     at: i64,
 ) -> FreshNumbers
-    ensures { result ≡ Answers.of_fresh (Freshness.fresh_answer region.now bank (record { first = record { date = day0; wanted = wanted0 }; second = record { date = day1; wanted = wanted1 }; third = record { date = day2; wanted = wanted2 } }) at) }
+    ensures { result ≡ Answers.of_fresh (Fresh.fresh_answer region.now bank (record { first = record { date = day0; wanted = wanted0 }; second = record { date = day1; wanted = wanted1 }; third = record { date = day2; wanted = wanted2 } }) at) }
 {
     let days = Days {
         first: day(day0, wanted0),
@@ -419,11 +416,11 @@ pub extern "C" fn tt_source(region: &[u8], bank: u32, index: u32, out: &mut [u8]
     let a = snapshot::source::source(region, bank, index);
     let o = a.outcome;
     match o {
-        Outcome::Done => {
+        Ok(()) => {
             record::encode(a.source, out, 0);
             small
         }
-        Outcome::Refused(r) => number_u32(r),
+        Err(r) => number_u32(r),
     }
 }
 
@@ -449,17 +446,17 @@ pub extern "C" fn tt_bank_row(
     ends: &mut [usize],
 ) -> BankRowNumbers
     ensures value { result ≡ Answers.of_bank_row (Rows.bank_row_answer region.now bank source table place (length out.old) (length ends.old)) }
-    ensures out_after { out.new ≡ Stored.after (Rows.bank_row_answer region.now bank source table place (length out.old) (length ends.old)) (Stored.joined (Rows.values_in region.now bank source table place)) out.old }
-    ensures ends_after { ends.new ≡ Stored.after (Rows.bank_row_answer region.now bank source table place (length out.old) (length ends.old)) (Stored.ends_of 0 (Rows.values_in region.now bank source table place)) ends.old }
+    ensures out_after { out.new ≡ StoredRows.after (Rows.bank_row_answer region.now bank source table place (length out.old) (length ends.old)) (StoredRows.joined (Rows.values_in region.now bank source table place)) out.old }
+    ensures ends_after { ends.new ≡ StoredRows.after (Rows.bank_row_answer region.now bank source table place (length out.old) (length ends.old)) (StoredRows.ends_of 0 (Rows.values_in region.now bank source table place)) ends.old }
 {
     let a = table_block(region, bank, source, table);
     match a {
-        BlockAnswer::Found(b) => {
+        Ok(b) => {
             let stored = bytes_of(region, bank, b);
             let width = column_count(table);
             // called here, and not `read_row`, so that the reader has one caller and is inlined there
             of_bank_row(tt_read_row(stored, width, place, out, ends))
         }
-        BlockAnswer::Refused(r) => no_bank_row(number_u32(r)),
+        Err(r) => no_bank_row(number_u32(r)),
     }
 }

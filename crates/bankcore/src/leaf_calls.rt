@@ -8,7 +8,7 @@ ghost use Rattle.base.specs.Number.{rotation, rotate_left32};
 ghost use Rattle.bankcore.specs.LeafAnswers.{date_or_zero, put_refusal};
 
 use leaf::bytes::{TIME_SIZE, WORD_SIZE};
-use leaf::date::{Date, NewDate};
+use leaf::date::Date;
 use refusal::{Refusal, number_u32};
 
 // The 32-bit number at an offset, little-endian. A byte past the end reads 0.
@@ -111,8 +111,8 @@ pub extern "C" fn tt_date_new(year: u16, month: u8, day: u8) -> u32
     ensures { result ≡ date_or_zero year month day }
 {
     match Date::new(year, month, day) {
-        NewDate::Made(d) => d.0,
-        NewDate::InvalidDate => 0,
+        Some(d) => d.0,
+        None => 0,
     }
 }
 

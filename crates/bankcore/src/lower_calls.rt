@@ -11,10 +11,9 @@ ghost use Rattle.bankcore.specs.Stamp.{stamp_of};
 ghost use Rattle.bankcore.specs.Operation as Operations;
 ghost use Rattle.bankcore.specs.Claims.{Claims};
 
-use bank::Loaded;
-use commit::Stamp;
 use cstate::{State, UpdateStep, after, after_parts, beginning_of, parts_of, writer_of};
 use due::due_parts;
+use header::Bank;
 use header::{COMMIT_OFFSET, HEADER_SIZE};
 use leaf::bytes::WORD_SIZE;
 use lower::append::append_parts;
@@ -186,13 +185,14 @@ fn no_operation(refusal: u32) -> OperationNumbers
 }
 
 // The bank that is compared with; 0 with no active bank.
-fn compared(l: Loaded) -> u32
+#[tactic(auto, unfolding(crate::specs::Operation::compared))]
+fn compared(l: Result<Option<Bank>, Refusal>) -> u32
     ensures { result ≡ Operations.compared l }
 {
     match l {
-        Loaded::Found(b) => b.number,
-        Loaded::Nothing => 0,
-        Loaded::Refused(_) => 0,
+        Ok(Some(b)) => b.number,
+        Ok(None) => 0,
+        Err(_) => 0,
     }
 }
 
@@ -204,7 +204,7 @@ fn padded_length(n: u32) -> usize
     m + (WRITE_UNIT - m % WRITE_UNIT) % WRITE_UNIT
 }
 
-fn due_operation(l: Loaded, o: Operation) -> OperationNumbers
+fn due_operation(l: Result<Option<Bank>, Refusal>, o: Operation) -> OperationNumbers
     ensures { result ≡ Operations.due_operation l o }
 {
     match o {
@@ -249,7 +249,7 @@ fn idle_operation(b: Beginning, t: Contents) -> OperationNumbers
     no_operation(0)
 }
 
-fn word_operation(l: Loaded) -> OperationNumbers
+fn word_operation(l: Result<Option<Bank>, Refusal>) -> OperationNumbers
     ensures { result ≡ Operations.word_operation l }
 {
     OperationNumbers {
@@ -304,13 +304,13 @@ pub extern "C" fn tt_update_unchanged(region: &[u8], state: State) -> UpdateStep
     after(s, state)
 }
 
-fn stamp_of(stamped: bool, stamp: i64) -> Stamp
+fn stamp_of(stamped: bool, stamp: i64) -> Option<i64>
     ensures { result ≡ stamp_of stamped stamp }
 {
     if stamped {
-        return Stamp::Given(stamp);
+        return Some(stamp);
     }
-    Stamp::Missing
+    None
 }
 
 // The first write of a commit: the header, with 255 in the commit word.

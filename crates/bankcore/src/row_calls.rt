@@ -3,15 +3,13 @@ ghost use Rattle.std.specs.Prelude.{◌≡◌, length};
 ghost use Rattle.rfc4180.specs.Write.{row_of};
 ghost use Rattle.row.specs.Columns.{names_line};
 ghost use Rattle.row.specs.Write as Rows;
-ghost use Rattle.rowread.specs.Stored as Stored;
+ghost use Rattle.rowread.specs.Stored as StoredRows;
 ghost use Rattle.bloom.specs.Bloom as Bloom;
 ghost use Rattle.bankcore.specs.RowAnswers as Answers;
 
 use base::table::LAST_TABLE;
-use bloom::Filter;
 use refusal::{Refusal, number_u32};
-use row::RowAnswer;
-use rowread::ReadAnswer;
+use rowread::Stored;
 
 // A written line's length, with its LF.
 #[repr(C)]
@@ -47,15 +45,15 @@ pub struct FilterNumbers {
     pub present: u32,
 }
 
-fn of_row(a: RowAnswer) -> RowNumbers
+fn of_row(a: Result<usize, Refusal>) -> RowNumbers
     ensures { result ≡ Answers.of_row a }
 {
     match a {
-        RowAnswer::Written(n) => RowNumbers {
+        Ok(n) => RowNumbers {
             refusal: 0,
             length: n,
         },
-        RowAnswer::Refused(r) => RowNumbers {
+        Err(r) => RowNumbers {
             refusal: number_u32(r),
             length: 0,
         },
@@ -73,34 +71,34 @@ fn no_row(r: u32) -> ReadNumbers
     }
 }
 
-fn of_read(a: ReadAnswer) -> ReadNumbers
+fn of_read(a: Result<Option<Stored>, Refusal>) -> ReadNumbers
     ensures { result ≡ Answers.of_read a }
 {
     match a {
-        ReadAnswer::Stored { next, size } => ReadNumbers {
+        Ok(Some(Stored { next, size })) => ReadNumbers {
             refusal: 0,
             found: 1,
             next,
             size,
         },
-        ReadAnswer::End => no_row(0),
-        ReadAnswer::Refused(r) => no_row(number_u32(r)),
+        Ok(None) => no_row(0),
+        Err(r) => no_row(number_u32(r)),
     }
 }
 
-fn of_filter(a: Filter) -> FilterNumbers
+fn of_filter(a: Result<bool, Refusal>) -> FilterNumbers
     ensures { result ≡ Answers.of_filter a }
 {
     match a {
-        Filter::Present => FilterNumbers {
+        Ok(true) => FilterNumbers {
             refusal: 0,
             present: 1,
         },
-        Filter::Absent => FilterNumbers {
+        Ok(false) => FilterNumbers {
             refusal: 0,
             present: 0,
         },
-        Filter::Refused(r) => FilterNumbers {
+        Err(r) => FilterNumbers {
             refusal: number_u32(r),
             present: 0,
         },
@@ -168,9 +166,9 @@ pub extern "C" fn tt_read_row(
     out: &mut [u8],
     ends: &mut [usize],
 ) -> ReadNumbers
-    ensures value { result ≡ Answers.of_read (Stored.read_answer table.now width place (length out.old) (length ends.old)) }
-    ensures out_after { out.new ≡ Stored.after (Stored.read_answer table.now width place (length out.old) (length ends.old)) (Stored.joined (Stored.values_at table.now width place)) out.old }
-    ensures ends_after { ends.new ≡ Stored.after (Stored.read_answer table.now width place (length out.old) (length ends.old)) (Stored.ends_of 0 (Stored.values_at table.now width place)) ends.old }
+    ensures value { result ≡ Answers.of_read (StoredRows.read_answer table.now width place (length out.old) (length ends.old)) }
+    ensures out_after { out.new ≡ StoredRows.after (StoredRows.read_answer table.now width place (length out.old) (length ends.old)) (StoredRows.joined (StoredRows.values_at table.now width place)) out.old }
+    ensures ends_after { ends.new ≡ StoredRows.after (StoredRows.read_answer table.now width place (length out.old) (length ends.old)) (StoredRows.ends_of 0 (StoredRows.values_at table.now width place)) ends.old }
 {
     of_read(rowread::read_row(table, width, place, out, ends))
 }

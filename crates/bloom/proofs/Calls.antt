@@ -1,11 +1,10 @@
 -- What the code's calls return, from the results of the four single reads or sets, and from the test of the filter's size.
-use Rattle.std.proofs.Common.{◌≡◌, ℕ, Bool, true, false, ◌&&◌, List, [], ◌∷◌, length}
+use Rattle.std.proofs.Common.{◌≡◌, ℕ, Bool, true, false, ◌&&◌, List, [], ◌∷◌, length, Err, Result}
 use mathlib.Core.Bool.{and-true}
 use Rattle.refusal.specs.declared.Refusal.TheVariants.{Argument}
 use Rattle.leaf.specs.Crc.{crc32}
-use Rattle.bloom.specs.declared.Filter.{Filter}
-use Rattle.bloom.specs.declared.Filter.TheVariants.{Refused}
 use Rattle.bloom.specs.Bloom.{positions, is_set, set_bit, all_set, seen, set_all, fits, answer, query, insert_answer, inserted}
+use Rattle.refusal.specs.declared.Refusal.{Refusal}
 
 -- four reads
 pub looked : (l : List ℕ) (a b c d : ℕ) (ra rb rc rd : Bool) → ra ≡ is_set l a → rb ≡ is_set l b → rc ≡ is_set l c → rd ≡ is_set l d
@@ -27,11 +26,11 @@ module _ (l l1 l2 l3 l4 : List ℕ) (a b c d : ℕ) (s1 : l1 ≡ set_bit l a) (s
 module _ (bits id : List ℕ) where
   -- a filter of another size is refused and stays
   module _ (e : fits (length bits) ≡ false) where
-    pub query-refused : Refused Argument ≡ query bits id
+    pub query-refused : Err Argument ≡ query bits id
     unfolding query
     query-refused = rw e
 
-    pub insert-refused : Refused Argument ≡ insert_answer bits id
+    pub insert-refused : Err Argument ≡ insert_answer bits id
     unfolding insert_answer
     insert-refused = rw e
 
@@ -40,11 +39,11 @@ module _ (bits id : List ℕ) where
     insert-kept = rw e
 
   module _ (e : fits (length bits) ≡ true) (hash : ℕ) (h : hash ≡ crc32 0 id) (ps : List ℕ) (places : ps ≡ positions hash (length bits)) where
-    pub query-is : (s : Bool) (r : Filter) → s ≡ all_set bits ps → r ≡ answer s → r ≡ query bits id
+    pub query-is : (s : Bool) (r : Result Bool Refusal) → s ≡ all_set bits ps → r ≡ answer s → r ≡ query bits id
     unfolding query
     query-is s r es er = rw (e, er, es, places, h)
 
-    pub insert-is : (s : Bool) (r : Filter) → s ≡ seen bits ps → r ≡ answer s → r ≡ insert_answer bits id
+    pub insert-is : (s : Bool) (r : Result Bool Refusal) → s ≡ seen bits ps → r ≡ answer s → r ≡ insert_answer bits id
     unfolding insert_answer
     insert-is s r es er = rw (e, er, es, places, h)
 

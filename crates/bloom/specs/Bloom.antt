@@ -1,11 +1,10 @@
 -- The trip filter: 01, "cache.rs, bloom". The filter is a list of bytes.
-use Rattle.std.specs.Prelude.{ℕ, ◌+◌, ◌*◌, ◌/◌, ◌%◌, ◌^◌, Bool, true, false, ◌&&◌, List, [], ◌∷◌, length, ◌==◌, bit_or, nat_le, slice_set}
+use Rattle.std.specs.Prelude.{ℕ, ◌+◌, ◌*◌, ◌/◌, ◌%◌, ◌^◌, Bool, true, false, ◌&&◌, List, [], ◌∷◌, length, ◌==◌, bit_or, nat_le, slice_set, Ok, Err, Result}
 use Rattle.base.specs.Number.{pick, byte_bits, rotation, wrap32, rotate_left32}
 use Rattle.base.specs.Lists.{byte}
 use Rattle.leaf.specs.Crc.{crc32}
 use Rattle.refusal.specs.declared.Refusal.TheVariants.{Argument}
-use Rattle.bloom.specs.declared.Filter.{Filter}
-use Rattle.bloom.specs.declared.Filter.TheVariants.{Present, Absent, Refused}
+use Rattle.refusal.specs.declared.Refusal.{Refusal}
 
 -- the most bytes of a filter
 abbrev pub max_filter : ℕ
@@ -58,21 +57,21 @@ set_all bits (p ∷ ps) = set_all (set_bit bits p) ps
 abbrev pub fits : ℕ → Bool
 fits bytes = nat_le 1 bytes && nat_le bytes max_filter
 
-abbrev pub answer : Bool → Filter
-answer true = Present
-answer false = Absent
+abbrev pub answer : Bool → Result Bool Refusal
+answer true = Ok true
+answer false = Ok false
 
 -- the four positions of a trip id in a filter
 abbrev pub positions_of : List ℕ → List ℕ → List ℕ
 positions_of bits id = positions (hash_of id) (length bits)
 
 -- what a query answers
-unfoldable pub query : List ℕ → List ℕ → Filter
-query bits id = pick (fits (length bits)) (answer (all_set bits (positions_of bits id))) (Refused Argument)
+unfoldable pub query : List ℕ → List ℕ → Result Bool Refusal
+query bits id = pick (fits (length bits)) (answer (all_set bits (positions_of bits id))) (Err Argument)
 
 -- what an insertion answers, and the filter that it leaves
-unfoldable pub insert_answer : List ℕ → List ℕ → Filter
-insert_answer bits id = pick (fits (length bits)) (answer (seen bits (positions_of bits id))) (Refused Argument)
+unfoldable pub insert_answer : List ℕ → List ℕ → Result Bool Refusal
+insert_answer bits id = pick (fits (length bits)) (answer (seen bits (positions_of bits id))) (Err Argument)
 
 unfoldable pub inserted : List ℕ → List ℕ → List ℕ
 inserted bits id = pick (fits (length bits)) (set_all bits (positions_of bits id)) bits

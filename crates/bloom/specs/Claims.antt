@@ -1,12 +1,11 @@
 -- What is proved of the filter beyond the calls' promises, for every size (proofs/Found.antt; Differ in proofs/Sums.antt).
-use Rattle.std.specs.Prelude.{◌≡◌, ℕ, ◌%◌, ◌<◌, true, List, length, ◌≢◌}
-use Rattle.bloom.specs.declared.Filter.TheVariants.{Present}
+use Rattle.std.specs.Prelude.{◌≡◌, ℕ, ◌%◌, ◌<◌, true, List, length, ◌≢◌, Ok}
 use Rattle.base.specs.Number.{byte_bits}
 use Rattle.bloom.specs.Bloom.{position_count, hash_of, position, is_set, fits, query, insert_answer, inserted}
 
 -- what was inserted is found
 abbrev pub Found : Type 0
-Found = (bits id : List ℕ) → fits (length bits) ≡ true → query (inserted bits id) id ≡ Present
+Found = (bits id : List ℕ) → fits (length bits) ≡ true → query (inserted bits id) id ≡ Ok true
 
 -- insertion clears no bit,
 abbrev pub ClearsNone : Type 0

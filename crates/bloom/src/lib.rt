@@ -15,14 +15,6 @@ use refusal::Refusal;
 // The most bytes of a filter.
 pub const MAX_FILTER: usize = 65536;
 
-// What a query and an insertion answer: whether all four bits were set.
-#[derive(Clone, Copy)]
-pub enum Filter {
-    Present,
-    Absent,
-    Refused(Refusal),
-}
-
 // Four positions, in order.
 #[derive(Clone, Copy)]
 struct Four {
@@ -113,33 +105,33 @@ fn fits(bytes: usize) -> bool
     (1 <= bytes) & (bytes <= MAX_FILTER)
 }
 
-fn answer(present: bool) -> Filter
+fn answer(present: bool) -> Result<bool, Refusal>
     ensures { result ≡ Bloom.answer present }
 {
     if present {
-        Filter::Present
+        Ok(true)
     } else {
-        Filter::Absent
+        Ok(false)
     }
 }
 
 // Whether all four bits of a trip id are set.
-pub fn query(bits: &[u8], id: &[u8]) -> Filter
+pub fn query(bits: &[u8], id: &[u8]) -> Result<bool, Refusal>
     ensures { result ≡ Bloom.query bits.now id.now }
 {
     if !fits(bits.len()) {
-        return Filter::Refused(Refusal::Argument);
+        return Err(Refusal::Argument);
     }
     let p = positions(crc32(0, id), bits.len());
     answer(all_set(bits, p))
 }
 
 // Sets the four bits of a trip id, and answers whether all were set before.
-pub fn insert(bits: &mut [u8], id: &[u8]) -> Filter
+pub fn insert(bits: &mut [u8], id: &[u8]) -> Result<bool, Refusal>
     ensures { (result ≡ Bloom.insert_answer bits.old id.now) × (bits.new ≡ Bloom.inserted bits.old id.now) }
 {
     if !fits(bits.len()) {
-        return Filter::Refused(Refusal::Argument);
+        return Err(Refusal::Argument);
     }
     let p = positions(crc32(0, id), bits.len());
     answer(set_all(bits, p))

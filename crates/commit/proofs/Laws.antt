@@ -18,9 +18,9 @@ use Rattle.writer.specs.declared.Writer.{Writer}
 use Rattle.writer.specs.State.{target, in_range, did, stays}
 use Rattle.due.specs.Due.{with_stage}
 use Rattle.due.proofs.Laws.{target_fits}
-use Rattle.commit.specs.declared.Stamp.{Stamp}
 use Rattle.commit.specs.Commit.{bank_for, records_for, is_header_written, may_commit, is_current, commit_step, commit_ops, commit_region, word_step, word_ops, word_region}
 use Rattle.header.specs.Header.{commit_offset}
+use Rattle.std.specs.Prelude.{Option, ℤ}
 
 and-false : (a : Bool) → (a && false) ≡ false
 and-false true = refl
@@ -55,7 +55,7 @@ module _ (region : List ℕ) (w : Writer) where
 
 -- ---- the bank to be committed
 
-module _ (w : Writer) (stamp : Stamp) (b : Bank) (e : b ≡ bank_for w stamp) where
+module _ (w : Writer) (stamp : Option ℤ) (b : Bank) (e : b ≡ bank_for w stamp) where
   pub number_fits : b.number ≤ 1
   unfolding bank_for
   number_fits = omega (arith, ap (λ (x : Bank). x.number) e, target_fits w.beginning.active)
@@ -72,7 +72,7 @@ module _ (w : Writer) (stamp : Stamp) (b : Bank) (e : b ≡ bank_for w stamp) wh
 
 -- ---- the first call of a commit
 
-module _ (region : List ℕ) (w : Writer) (stamp : Stamp) (current : Bool) where
+module _ (region : List ℕ) (w : Writer) (stamp : Option ℤ) (current : Bool) where
   module _ (e : length region ≡ region_size) where
     module _ (m : may_commit w ≡ true) where
       module _ (c : is_current w current ≡ true) where

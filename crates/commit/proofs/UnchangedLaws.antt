@@ -15,18 +15,20 @@ use Rattle.base.proofs.Lists.{many_more, length-many}
 use Rattle.refusal.specs.declared.Refusal.TheVariants.{Region, Turn}
 use Rattle.region.specs.Region.{region_size}
 use Rattle.writer.specs.declared.Writer.{Writer}
-use Rattle.writer.specs.declared.Answer.{Answer}
 use Rattle.writer.specs.declared.Answer.TheVariants.{Same, Different}
 use Rattle.writer.specs.State.{stays}
 use Rattle.commit.specs.Unchanged.{same_each, is_unchanged, may_ask, unchanged_step}
+use Rattle.std.specs.Prelude.{Ok, Result}
+use Rattle.refusal.specs.declared.Refusal.{Refusal}
+use Rattle.writer.specs.declared.Answer.{Answer}
 
 -- ---- unchanged
 
 module _ (region : List ℕ) (w : Writer) where
-  pub asked : (a : Answer) (same : Bool) → length region ≡ region_size → may_ask w ≡ true → same ≡ is_unchanged region w w.beginning.active → a ≡ pick same Same Different
+  pub asked : (a : Result Answer Refusal) (same : Bool) → length region ≡ region_size → may_ask w ≡ true → same ≡ is_unchanged region w w.beginning.active → a ≡ pick same (Ok Same) (Ok Different)
       → record { answer = a; writer = w } ≡ unchanged_step region w
   unfolding unchanged_step
-  asked a same e m s h = rw (eq-eqb (length region) region_size e, m, ← s) (ap (λ (x : Answer). record { answer = x; writer = w }) h)
+  asked a same e m s h = rw (eq-eqb (length region) region_size e, m, ← s) (ap (λ (x : Result Answer Refusal). record { answer = x; writer = w }) h)
 
   pub asked-turn : length region ≡ region_size → may_ask w ≡ false → stays w Turn ≡ unchanged_step region w
   unfolding unchanged_step

@@ -1,5 +1,5 @@
 -- Commit: two writes, one a call: the whole header with 255 in the commit word, then the word.
-use Rattle.std.specs.Prelude.{Bool, true, false, not, ◌&&◌, List, [], ◌∷◌, ℕ, eqb, ℤ, length, take, get_or}
+use Rattle.std.specs.Prelude.{Bool, true, false, not, ◌&&◌, List, [], ◌∷◌, ℕ, eqb, ℤ, length, take, get_or, Some, None, Option}
 use Rattle.std.specs.Int.Signed.{le_z}
 use Rattle.base.specs.Number.{pick}
 use Rattle.refusal.specs.declared.Refusal.TheVariants.{Region, Turn, Obsolete, Unfit}
@@ -16,21 +16,19 @@ use Rattle.writer.specs.declared.Step.{Step}
 use Rattle.writer.specs.State.{target, next_generation, key_length, in_range, did, stays}
 use Rattle.lower.specs.Lower.{past_end}
 use Rattle.due.specs.Due.{with_stage}
-use Rattle.commit.specs.declared.Stamp.{Stamp}
-use Rattle.commit.specs.declared.Stamp.TheVariants.{Given, Missing}
 use Rattle.header.specs.Header.{commit_offset}
 
 -- "the checked time is the host's stamp if at least now, else now"
-abbrev pub checked_time : Stamp → ℤ → ℤ
-checked_time (Given s) now = pick (le_z now s) s now
-checked_time Missing now = now
+abbrev pub checked_time : Option ℤ → ℤ → ℤ
+checked_time (Some s) now = pick (le_z now s) s now
+checked_time None now = now
 
 -- the offset of the first source's Routes
 abbrev pub routes_offset : List Source → ℕ
 routes_offset ss = (get_or (get_or ss 0 past_end).tables 0 no_block).offset
 
 -- the bank to be committed, and its records
-unfoldable pub bank_for : Writer → Stamp → Bank
+unfoldable pub bank_for : Writer → Option ℤ → Bank
 bank_for w stamp =
     record {
       number = target w.beginning.active;
@@ -65,7 +63,7 @@ may_commit w = in_range w && (w.contents.closed && is_idle w.stage)
 abbrev pub is_current : Writer → Bool → Bool
 is_current w current = not w.beginning.comparing && current
 
-unfoldable pub commit_step : List ℕ → Writer → Stamp → Bool → Step
+unfoldable pub commit_step : List ℕ → Writer → Option ℤ → Bool → Step
 commit_step region w stamp current =
     pick (eqb (length region) region_size)
     (pick (may_commit w)
@@ -75,13 +73,13 @@ commit_step region w stamp current =
     (stays w Turn))
     (stays w Region)
 
-unfoldable pub commit_ops : List ℕ → Writer → Stamp → Bool → List Op
+unfoldable pub commit_ops : List ℕ → Writer → Option ℤ → Bool → List Op
 commit_ops region w stamp current =
     pick (eqb (length region) region_size && (may_commit w && (is_current w current && is_fit (bank_for w stamp) (records_for w))))
     (write 0 (header_bytes (bank_for w stamp) (records_for w) blank_word) ∷ [])
     []
 
-unfoldable pub commit_region : List ℕ → Writer → Stamp → Bool → List ℕ
+unfoldable pub commit_region : List ℕ → Writer → Option ℤ → Bool → List ℕ
 commit_region region w stamp current = performed (target w.beginning.active) (commit_ops region w stamp current) region
 
 -- the second call: 1; 11 unless the first one was answered

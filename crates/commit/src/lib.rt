@@ -15,7 +15,6 @@ ghost use Rattle.commit.specs.Commit as Commit;
 ghost use Rattle.header.specs.Header.{commit_offset};
 ghost use Rattle.region.specs.Region.{region_size, last_bank};
 
-use bank::Loaded;
 use base::number::le;
 use flash::write;
 use header::write::{commit_bytes, fit, header_bytes};
@@ -25,13 +24,6 @@ use record::{DATES_SIZE_32, Source, VERSION};
 use refusal::Refusal;
 use region::REGION_SIZE;
 use writer::{Stage, Step, Writer, did, in_range, stays, target};
-
-// The host's stamp, if any.
-#[derive(Clone, Copy)]
-pub enum Stamp {
-    Given(i64),
-    Missing,
-}
 
 pub fn is_idle(s: Stage) -> bool
     ensures { result ≡ Commit.is_idle s }
@@ -59,22 +51,23 @@ fn later(s: i64, at: i64) -> i64
     if le(at, s) { s } else { at }
 }
 
-fn checked_time(stamp: Stamp, at: i64) -> i64
+fn checked_time(stamp: Option<i64>, at: i64) -> i64
     ensures { result ≡ Commit.checked_time stamp at }
 {
     match stamp {
-        Stamp::Given(s) => later(s, at),
-        Stamp::Missing => at,
+        Some(s) => later(s, at),
+        None => at,
     }
 }
 
-fn next_generation(l: Loaded) -> u32
+#[tactic(auto, unfolding(writer::specs::State::next_generation))]
+fn next_generation(l: Result<Option<Bank>, Refusal>) -> u32
     ensures { result ≡ State.next_generation l }
 {
     match l {
-        Loaded::Found(b) => next(b.generation),
-        Loaded::Nothing => 0,
-        Loaded::Refused(_) => 0,
+        Ok(Some(b)) => next(b.generation),
+        Ok(None) => 0,
+        Err(_) => 0,
     }
 }
 
@@ -98,7 +91,7 @@ pub fn key_length(offset: u32) -> u32
 }
 
 // The bank to be committed.
-fn bank_for(w: Writer, stamp: Stamp) -> Bank
+fn bank_for(w: Writer, stamp: Option<i64>) -> Bank
     ensures { result ≡ Commit.bank_for w stamp }
 {
     let b = w.beginning;
@@ -145,7 +138,7 @@ fn write_header(w: Writer, region: &mut [u8], b: Bank) -> Step
 }
 
 // The first call of a commit: writes the header, 255 in the commit word.
-pub fn commit(w: Writer, region: &mut [u8], stamp: Stamp, current: bool) -> Step
+pub fn commit(w: Writer, region: &mut [u8], stamp: Option<i64>, current: bool) -> Step
     ensures { (result ≡ Commit.commit_step region.old w stamp current) × (region.new ≡ Commit.commit_region region.old w stamp current) }
 {
     if region.len() != REGION_SIZE {

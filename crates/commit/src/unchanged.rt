@@ -1,12 +1,11 @@
 // The lower layer's call `unchanged`: whether the update is the same as the active bank.
-ghost use Rattle.std.specs.Prelude.{◌≡◌, ◌≤◌, take};
+ghost use Rattle.std.specs.Prelude.{◌≡◌, ◌≤◌, take, Ok};
 ghost use Rattle.base.specs.Number.{pick};
 ghost use Rattle.header.specs.Header.{records_of, max_sources};
 ghost use Rattle.writer.specs.declared.Answer.TheVariants as Answers;
 ghost use Rattle.commit.specs.Unchanged as Unchanged;
 
 use crate::{is_idle, key_length, routes_offset};
-use bank::Loaded;
 use base::table::TABLES;
 use header::{Bank, RECORDS_OFFSET, SOURCES, record_at};
 use record::{Block, Source, source_size};
@@ -73,14 +72,15 @@ fn same_bank(region: &[u8], w: Writer, b: Bank) -> bool
     !t.different & ((t.written == b.length) & ((x.count == b.count) & ((key == b.key) & sources)))
 }
 
-fn is_unchanged(region: &[u8], w: Writer, l: Loaded) -> bool
+#[tactic(auto, unfolding(crate::specs::Unchanged::is_unchanged))]
+fn is_unchanged(region: &[u8], w: Writer, l: Result<Option<Bank>, Refusal>) -> bool
     requires { w.tables.count ≤ max_sources }
     ensures { result ≡ Unchanged.is_unchanged region.now w l }
 {
     match l {
-        Loaded::Found(b) => same_bank(region, w, b),
-        Loaded::Nothing => false,
-        Loaded::Refused(_) => false,
+        Ok(Some(b)) => same_bank(region, w, b),
+        Ok(None) => false,
+        Err(_) => false,
     }
 }
 
@@ -93,13 +93,13 @@ fn may_ask(w: Writer) -> bool
     in_range(w) & (b.comparing & (t.closed & is_idle(s)))
 }
 
-fn same_answer(same: bool) -> Answer
-    ensures { result ≡ pick same Answers.Same Answers.Different }
+fn same_answer(same: bool) -> Result<Answer, Refusal>
+    ensures { result ≡ pick same (Ok Answers.Same) (Ok Answers.Different) }
 {
     if same {
-        return Answer::Same;
+        return Ok(Answer::Same);
     }
-    Answer::Different
+    Ok(Answer::Different)
 }
 
 // Whether the update is the same as the active bank.

@@ -3,14 +3,15 @@ use mathlib.Core.Path.{◌≡◌, refl}
 use mathlib.Core.Bool.{Bool, true, false, false≢true}
 use Prim.Native.Nat.{ℕ}
 use lib.Dec.{leb}
-use Rattle.bank.specs.declared.Loaded.{Loaded}
-use Rattle.bank.specs.declared.Loaded.TheVariants.{Found, Nothing, Refused as NotRead}
 use Rattle.writer.specs.declared.Operation.TheVariants.{Erase, Write, Compare}
 use Rattle.writer.specs.declared.Stage.{Stage}
 use Rattle.writer.specs.declared.Stage.TheVariants.{Idle, Due, HeaderWritten, Committed}
 use Rattle.writer.specs.State.{in_range, active_ok}
 use Rattle.cstate.specs.State.{stage_kind, stage_first, stage_second, stage_of, active_kind, bank_in, active_of, flag, is_set, saved_of, writer_of}
 use Rattle.cstate.specs.Claims.{ReadsBack, NoState}
+use Rattle.std.specs.Prelude.{Ok, Err, Some, None, Result, Option}
+use Rattle.refusal.specs.declared.Refusal.{Refusal}
+use Rattle.header.specs.declared.Bank.{Bank}
 
 stage-back : (s : Stage) → stage_of (stage_kind s) (stage_first s) (stage_second s) ≡ s
 unfolding stage_of
@@ -33,11 +34,11 @@ flag-back : (b : Bool) → is_set (flag b) ≡ b
 flag-back true = refl
 flag-back false = refl
 
-active-back : (k : ℕ) (a : Loaded) → leb k 5 ≡ true → leb (active_kind a) 1 ≡ true → active_of k (active_kind a) (bank_in a) ≡ a
+active-back : (k : ℕ) (a : Result (Option Bank) Refusal) → leb k 5 ≡ true → leb (active_kind a) 1 ≡ true → active_of k (active_kind a) (bank_in a) ≡ a
 unfolding active_of
-active-back k (Found b) s h = rw s
-active-back k Nothing s h = rw s
-active-back k (NotRead r) s h = absurd (false≢true h)
+active-back k (Ok (Some b)) s h = rw s
+active-back k (Ok None) s h = rw s
+active-back k (Err r) s h = absurd (false≢true h)
 
 pub reads-back : ReadsBack
 unfolding saved_of writer_of

@@ -1,9 +1,8 @@
 -- What C gets back: a call's answer as numbers, and the state after it. Refusal 0 means none; on a refusal the other numbers are 0.
-use Rattle.std.specs.Prelude.{Bool, true, false, List, ℕ}
+use Rattle.std.specs.Prelude.{Bool, true, false, List, ℕ, Ok, Err, Result}
 use Rattle.base.specs.Number.{pick}
 use Rattle.refusal.specs.Refusal.{number_of}
-use Rattle.writer.specs.declared.Answer.{Answer}
-use Rattle.writer.specs.declared.Answer.TheVariants.{Done, Appended, NoneDue, Same, Different, Refused}
+use Rattle.writer.specs.declared.Answer.TheVariants.{Done, Appended, NoneDue, Same, Different}
 use Rattle.record.specs.declared.Source.{Source}
 use Rattle.writer.specs.declared.Beginning.{Beginning}
 use Rattle.writer.specs.declared.PartsStep.{PartsStep}
@@ -13,6 +12,8 @@ use Rattle.cstate.specs.declared.State.{State}
 use Rattle.cstate.specs.declared.UpdateNumbers.{UpdateNumbers}
 use Rattle.cstate.specs.declared.UpdateStep.{UpdateStep}
 use Rattle.cstate.specs.State.{saved_of}
+use Rattle.refusal.specs.declared.Refusal.{Refusal}
+use Rattle.writer.specs.declared.Answer.{Answer}
 
 abbrev pub done : ℕ → ℕ → UpdateNumbers
 done answer count = record { refusal = 0; answer = answer; count = count }
@@ -37,21 +38,21 @@ abbrev pub answer_different : ℕ
 answer_different = 4
 
 -- `count` is the number of bytes appended
-abbrev pub of_answer : Answer → UpdateNumbers
-of_answer Done = done answer_done 0
-of_answer (Appended n) = done answer_appended n
-of_answer NoneDue = done answer_none_due 0
-of_answer Same = done answer_same 0
-of_answer Different = done answer_different 0
-of_answer (Refused r) = refused (number_of r)
+abbrev pub of_answer : Result Answer Refusal → UpdateNumbers
+of_answer (Ok Done) = done answer_done 0
+of_answer (Ok (Appended n)) = done answer_appended n
+of_answer (Ok NoneDue) = done answer_none_due 0
+of_answer (Ok Same) = done answer_same 0
+of_answer (Ok Different) = done answer_different 0
+of_answer (Err r) = refused (number_of r)
 
-abbrev pub is_answer : Answer → Bool
-is_answer Done = true
-is_answer (Appended n) = true
-is_answer NoneDue = true
-is_answer Same = true
-is_answer Different = true
-is_answer (Refused r) = false
+abbrev pub is_answer : Result Answer Refusal → Bool
+is_answer (Ok Done) = true
+is_answer (Ok (Appended n)) = true
+is_answer (Ok NoneDue) = true
+is_answer (Ok Same) = true
+is_answer (Ok Different) = true
+is_answer (Err r) = false
 
 -- a state with other sources and another tail
 abbrev pub with_rest : List Source → List ℕ → State → State

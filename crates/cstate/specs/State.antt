@@ -1,17 +1,16 @@
 -- A writer's state as plain numbers. Any numbers read as some writer; if the stage is above 5 or `active` above 1, as one that every call
 -- refuses with 11.
-use Rattle.std.specs.Prelude.{Bool, true, false, not, ◌&&◌, ℕ, leb, eqb, pos}
+use Rattle.std.specs.Prelude.{Bool, true, false, not, ◌&&◌, ℕ, leb, eqb, pos, Ok, Err, Some, None, Result, Option}
 use Rattle.base.specs.Number.{pick}
 use Rattle.refusal.specs.declared.Refusal.TheVariants.{Turn}
 use Rattle.header.specs.declared.Bank.{Bank}
-use Rattle.bank.specs.declared.Loaded.{Loaded}
-use Rattle.bank.specs.declared.Loaded.TheVariants.{Found, Nothing, Refused as NotRead}
 use Rattle.writer.specs.declared.Operation.TheVariants.{Erase, Write, Compare}
 use Rattle.writer.specs.declared.Stage.{Stage}
 use Rattle.writer.specs.declared.Stage.TheVariants.{Idle, Due, HeaderWritten, Committed}
 use Rattle.writer.specs.declared.Writer.{Writer}
 use Rattle.cstate.specs.declared.State.{State}
 use Rattle.cstate.specs.declared.StageNumbers.{StageNumbers}
+use Rattle.refusal.specs.declared.Refusal.{Refusal}
 
 -- the numbers of stages
 abbrev pub idle_stage : ℕ
@@ -71,18 +70,18 @@ abbrev pub stage_numbers : Stage → StageNumbers
 stage_numbers s = record { kind = stage_kind s; first = stage_first s; second = stage_second s }
 
 -- the active bank: none, a bank, or a beginning that was refused
-abbrev pub active_kind : Loaded → ℕ
-active_kind Nothing = no_active
-active_kind (Found b) = some_active
-active_kind (NotRead r) = refused_active
+abbrev pub active_kind : Result (Option Bank) Refusal → ℕ
+active_kind (Ok None) = no_active
+active_kind (Ok (Some b)) = some_active
+active_kind (Err r) = refused_active
 
 abbrev pub no_bank : Bank
 no_bank = record { number = 0; version = 0; generation = 0; length = 0; crc = 0; count = 0; key = 0; checked = pos 0 }
 
-abbrev pub bank_in : Loaded → Bank
-bank_in (Found b) = b
-bank_in Nothing = no_bank
-bank_in (NotRead r) = no_bank
+abbrev pub bank_in : Result (Option Bank) Refusal → Bank
+bank_in (Ok (Some b)) = b
+bank_in (Ok None) = no_bank
+bank_in (Err r) = no_bank
 
 abbrev pub flag : Bool → ℕ
 flag true = 1
@@ -124,8 +123,8 @@ kinds_ok stage active = leb stage committed_stage && leb active some_active
 abbrev pub is_state : State → Bool
 is_state s = kinds_ok s.stage s.active
 
-unfoldable pub active_of : ℕ → ℕ → Bank → Loaded
-active_of stage active b = pick (kinds_ok stage active) (pick (eqb active some_active) (Found b) Nothing) (NotRead Turn)
+unfoldable pub active_of : ℕ → ℕ → Bank → Result (Option Bank) Refusal
+active_of stage active b = pick (kinds_ok stage active) (pick (eqb active some_active) (Ok (Some b)) (Ok None)) (Err Turn)
 
 abbrev pub is_set : ℕ → Bool
 is_set n = not (eqb n 0)

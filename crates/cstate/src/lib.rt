@@ -9,7 +9,6 @@ ghost use Rattle.writer.specs.Parts.{parts_of, whole_of};
 ghost use Rattle.cstate.specs.State as Saved;
 ghost use Rattle.cstate.specs.Answers as Answers;
 
-use bank::Loaded;
 use header::{Bank, SOURCES};
 use record::Source;
 use refusal::{Refusal, number_u32};
@@ -99,16 +98,16 @@ fn stage_of(kind: u32, first: u32, second: u32) -> Stage
     Stage::Idle
 }
 
-fn active_of(stage: u32, active: u32, bank: Bank) -> Loaded
+fn active_of(stage: u32, active: u32, bank: Bank) -> Result<Option<Bank>, Refusal>
     ensures { result ≡ Saved.active_of stage active bank }
 {
     if (stage <= COMMITTED_STAGE) & (active <= SOME_ACTIVE) {
         if active == SOME_ACTIVE {
-            return Loaded::Found(bank);
+            return Ok(Some(bank));
         }
-        return Loaded::Nothing;
+        return Ok(None);
     }
-    Loaded::Refused(Refusal::Turn)
+    Err(Refusal::Turn)
 }
 
 fn is_set(flag: u32) -> bool
@@ -214,13 +213,13 @@ fn stage_numbers(s: Stage) -> StageNumbers
     }
 }
 
-fn active_kind(l: Loaded) -> u32
+fn active_kind(l: Result<Option<Bank>, Refusal>) -> u32
     ensures { result ≡ Saved.active_kind l }
 {
     match l {
-        Loaded::Found(_) => SOME_ACTIVE,
-        Loaded::Nothing => NO_ACTIVE,
-        Loaded::Refused(_) => REFUSED_ACTIVE,
+        Ok(Some(_)) => SOME_ACTIVE,
+        Ok(None) => NO_ACTIVE,
+        Err(_) => REFUSED_ACTIVE,
     }
 }
 
@@ -239,10 +238,10 @@ fn no_bank() -> Bank
     }
 }
 
-fn bank_in(l: Loaded) -> Bank
+fn bank_in(l: Result<Option<Bank>, Refusal>) -> Bank
     ensures { result ≡ Saved.bank_in l }
 {
-    let Loaded::Found(b) = l else {
+    let Ok(Some(b)) = l else {
         return no_bank();
     };
     b
@@ -332,35 +331,35 @@ fn refused(r: u32) -> UpdateNumbers
     }
 }
 
-fn of_answer(a: Answer) -> UpdateNumbers
+fn of_answer(a: Result<Answer, Refusal>) -> UpdateNumbers
     ensures { result ≡ Answers.of_answer a }
 {
     match a {
-        Answer::Done => done(ANSWER_DONE, 0),
-        Answer::Appended(n) => done(ANSWER_APPENDED, n),
-        Answer::NoneDue => done(ANSWER_NONE_DUE, 0),
-        Answer::Same => done(ANSWER_SAME, 0),
-        Answer::Different => done(ANSWER_DIFFERENT, 0),
-        Answer::Refused(r) => refused(number_u32(r)),
+        Ok(Answer::Done) => done(ANSWER_DONE, 0),
+        Ok(Answer::Appended(n)) => done(ANSWER_APPENDED, n),
+        Ok(Answer::NoneDue) => done(ANSWER_NONE_DUE, 0),
+        Ok(Answer::Same) => done(ANSWER_SAME, 0),
+        Ok(Answer::Different) => done(ANSWER_DIFFERENT, 0),
+        Err(r) => refused(number_u32(r)),
     }
 }
 
 // Whether a call was answered.
-fn is_answer(a: Answer) -> bool
+fn is_answer(a: Result<Answer, Refusal>) -> bool
     ensures { result ≡ Answers.is_answer a }
 {
     match a {
-        Answer::Done => true,
-        Answer::Appended(_) => true,
-        Answer::NoneDue => true,
-        Answer::Same => true,
-        Answer::Different => true,
-        Answer::Refused(_) => false,
+        Ok(Answer::Done) => true,
+        Ok(Answer::Appended(_)) => true,
+        Ok(Answer::NoneDue) => true,
+        Ok(Answer::Same) => true,
+        Ok(Answer::Different) => true,
+        Err(_) => false,
     }
 }
 
 // The state after a call on its parts, with its own sources and tail; unchanged on a refusal.
-fn state_after(answer: Answer, b: Beginning, p: Parts, state: State) -> State
+fn state_after(answer: Result<Answer, Refusal>, b: Beginning, p: Parts, state: State) -> State
     ensures { result ≡ pick (Answers.is_answer answer) (Saved.saved_of (whole_of b p state.sources state.tail)) state }
 {
     if is_answer(answer) {

@@ -17,8 +17,6 @@ use Rattle.region.specs.Region.{region_size, bank_size, capacity, sector_size, l
 use Rattle.base.proofs.Bools.{and_left, and_right}
 use Rattle.flash.specs.Flash.{Op, offset, size, after, performed}
 use Rattle.flash.proofs.Laws.{after-fits}
-use Rattle.bank.specs.declared.Loaded.{Loaded}
-use Rattle.bank.specs.declared.Loaded.TheVariants.{Found, Nothing, Refused as NotRead}
 use Rattle.refusal.specs.declared.Refusal.TheVariants.{Region, Turn}
 use Rattle.writer.specs.declared.Operation.{Operation}
 use Rattle.writer.specs.declared.Operation.TheVariants.{Erase, Write, Compare}
@@ -30,6 +28,9 @@ use Rattle.writer.specs.declared.Step.{Step}
 use Rattle.writer.specs.State.{position, is_due, aligned, contents_ok, operation_ok, stage_ok, in_range, target, data_due, write_due, stays, tail_size, last_write}
 use Rattle.writer.proofs.Laws.{ranged, fill-fits, position-fits}
 use Rattle.due.specs.Due.{padded, ops_of, due_ops, due_region, differs, with_stage, with_emptied, operated, step_of, due_step}
+use Rattle.std.specs.Prelude.{Ok, Err, Some, None, Result, Option}
+use Rattle.refusal.specs.declared.Refusal.{Refusal}
+use Rattle.header.specs.declared.Bank.{Bank}
 
 -- ---- the tail as written
 
@@ -69,11 +70,11 @@ length-padded xs h = omega (arith, length-append xs (fill 255 ((4 - length xs % 
 
 -- ---- one operation on the bank that is written
 
-pub target_fits : (l : Loaded) → target l ≤ 1
+pub target_fits : (l : Result (Option Bank) Refusal) → target l ≤ 1
 unfolding target
-target_fits (Found b) = omega arith
-target_fits Nothing = omega arith
-target_fits (NotRead r) = omega arith
+target_fits (Ok (Some b)) = omega arith
+target_fits (Ok None) = omega arith
+target_fits (Err r) = omega arith
 
 pub one-op : (region : List ℕ) (n : ℕ) (op : Op) → length region ≡ region_size → n ≤ 1 → offset op + size op ≤ bank_size → after n op region ≡ performed n (op ∷ []) region
 unfolding performed

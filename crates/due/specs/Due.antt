@@ -1,12 +1,10 @@
 -- Due: "One call does exactly one erase or write, or says none is due." In comparing mode it compares the tail instead.
-use Rattle.std.specs.Prelude.{Bool, true, not, ◌&&◌, ◌||◌, List, [], ◌∷◌, ◌++◌, ℕ, ◌+◌, ◌*◌, ◌-◌, ◌%◌, leb, eqb, length, take, drop}
+use Rattle.std.specs.Prelude.{Bool, true, not, ◌&&◌, ◌||◌, List, [], ◌∷◌, ◌++◌, ℕ, ◌+◌, ◌*◌, ◌-◌, ◌%◌, leb, eqb, length, take, drop, Ok, Err, Some, None, Result, Option}
 use Rattle.base.specs.Number.{pick}
 use Rattle.refusal.specs.declared.Refusal.TheVariants.{Region, Turn}
 use Rattle.base.specs.Lists.{fill}
 use Rattle.base.specs.Same.{same}
 use Rattle.region.specs.Region.{region_size, sector_size, erased_byte, write_unit, bank_of}
-use Rattle.bank.specs.declared.Loaded.{Loaded}
-use Rattle.bank.specs.declared.Loaded.TheVariants.{Found, Nothing, Refused as NotRead}
 use Rattle.flash.specs.Flash.{Op, erase, write, performed}
 use Rattle.writer.specs.declared.Operation.{Operation}
 use Rattle.writer.specs.declared.Operation.TheVariants.{Erase, Write, Compare}
@@ -17,6 +15,8 @@ use Rattle.writer.specs.declared.Writer.{Writer}
 use Rattle.writer.specs.declared.Answer.TheVariants.{NoneDue}
 use Rattle.writer.specs.declared.Step.{Step}
 use Rattle.writer.specs.State.{position, write_due, data_due, target, in_range, did, stays}
+use Rattle.refusal.specs.declared.Refusal.{Refusal}
+use Rattle.header.specs.declared.Bank.{Bank}
 
 -- "The last write is padded with 255 to a multiple of 4."
 unfoldable pub padded : List ℕ → List ℕ
@@ -38,11 +38,11 @@ unfoldable pub due_region : List ℕ → Writer → List ℕ
 due_region region w = performed (target w.beginning.active) (due_ops region w) region
 
 -- comparing: the tail's bytes differ from the active bank's at the same offset, or go past its data
-unfoldable pub differs : List ℕ → Loaded → Contents → List ℕ → Bool
-differs region (Found b) t tail =
+unfoldable pub differs : List ℕ → Result (Option Bank) Refusal → Contents → List ℕ → Bool
+differs region (Ok (Some b)) t tail =
     not (leb (position t) b.length) || not (same (take t.fill (drop (sector_size + t.written) (bank_of region b.number))) (take t.fill tail))
-differs region Nothing t tail = true
-differs region (NotRead r) t tail = true
+differs region (Ok None) t tail = true
+differs region (Err r) t tail = true
 
 -- the tail is written or compared: it is empty again
 abbrev pub emptied : Contents → Bool → Contents
@@ -62,9 +62,9 @@ operated region w (Compare a n) = with_emptied w (w.contents.different || differ
 
 abbrev pub step_of : List ℕ → Writer → Stage → Step
 step_of region w (Due o) = did (operated region w o)
-step_of region w Idle = record { answer = NoneDue; writer = w }
-step_of region w HeaderWritten = record { answer = NoneDue; writer = w }
-step_of region w Committed = record { answer = NoneDue; writer = w }
+step_of region w Idle = record { answer = (Ok NoneDue); writer = w }
+step_of region w HeaderWritten = record { answer = (Ok NoneDue); writer = w }
+step_of region w Committed = record { answer = (Ok NoneDue); writer = w }
 
 -- 1, then 11 by range
 unfoldable pub due_step : List ℕ → Writer → Step

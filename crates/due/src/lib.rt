@@ -1,11 +1,10 @@
 // The lower layer's due call: does one erase, write or comparison, or answers that none is due.
 #![tactic(auto)]
 
-ghost use Rattle.std.specs.Prelude.{◌≡◌, true, List, [], ◌++◌, ℕ, ◌+◌, ◌-◌, ◌%◌, ◌≤◌, eqb, length, take};
+ghost use Rattle.std.specs.Prelude.{◌≡◌, true, List, [], ◌++◌, ℕ, ◌+◌, ◌-◌, ◌%◌, ◌≤◌, eqb, length, take, Ok, Some};
 ghost use Rattle.base.specs.Number.{pick};
 ghost use Rattle.base.specs.Lists.{fill};
 ghost use Rattle.record.specs.declared.Source.{Source};
-ghost use Rattle.bank.specs.declared.Loaded.TheVariants as Loadeds;
 ghost use Rattle.flash.specs.Flash.{written_in, performed};
 ghost use Rattle.writer.specs.declared.Answer.TheVariants as Answers;
 ghost use Rattle.writer.specs.declared.Beginning.{Beginning};
@@ -17,7 +16,6 @@ ghost use Rattle.due.specs.Due as Due;
 ghost use Rattle.region.specs.Region.{region_size, capacity, sector_size, last_sector, erased_byte, write_unit};
 ghost use Rattle.writer.specs.State.{tail_size, last_write};
 
-use bank::Loaded;
 use base::slice::{part, same_bytes};
 use flash::{erase, write};
 use header::Bank;
@@ -70,7 +68,7 @@ fn write_tail(region: &mut [u8], bank: u32, tail: &[u8; TAIL_SIZE], a: u32, n: u
 
 fn differs_from(region: &[u8], b: Bank, t: Contents, tail: &[u8; TAIL_SIZE]) -> bool
     requires { t.fill ≤ tail_size }
-    ensures { result ≡ Due.differs region.now (Loadeds.Found b) t tail.now }
+    ensures { result ≡ Due.differs region.now (Ok (Some b)) t tail.now }
 {
     let n = t.fill as usize;
     let l = bank_of(region, b.number);
@@ -80,14 +78,15 @@ fn differs_from(region: &[u8], b: Bank, t: Contents, tail: &[u8; TAIL_SIZE]) -> 
     !(t.written as u64 + t.fill as u64 <= b.length as u64) | !same_bytes(stored, held)
 }
 
-fn differs(region: &[u8], l: Loaded, t: Contents, tail: &[u8; TAIL_SIZE]) -> bool
+#[tactic(auto, unfolding(crate::specs::Due::differs))]
+fn differs(region: &[u8], l: Result<Option<Bank>, Refusal>, t: Contents, tail: &[u8; TAIL_SIZE]) -> bool
     requires { t.fill ≤ tail_size }
     ensures { result ≡ Due.differs region.now l t tail.now }
 {
     match l {
-        Loaded::Found(b) => differs_from(region, b, t, tail),
-        Loaded::Nothing => true,
-        Loaded::Refused(_) => true,
+        Ok(Some(b)) => differs_from(region, b, t, tail),
+        Ok(None) => true,
+        Err(_) => true,
     }
 }
 
@@ -198,10 +197,10 @@ fn operate(
 }
 
 fn none_due(p: Parts) -> PartsStep
-    ensures { result ≡ record { answer = Answers.NoneDue; parts = p } }
+    ensures { result ≡ record { answer = Ok Answers.NoneDue; parts = p } }
 {
     PartsStep {
-        answer: Answer::NoneDue,
+        answer: Ok(Answer::NoneDue),
         parts: p,
     }
 }

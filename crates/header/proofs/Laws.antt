@@ -21,10 +21,9 @@ use Rattle.base.specs.Lists.{many, each}
 use Rattle.base.proofs.Lists.{many_more}
 use Rattle.base.proofs.Bools.{and_left, and_right}
 use Rattle.header.specs.declared.Bank.{Bank}
-use Rattle.header.specs.declared.Validated.{Validated}
-use Rattle.header.specs.declared.Validated.TheVariants.{Good, Refused}
 use Rattle.header.specs.Header.{is_unknown, length_ok, key_ok, count_ok, span_ok, numbers_of, records_of, source_ok, judge, marked, sealed, header_of, max_sources}
 use Rattle.region.specs.Region.{capacity}
+use Rattle.std.specs.Prelude.{Ok, Err, Result}
 
 -- the lowest value, by its bits
 
@@ -72,38 +71,38 @@ span-count b e =
 
 -- tests 3 to 6, case by case
 module _ (n : ℕ) (l : List ℕ) where
-  pub not-marked : marked l ≡ false → Refused Mark ≡ header_of n l
+  pub not-marked : marked l ≡ false → Err Mark ≡ header_of n l
   unfolding header_of
   not-marked m = rw m
 
-  pub not-sealed : marked l ≡ true → sealed l ≡ false → Refused Seal ≡ header_of n l
+  pub not-sealed : marked l ≡ true → sealed l ≡ false → Err Seal ≡ header_of n l
   unfolding header_of
   not-sealed m s = rw (m, s)
 
-  pub not-spanned : marked l ≡ true → sealed l ≡ true → span_ok (numbers_of n l) ≡ false → Refused Span ≡ header_of n l
+  pub not-spanned : marked l ≡ true → sealed l ≡ true → span_ok (numbers_of n l) ≡ false → Err Span ≡ header_of n l
   unfolding header_of judge
   not-spanned m s e = rw (m, s, e)
 
   pub bad-source : marked l ≡ true → sealed l ≡ true → span_ok (numbers_of n l) ≡ true → each (source_ok (numbers_of n l)) (records_of (word l 4) l (word l 20)) ≡ false
-      → Refused BadSource ≡ header_of n l
+      → Err BadSource ≡ header_of n l
   unfolding header_of judge
   bad-source m s e f = rw (m, s, e, f)
 
   pub all-good : marked l ≡ true → sealed l ≡ true → span_ok (numbers_of n l) ≡ true → each (source_ok (numbers_of n l)) (records_of (word l 4) l (word l 20)) ≡ true
-      → Good (numbers_of n l) ≡ header_of n l
+      → Ok (numbers_of n l) ≡ header_of n l
   unfolding header_of judge
   all-good m s e f = rw (m, s, e, f)
 
 -- what passes 3 to 6: the numbers are the header's, and both tests of `judge` hold
-abbrev is_good : Validated → Bool
-is_good (Good b) = true
-is_good (Refused r) = false
+abbrev is_good : Result Bank Refusal → Bool
+is_good (Ok b) = true
+is_good (Err r) = false
 
-abbrev bank_in : Bank → Validated → Bank
-bank_in d (Good b) = b
-bank_in d (Refused r) = d
+abbrev bank_in : Bank → Result Bank Refusal → Bank
+bank_in d (Ok b) = b
+bank_in d (Err r) = d
 
-pub no-refusal : {A : Type 0} (r : Refusal) (b : Bank) → Refused r ≡ Good b → A
+pub no-refusal : {A : Type 0} (r : Refusal) (b : Bank) → Err r ≡ Ok b → A
 no-refusal r b e = absurd (false≢true (ap is_good e))
 
 pub record Passed (n : ℕ) (l : List ℕ) (b : Bank) : Type 0 where
@@ -113,7 +112,7 @@ pub record Passed (n : ℕ) (l : List ℕ) (b : Bank) : Type 0 where
 
 module _ (n : ℕ) (l : List ℕ) (b : Bank) where
   passed-by : (m s p q : Bool) → marked l ≡ m → sealed l ≡ s → span_ok (numbers_of n l) ≡ p → each (source_ok (numbers_of n l)) (records_of (word l 4) l (word l 20)) ≡ q
-      → header_of n l ≡ Good b → Passed n l b
+      → header_of n l ≡ Ok b → Passed n l b
   unfolding numbers_of
   passed-by false s p q em es ep eq e = no-refusal Mark b (not-marked n l em ∙ e)
   passed-by true false p q em es ep eq e = no-refusal Seal b (not-sealed n l em es ∙ e)
@@ -127,5 +126,5 @@ module _ (n : ℕ) (l : List ℕ) (b : Bank) where
         sources = ap (λ (x : Bank). each (source_ok x) (records_of x.version l x.count)) (sym k) ∙ eq;
       }
 
-  pub passed : header_of n l ≡ Good b → Passed n l b
+  pub passed : header_of n l ≡ Ok b → Passed n l b
   passed e = passed-by (marked l) (sealed l) (span_ok (numbers_of n l)) (each (source_ok (numbers_of n l)) (records_of (word l 4) l (word l 20))) refl refl refl refl e

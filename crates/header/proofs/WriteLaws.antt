@@ -25,13 +25,13 @@ use Rattle.record.proofs.Laws.{length-source}
 use Rattle.record.proofs.Back.{reads-back}
 use Rattle.refusal.specs.declared.Refusal.TheVariants.{Span, Source as BadSource}
 use Rattle.header.specs.declared.Bank.{Bank}
-use Rattle.header.specs.declared.Validated.TheVariants.{Good, Refused}
 use Rattle.header.specs.Header.{numbers_of, record_at, records_of, magic, commit_word, marked, header_crc, sealed, span_ok, source_ok, judge, header_of, max_sources, header_size}
 use Rattle.header.proofs.Laws.{span-count, not-marked}
 use Rattle.header.specs.WriteHeader.{magic_to_length, crc_to_checked, number_bytes, record_bytes, crc_of, header_bytes, blank_word, commit_bytes, passes, text_ok, is_fit}
 use Rattle.header.specs.Types.{Bytes, TextBytes, Proper, Numbers}
 use Rattle.header.specs.Claims.{BlankRefused, numbered, HeaderBack, Committed}
 use Rattle.header.proofs.Writing.{length-numbers, judge-is}
+use Rattle.std.specs.Prelude.{Ok, Err}
 
 -- ---- sizes
 
@@ -323,13 +323,13 @@ module _ (b : Bank) (ss : List Source) (v : b.version ≡ 3) (r : Numbers b) (ps
 pub header-back : HeaderBack
 header-back b ss rest v r ps n c k = judged b ss v r ps n rest k c
 
-good-by : (b : Bank) (s t : Bool) → passes (pick s (pick t (Good b) (Refused BadSource)) (Refused Span)) ≡ true → pick s (pick t (Good b) (Refused BadSource)) (Refused Span) ≡ Good b
+good-by : (b : Bank) (s t : Bool) → passes (pick s (pick t (Ok b) (Err BadSource)) (Err Span)) ≡ true → pick s (pick t (Ok b) (Err BadSource)) (Err Span) ≡ Ok b
 good-by b true true e = refl
 good-by b true false e = absurd (false≢true e)
 good-by b false t e = absurd (false≢true e)
 
 -- what passes is the bank's own numbers
-pub passes-good : (b : Bank) (ss : List Source) → passes (judge b ss) ≡ true → judge b ss ≡ Good b
+pub passes-good : (b : Bank) (ss : List Source) → passes (judge b ss) ≡ true → judge b ss ≡ Ok b
 unfolding judge
 passes-good b ss e = good-by b (span_ok b) (each (source_ok b) ss) e
 

@@ -20,9 +20,9 @@ use Rattle.base.specs.Lists.{puts, fill, each}
 use Rattle.base.proofs.Lists.{next, fill-split, sets-mid, length-fill}
 use Rattle.refusal.specs.declared.Refusal.TheVariants.{Span, Source as BadSource}
 use Rattle.header.specs.declared.Bank.{Bank}
-use Rattle.header.specs.declared.Validated.TheVariants.{Good, Refused}
 use Rattle.header.specs.Header.{magic, span_ok, source_ok, judge, header_size}
 use Rattle.header.specs.WriteHeader.{magic_to_length, crc_to_checked, number_bytes, record_bytes, crc_of, header_bytes, blank_word, passes}
+use Rattle.std.specs.Prelude.{Ok, Err}
 
 -- a number that fits in 1,200 bytes is stored, and they are still 1,200
 put-fits : (l : List ℕ) (at n : ℕ) → length l ≡ header_size → at + 4 ≤ header_size → written l at (le32 n) ≡ sets l at (le32 n)
@@ -151,7 +151,7 @@ header_is b ss = seal-over (number_bytes b) (le32 (crc_of b ss)) blank_word (rec
 
 -- ---- the judge
 
-by_tests : (b : Bank) (s t : Bool) → passes (pick s (pick t (Good b) (Refused BadSource)) (Refused Span)) ≡ (s && t)
+by_tests : (b : Bank) (s t : Bool) → passes (pick s (pick t (Ok b) (Err BadSource)) (Err Span)) ≡ (s && t)
 by_tests b true true = refl
 by_tests b true false = refl
 by_tests b false t = refl

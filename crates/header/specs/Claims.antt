@@ -1,5 +1,5 @@
 -- What is proved of the header as written, beyond the calls' promises (proofs/Laws.antt).
-use Rattle.std.specs.Prelude.{◌≡◌, true, List, ◌++◌, ℕ, ◌+◌, ◌*◌, ◌≤◌, eqb, length, take}
+use Rattle.std.specs.Prelude.{◌≡◌, true, List, ◌++◌, ℕ, ◌+◌, ◌*◌, ◌≤◌, eqb, length, take, Ok, Err}
 use Rattle.std.proofs.lemmas.List.Edits.{sets}
 use Rattle.base.specs.Lists.{fill}
 use Rattle.leaf.specs.Bytes.{word}
@@ -8,7 +8,6 @@ use Rattle.record.specs.declared.Source.{Source}
 use Rattle.record.specs.Types.{All}
 use Rattle.refusal.specs.declared.Refusal.TheVariants.{Mark}
 use Rattle.header.specs.declared.Bank.{Bank}
-use Rattle.header.specs.declared.Validated.TheVariants.{Good, Refused}
 use Rattle.header.specs.Header.{seal_size, seal_of, sealed, judge, header_of, max_sources}
 use Rattle.header.specs.WriteHeader.{header_bytes, blank_word, commit_bytes, is_fit}
 use Rattle.header.specs.Types.{Proper, Numbers}
@@ -16,7 +15,7 @@ use Rattle.record.specs.Record.{current_version}
 
 -- while the commit word is blank the bank meets 3, whatever follows the header
 abbrev pub BlankRefused : Type 0
-BlankRefused = (n : ℕ) (b : Bank) (ss : List Source) (rest : List ℕ) → header_of n (header_bytes b ss blank_word ++ rest) ≡ Refused Mark
+BlankRefused = (n : ℕ) (b : Bank) (ss : List Source) (rest : List ℕ) → header_of n (header_bytes b ss blank_word ++ rest) ≡ Err Mark
 
 -- the same numbers, of bank n
 abbrev pub numbered : ℕ → Bank → Bank
@@ -42,7 +41,7 @@ HeaderBack =
 abbrev pub Committed : Type 0
 Committed =
     (b : Bank) (ss : List Source) (rest : List ℕ) → b.version ≡ current_version → Numbers b → All Proper ss → length ss ≡ b.count → is_fit b ss ≡ true
-    → header_of b.number (header_bytes b ss commit_bytes ++ rest) ≡ Good b
+    → header_of b.number (header_bytes b ss commit_bytes ++ rest) ≡ Ok b
 
 -- all of them: what `header_holds` promises
 pub record Claims : Type 0 where

@@ -1,5 +1,5 @@
 -- A bank's header, and its tests: refusals 3 to 6.
-use Rattle.std.specs.Prelude.{Bool, false, ◌&&◌, ◌||◌, List, [], ◌∷◌, ◌++◌, ℕ, ◌+◌, ◌-◌, ◌*◌, leb, eqb, ℤ, pos, negsuc, take, drop}
+use Rattle.std.specs.Prelude.{Bool, false, ◌&&◌, ◌||◌, List, [], ◌∷◌, ◌++◌, ℕ, ◌+◌, ◌-◌, ◌*◌, leb, eqb, ℤ, pos, negsuc, take, drop, Ok, Err, Result}
 use Rattle.std.specs.Int.Signed.{le_z}
 use Rattle.base.specs.Number.{pick, max_signed}
 use Rattle.leaf.specs.Bytes.{word, time}
@@ -11,9 +11,8 @@ use Rattle.record.specs.declared.Source.{Source}
 use Rattle.record.specs.Record.{first_version, current_version, record_size, source_size, decoded}
 use Rattle.base.specs.Lists.{many, fill, each}
 use Rattle.header.specs.declared.Bank.{Bank}
-use Rattle.header.specs.declared.Validated.{Validated}
-use Rattle.header.specs.declared.Validated.TheVariants.{Good, Refused}
 use Rattle.region.specs.Region.{capacity}
+use Rattle.refusal.specs.declared.Refusal.{Refusal}
 
 -- offsets of the header's numbers; bytes 28 to 31 are zero
 abbrev pub magic_offset : ℕ
@@ -140,12 +139,12 @@ unfoldable pub source_ok : Bank → Source → Bool
 source_ok b s = dates_ok s && (leb s.present max_present && (updated_ok b.checked s.updated && each (block_ok b) s.tables))
 
 -- 5 and 6, on a bank's numbers and its records below the count
-unfoldable pub judge : Bank → List Source → Validated
-judge b ss = pick (span_ok b) (pick (each (source_ok b) ss) (Good b) (Refused BadSource)) (Refused Span)
+unfoldable pub judge : Bank → List Source → Result Bank Refusal
+judge b ss = pick (span_ok b) (pick (each (source_ok b) ss) (Ok b) (Err BadSource)) (Err Span)
 
 -- 3 to 6: the tests of a bank that don't read its data
-unfoldable pub header_of : ℕ → List ℕ → Validated
+unfoldable pub header_of : ℕ → List ℕ → Result Bank Refusal
 header_of n l =
     pick (marked l)
-    (pick (sealed l) (judge (numbers_of n l) (records_of (word l version_offset) l (word l count_offset))) (Refused Seal))
-    (Refused Mark)
+    (pick (sealed l) (judge (numbers_of n l) (records_of (word l version_offset) l (word l count_offset))) (Err Seal))
+    (Err Mark)

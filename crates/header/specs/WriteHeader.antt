@@ -1,15 +1,14 @@
 -- The header as commit writes it, and the tests of refusal 13.
-use Rattle.std.specs.Prelude.{Bool, true, false, ◌&&◌, List, ◌++◌, ℕ, ◌*◌, ◌-◌, leb, length}
+use Rattle.std.specs.Prelude.{Bool, true, false, ◌&&◌, List, ◌++◌, ℕ, ◌*◌, ◌-◌, leb, length, Ok, Err, Result}
 use Rattle.leaf.specs.Bytes.{le32, le64, word_size}
 use Rattle.leaf.specs.Crc.{crc32}
 use Rattle.record.specs.declared.Source.{Source}
 use Rattle.record.specs.Record.{record_size, id_size, max_validator, source_bytes}
 use Rattle.base.specs.Lists.{puts, fill, each, byte}
 use Rattle.header.specs.declared.Bank.{Bank}
-use Rattle.header.specs.declared.Validated.{Validated}
-use Rattle.header.specs.declared.Validated.TheVariants.{Good, Refused}
 use Rattle.region.specs.Region.{erased_byte}
 use Rattle.header.specs.Header.{max_sources, records_offset, crc_offset, magic, commit_word, judge}
+use Rattle.refusal.specs.declared.Refusal.{Refusal}
 
 -- bytes 0 to 15: "TTFC", version, generation, data length
 unfoldable pub magic_to_length : Bank → List ℕ
@@ -42,9 +41,9 @@ unfoldable pub commit_bytes : List ℕ
 commit_bytes = le32 commit_word
 
 -- 13: what would meet 5 or 6, an id length over 80, or a validator length over 64
-abbrev pub passes : Validated → Bool
-passes (Good b) = true
-passes (Refused r) = false
+abbrev pub passes : Result Bank Refusal → Bool
+passes (Ok b) = true
+passes (Err r) = false
 
 abbrev pub text_ok : Source → Bool
 text_ok s = leb s.idlen id_size && leb (byte s.validator 0) max_validator

@@ -93,12 +93,6 @@ pub struct Bank {
     pub checked: i64,
 }
 
-#[derive(Clone, Copy)]
-pub enum Validated {
-    Good(Bank),
-    Refused(Refusal),
-}
-
 fn numbers_of(b: &[u8], number: u32) -> Bank
     ensures { result ≡ numbers_of number b.now }
 {
@@ -227,23 +221,23 @@ fn records_ok(l: &[u8], b: Bank, n: usize) -> bool
 }
 
 // The tests of a bank that don't read its data: refusals 3 to 6.
-pub fn header_of(l: &[u8], number: u32) -> Validated
+pub fn header_of(l: &[u8], number: u32) -> Result<Bank, Refusal>
     ensures { result ≡ header_of number l.now }
 {
     if !is_marked(l) {
-        return Validated::Refused(Refusal::Mark);
+        return Err(Refusal::Mark);
     }
     if !is_sealed(l) {
-        return Validated::Refused(Refusal::Seal);
+        return Err(Refusal::Seal);
     }
     let b = numbers_of(l, number);
     if !span_ok(b) {
-        return Validated::Refused(Refusal::Span);
+        return Err(Refusal::Span);
     }
     if !records_ok(l, b, b.count as usize) {
-        return Validated::Refused(Refusal::Source);
+        return Err(Refusal::Source);
     }
-    Validated::Good(b)
+    Ok(b)
 }
 
 // What holds of a header as written. The function does nothing: its contract is what is proved of the

@@ -19,14 +19,13 @@ use Rattle.key.specs.Layout.{every, sized, fit, max_identity, key_of, within, ke
 use Rattle.key.specs.Match.{match_answer}
 use Rattle.base.specs.Same.{same}
 use Rattle.key.specs.Steps.{Offsets, Rising, between, Below, Ordered, stretch, starts_size, starts_of, Ready, NotReady}
-use Rattle.key.specs.declared.KeyAnswer.TheVariants.{Written, Refused}
-use Rattle.key.specs.declared.SameKey.TheVariants as same_key
 use Rattle.key.specs.declared.matching.Matched.{Matched}
 use Rattle.key.specs.declared.matching.Matched.TheVariants.{To, Differs}
 use Rattle.key.proofs.TextOffsets.{between_is, rising, pick_same, firsts_same}
 use Rattle.key.proofs.Sizes.{every-same, entry-small}
 use Rattle.key.proofs.Put.{put-put, put_first}
 use Rattle.key.proofs.Stretch.{then_to, then-not, whole_same, whole-other}
+use Rattle.std.specs.Prelude.{Ok, Err}
 
 -- ---- fit
 
@@ -96,12 +95,12 @@ module _ (id b : Text) (l all : List ℕ) (long : length all ≡ starts_size) (f
 -- ---- key
 
 module _ (id b : Text) (l : List ℕ) (capacity : ℕ) where
-  pub unfit : false ≡ fit b l → Refused Argument ≡ key_answer id b l capacity
+  pub unfit : false ≡ fit b l → Err Argument ≡ key_answer id b l capacity
   unfolding key_answer
   unfit e = rw (← e)
 
   module _ (fits : true ≡ fit b l) where
-    pub long-identity : max_identity < length id → Refused Identity ≡ key_answer id b l capacity
+    pub long-identity : max_identity < length id → Err Identity ≡ key_answer id b l capacity
     unfolding key_answer
     long-identity h = rw (← fits, lt-leb (length id) max_identity h)
 
@@ -110,17 +109,17 @@ module _ (id b : Text) (l : List ℕ) (capacity : ℕ) where
     else-within h = rw (← fits, le-leb (length id) max_identity h)
 
 -- what preparation refuses
-pub key-refused : (id b : Text) (l : List ℕ) (capacity : ℕ) (r : Refusal) → NotReady id b l r → Refused r ≡ key_answer id b l capacity
+pub key-refused : (id b : Text) (l : List ℕ) (capacity : ℕ) (r : Refusal) → NotReady id b l r → Err r ≡ key_answer id b l capacity
 key-refused id b l capacity r =
     ⊎_elim
-    (λ h. ap Refused h.0 ∙ unfit id b l capacity h.1)
-    (λ h. ap Refused h.0 ∙ long-identity id b l capacity h.1 h.2)
+    (λ h. ap Err h.0 ∙ unfit id b l capacity h.1)
+    (λ h. ap Err h.0 ∙ long-identity id b l capacity h.1 h.2)
 
-pub too_small : (capacity : ℕ) (key : List ℕ) → capacity < length key → Refused Small ≡ within capacity key
+pub too_small : (capacity : ℕ) (key : List ℕ) → capacity < length key → Err Small ≡ within capacity key
 unfolding within
 too_small capacity key h = rw (lt-leb (length key) capacity h)
 
-pub fits_in : (capacity : ℕ) (key : List ℕ) (n : ℕ) → n ≡ length key → n ≤ capacity → Written n ≡ within capacity key
+pub fits_in : (capacity : ℕ) (key : List ℕ) (n : ℕ) → n ≡ length key → n ≤ capacity → Ok n ≡ within capacity key
 unfolding within
 fits_in capacity key n e h = let k : length key ≤ capacity = omega arith in rw (le-leb (length key) capacity k, e)
 
@@ -171,28 +170,28 @@ module _ (f : ℕ → Pick) (n : ℕ) (order : List ℕ) (m : ℕ) (o : Ordered 
 -- ---- same_key
 
 module _ (x id b : Text) (l : List ℕ) where
-  pub match-unfit : false ≡ fit b l → same_key.Refused Argument ≡ match_answer x id b l
+  pub match-unfit : false ≡ fit b l → Err Argument ≡ match_answer x id b l
   unfolding match_answer
   match-unfit e = rw (← e)
 
   module _ (fits : true ≡ fit b l) where
-    pub match-identity : max_identity < length id → same_key.Refused Identity ≡ match_answer x id b l
+    pub match-identity : max_identity < length id → Err Identity ≡ match_answer x id b l
     unfolding match_answer
     match-identity h = rw (← fits, lt-leb (length id) max_identity h)
 
-    pub is_same : length id ≤ max_identity → same x (key_of id (passed_picks b l)) ≡ true → same_key.Same ≡ match_answer x id b l
+    pub is_same : length id ≤ max_identity → same x (key_of id (passed_picks b l)) ≡ true → (Ok true) ≡ match_answer x id b l
     unfolding match_answer
     is_same h e = rw (← fits, le-leb (length id) max_identity h, e)
 
-    pub is-other : length id ≤ max_identity → same x (key_of id (passed_picks b l)) ≡ false → same_key.Other ≡ match_answer x id b l
+    pub is-other : length id ≤ max_identity → same x (key_of id (passed_picks b l)) ≡ false → (Ok false) ≡ match_answer x id b l
     unfolding match_answer
     is-other h e = rw (← fits, le-leb (length id) max_identity h, e)
 
-pub match-refused : (x id b : Text) (l : List ℕ) (r : Refusal) → NotReady id b l r → same_key.Refused r ≡ match_answer x id b l
+pub match-refused : (x id b : Text) (l : List ℕ) (r : Refusal) → NotReady id b l r → Err r ≡ match_answer x id b l
 match-refused x id b l r =
     ⊎_elim
-    (λ h. ap same_key.Refused h.0 ∙ match-unfit x id b l h.1)
-    (λ h. ap same_key.Refused h.0 ∙ match-identity x id b l h.1 h.2)
+    (λ h. ap Err h.0 ∙ match-unfit x id b l h.1)
+    (λ h. ap Err h.0 ∙ match-identity x id b l h.1 h.2)
 
 -- an empty identity is never refused
 pub fit_refused : (id b : Text) (l : List ℕ) (r : Refusal) → length id ≡ 0 → NotReady id b l r → false ≡ fit b l

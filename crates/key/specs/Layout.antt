@@ -1,12 +1,11 @@
 -- The bytes of a key, and when a key is refused.
-use Rattle.std.specs.Prelude.{Bool, true, false, List, [], ◌∷◌, ◌++◌, ℕ, zero, suc, ◌/◌, ◌%◌, ◌*◌, length, get_or, leb}
+use Rattle.std.specs.Prelude.{Bool, true, false, List, [], ◌∷◌, ◌++◌, ℕ, zero, suc, ◌/◌, ◌%◌, ◌*◌, length, get_or, leb, Ok, Err, Result}
 use Rattle.base.specs.Number.{pick, byte_values}
 use Rattle.leaf.specs.Bytes.{written}
 use Rattle.refusal.specs.declared.Refusal.TheVariants.{Argument, Identity, Small}
 use Rattle.key.specs.Order.{Text, Pick, field_count}
 use Rattle.key.specs.Picks.{text, count, passed_picks, distinct}
-use Rattle.key.specs.declared.KeyAnswer.{KeyAnswer}
-use Rattle.key.specs.declared.KeyAnswer.TheVariants.{Written, Refused}
+use Rattle.refusal.specs.declared.Refusal.{Refusal}
 
 -- ---- the bytes
 
@@ -81,17 +80,17 @@ fit bytes lengths = pick (leb (count lengths) max_picks) (every (count lengths *
 -- ---- the call `key`
 
 -- the key's length if the output has the capacity for it, else 9
-unfoldable pub within : ℕ → List ℕ → KeyAnswer
-within capacity key = pick (leb (length key) capacity) (Written (length key)) (Refused Small)
+unfoldable pub within : ℕ → List ℕ → Result ℕ Refusal
+within capacity key = pick (leb (length key) capacity) (Ok (length key)) (Err Small)
 
 -- the answer: 2, then 8, then 9, else how many bytes are written
-unfoldable pub key_answer : Text → Text → List ℕ → ℕ → KeyAnswer
+unfoldable pub key_answer : Text → Text → List ℕ → ℕ → Result ℕ Refusal
 key_answer identity bytes lengths capacity =
     pick (fit bytes lengths)
-    (pick (leb (length identity) max_identity) (within capacity (key_of identity (passed_picks bytes lengths))) (Refused Identity))
-    (Refused Argument)
+    (pick (leb (length identity) max_identity) (within capacity (key_of identity (passed_picks bytes lengths))) (Err Identity))
+    (Err Argument)
 
 -- the output after the call: the key at its start, the bytes after it unchanged; on a refusal all unchanged
-abbrev pub after : KeyAnswer → List ℕ → List ℕ → List ℕ
-after (Written n) key out = written out 0 key
-after (Refused r) key out = out
+abbrev pub after : Result ℕ Refusal → List ℕ → List ℕ → List ℕ
+after (Ok n) key out = written out 0 key
+after (Err r) key out = out

@@ -1,19 +1,18 @@
 -- The call `same_key`: a stored key against the key of an identity and picks.
-use Rattle.std.specs.Prelude.{List, ℕ, length, leb}
+use Rattle.std.specs.Prelude.{List, ℕ, length, leb, Ok, Err, Result, true, false, Bool}
 use Rattle.base.specs.Number.{pick}
 use Rattle.base.specs.Same.{same}
 use Rattle.refusal.specs.declared.Refusal.TheVariants.{Argument, Identity}
 use Rattle.key.specs.Order.{Text}
 use Rattle.key.specs.Picks.{passed_picks}
 use Rattle.key.specs.Layout.{fit, key_of, max_identity}
-use Rattle.key.specs.declared.SameKey.{SameKey}
-use Rattle.key.specs.declared.SameKey.TheVariants.{Same, Other, Refused}
+use Rattle.refusal.specs.declared.Refusal.{Refusal}
 
 -- the answer: 2, then 8, else whether the stored key is the key
-unfoldable pub match_answer : List ℕ → Text → Text → List ℕ → SameKey
+unfoldable pub match_answer : List ℕ → Text → Text → List ℕ → Result Bool Refusal
 match_answer stored identity bytes lengths =
     pick (fit bytes lengths)
     (pick (leb (length identity) max_identity)
-    (pick (same stored (key_of identity (passed_picks bytes lengths))) Same Other)
-    (Refused Identity))
-    (Refused Argument)
+    (pick (same stored (key_of identity (passed_picks bytes lengths))) (Ok true) (Ok false))
+    (Err Identity))
+    (Err Argument)

@@ -1,5 +1,5 @@
 -- What the private functions promise each other. Nothing here says what a key is.
-use Rattle.std.specs.Prelude.{List, [], ◌∷◌, ◌++◌, map, ◌≡◌, length, take, drop, get_or, true, false, ◌⊎◌}
+use Rattle.std.specs.Prelude.{List, [], ◌∷◌, ◌++◌, map, ◌≡◌, length, take, drop, get_or, true, false, ◌⊎◌, Ok, Err, Result}
 use Prim.Native.Nat.{ℕ, ◌+◌, ◌-◌, ◌*◌, ◌≤◌, ◌<◌, min, Ordering}
 use Rattle.base.specs.Number.{pick}
 use Rattle.key.specs.Order.{Text, Pick, field_count}
@@ -7,8 +7,6 @@ use Rattle.key.specs.Picks.{sum, pick_of, insert, firsts, passed_picks}
 use Rattle.refusal.specs.declared.Refusal.{Refusal}
 use Rattle.refusal.specs.declared.Refusal.TheVariants.{Argument, Identity}
 use Rattle.key.specs.Layout.{entry, fit, max_identity, max_picks, longest_entry}
-use Rattle.key.specs.declared.picks.Prepared.{Prepared}
-use Rattle.key.specs.declared.picks.Prepared.TheVariants.{Ready as IsReady, Refused}
 use Rattle.base.specs.Same.{same}
 use Rattle.key.specs.declared.picks.Index.{Index}
 use Rattle.key.specs.declared.picks.Index.TheVariants.{At, There}
@@ -92,9 +90,9 @@ pub record Ready (identity bytes : Text) (lengths starts : List ℕ) (n : ℕ) :
   pub small : Small (pick_in bytes (starts_of n starts)) n
   pub picks : firsts n (pick_in bytes (starts_of n starts)) ≡ passed_picks bytes lengths
 
-abbrev pub Prepares : Text → Text → List ℕ → List ℕ → Prepared → Type 0
-Prepares identity bytes lengths starts (IsReady n) = Ready identity bytes lengths starts n
-Prepares identity bytes lengths starts (Refused r) = NotReady identity bytes lengths r
+abbrev pub Prepares : Text → Text → List ℕ → List ℕ → Result ℕ Refusal → Type 0
+Prepares identity bytes lengths starts (Ok n) = Ready identity bytes lengths starts n
+Prepares identity bytes lengths starts (Err r) = NotReady identity bytes lengths r
 
 -- how many offsets the texts of the most picks have, with the end
 abbrev pub starts_size : ℕ

@@ -12,7 +12,7 @@ ghost use Rattle.key.specs.Layout.{key_of, fit, key_answer, after};
 ghost use Rattle.key.specs.Match.{match_answer};
 
 use matching::match_key;
-use picks::{Prepared, prepare};
+use picks::prepare;
 use refusal::Refusal;
 use write::write_key;
 
@@ -41,20 +41,6 @@ const STOP_FIELD: usize = 3;
 
 const NAME_FIELD: usize = LAST_FIELD;
 
-#[derive(Clone, Copy)]
-pub enum KeyAnswer {
-    // The key is in the first n bytes.
-    Written(usize),
-    Refused(Refusal),
-}
-
-#[derive(Clone, Copy)]
-pub enum SameKey {
-    Same,
-    Other,
-    Refused(Refusal),
-}
-
 // Whether there are at most 16 picks and each text is within its size.
 pub fn picks_fit(texts: &[u8], lengths: &[u32]) -> bool
     ensures { result ≡ fit texts.now lengths.now }
@@ -62,41 +48,41 @@ pub fn picks_fit(texts: &[u8], lengths: &[u32]) -> bool
     let mut starts: [usize; STARTS] = [0; STARTS];
     let p = prepare(&texts[0..0], texts, lengths, &mut starts);
     match p {
-        Prepared::Ready(_) => true,
-        Prepared::Refused(_) => false,
+        Ok(_) => true,
+        Err(_) => false,
     }
 }
 
 // Writes the key of an identity and picks to out.
-pub fn key(identity: &[u8], texts: &[u8], lengths: &[u32], out: &mut [u8]) -> KeyAnswer
+pub fn key(identity: &[u8], texts: &[u8], lengths: &[u32], out: &mut [u8]) -> Result<usize, Refusal>
     ensures { (result ≡ key_answer identity.now texts.now lengths.now (length out.old)) × (out.new ≡ after result (key_of identity.now (passed_picks texts.now lengths.now)) out.old) }
 {
     let mut starts: [usize; STARTS] = [0; STARTS];
     let p = prepare(identity, texts, lengths, &mut starts);
     match p {
-        Prepared::Ready(n) => {
+        Ok(n) => {
             let end = n * FIELDS + 1;
             write_key(identity, texts, &starts[0..end], n, out)
         }
-        Prepared::Refused(r) => KeyAnswer::Refused(r),
+        Err(r) => Err(r),
     }
 }
 
 // Whether the stored key is the key of the identity and the picks.
-pub fn same_key(stored: &[u8], identity: &[u8], texts: &[u8], lengths: &[u32]) -> SameKey
+pub fn same_key(stored: &[u8], identity: &[u8], texts: &[u8], lengths: &[u32]) -> Result<bool, Refusal>
     ensures { result ≡ match_answer stored.now identity.now texts.now lengths.now }
 {
     let mut starts: [usize; STARTS] = [0; STARTS];
     let p = prepare(identity, texts, lengths, &mut starts);
     match p {
-        Prepared::Ready(n) => {
+        Ok(n) => {
             let end = n * FIELDS + 1;
             if match_key(stored, identity, texts, &starts[0..end], n) {
-                return SameKey::Same;
+                return Ok(true);
             }
-            SameKey::Other
+            Ok(false)
         }
-        Prepared::Refused(r) => SameKey::Refused(r),
+        Err(r) => Err(r),
     }
 }
 

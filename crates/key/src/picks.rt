@@ -199,35 +199,28 @@ pub(crate) fn sort_picks(texts: &[u8], starts: &[usize], n: usize, order: &mut [
     m
 }
 
-// How many picks were prepared, or the refusal.
-#[derive(Clone, Copy)]
-pub(crate) enum Prepared {
-    Ready(usize),
-    Refused(Refusal),
-}
-
 // Cuts the texts at their lengths and tests them and the identity: refusals 2 and 8.
 pub(crate) fn prepare(
     identity: &[u8],
     texts: &[u8],
     lengths: &[u32],
     starts: &mut [usize],
-) -> Prepared
+) -> Result<usize, Refusal>
     requires { length starts.old ≡ starts_size }
     ensures { Prepares identity.now texts.now lengths.now starts.new result }
 {
     if MAX_TEXTS < lengths.len() {
-        return Prepared::Refused(Refusal::Argument);
+        return Err(Refusal::Argument);
     }
     let n = (lengths.len() + LAST_FIELD) / FIELDS;
     let m = n * FIELDS;
     offsets_of(texts, lengths, m, starts);
     let end = m + 1;
     if !sizes_fit(texts, &starts[0..end], m) {
-        return Prepared::Refused(Refusal::Argument);
+        return Err(Refusal::Argument);
     }
     if MAX_IDENTITY < identity.len() {
-        return Prepared::Refused(Refusal::Identity);
+        return Err(Refusal::Identity);
     }
-    Prepared::Ready(n)
+    Ok(n)
 }

@@ -7,9 +7,7 @@ ghost use Rattle.key.specs.Steps.{Rising, pick_in, Below, Small};
 ghost use Rattle.key.specs.Order.{field_count};
 
 use crate::picks::{field, sort_picks};
-use crate::{
-    CODE_FIELD, FIELDS, IDENTITY_MARK, KeyAnswer, MAX_PICKS, NAME_FIELD, PREFIX_SIZE, STOP_FIELD,
-};
+use crate::{CODE_FIELD, FIELDS, IDENTITY_MARK, MAX_PICKS, NAME_FIELD, PREFIX_SIZE, STOP_FIELD};
 use base::number::BYTE_VALUES;
 use refusal::Refusal;
 
@@ -144,7 +142,7 @@ pub(crate) fn write_key(
     starts: &[usize],
     n: usize,
     out: &mut [u8],
-) -> KeyAnswer
+) -> Result<usize, Refusal>
     requires { Rising starts.now (length texts.now) × (n * field_count < length starts.now) × (n ≤ max_picks) × (length identity.now ≤ max_identity) × Small (pick_in texts.now starts.now) n }
     ensures { (result ≡ within (length out.old) (key_of identity.now (firsts n (pick_in texts.now starts.now)))) × (out.new ≡ after result (key_of identity.now (firsts n (pick_in texts.now starts.now))) out.old) }
 {
@@ -153,10 +151,10 @@ pub(crate) fn write_key(
     let sorted = &order[0..m];
     let total = key_length(identity, texts, starts, n, sorted);
     if out.len() < total {
-        return KeyAnswer::Refused(Refusal::Small);
+        return Err(Refusal::Small);
     }
     let at = put_prefix(out, identity);
     out[at] = (m % BYTE_VALUES) as u8;
     put_picks(out, at + 1, texts, starts, n, sorted);
-    KeyAnswer::Written(total)
+    Ok(total)
 }

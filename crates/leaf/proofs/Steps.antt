@@ -1,5 +1,5 @@
 -- What the functions return, stated over plain variables; each function's proof applies one of these to its own values.
-use Rattle.std.proofs.Common.{◌≡◌, ℕ, zero, suc, ◌+◌, ◌-◌, ◌*◌, ◌/◌, ◌%◌, ◌<◌, ◌≤◌, Bool, true, false, ◌&&◌, eqb, leb, List, [], ◌∷◌, length, get_or, drop, set, ℤ, sym, refl, ap, ◌∙◌, add-zero, arith, get_or-set_other, eqb-true, le-leb, leb-false, leb-true}
+use Rattle.std.proofs.Common.{◌≡◌, ℕ, zero, suc, ◌+◌, ◌-◌, ◌*◌, ◌/◌, ◌%◌, ◌<◌, ◌≤◌, Bool, true, false, ◌&&◌, eqb, leb, List, [], ◌∷◌, length, get_or, drop, set, ℤ, sym, refl, ap, ◌∙◌, add-zero, arith, get_or-set_other, eqb-true, le-leb, leb-false, leb-true, Some, None}
 use mathlib.Core.Bool.{and-true, and-false, and_assoc}
 use borrow.Author.Tests.{eqb-false, lt-leb}
 use lib.Dec.{leb-suc-zero}
@@ -9,7 +9,6 @@ use Rattle.leaf.specs.Bytes.{word, time, le32, le64, written}
 use Rattle.base.specs.Lists.{byte}
 use Rattle.leaf.specs.Date.{leap, month_days, is_date, new_date, date_number}
 use Rattle.leaf.specs.declared.date.Date.{Date}
-use Rattle.leaf.specs.declared.date.NewDate.TheVariants.{Made, InvalidDate}
 use Rattle.leaf.proofs.Laws.{written-sets, written_next, word-drop, length-le32}
 use Rattle.base.proofs.Bools.{and_left, and_right}
 
@@ -100,11 +99,11 @@ pub date-test : (y m d : ℕ) → (((leb 1 y && leb y 9999) && leb 1 d) && leb d
 unfolding is_date
 date-test y m d = test_by (leb 1 y && leb y 9999) y m d (leb 1 m && leb m 12) refl
 
-pub made : (y m d : ℕ) → is_date y m d ≡ true → Made (record { 0 = date_number y m d }) ≡ new_date y m d
+pub made : (y m d : ℕ) → is_date y m d ≡ true → Some (record { 0 = date_number y m d }) ≡ new_date y m d
 unfolding new_date
 made y m d e = rw e
 
-pub not_made : (y m d : ℕ) → is_date y m d ≡ false → InvalidDate ≡ new_date y m d
+pub not_made : (y m d : ℕ) → is_date y m d ≡ false → None ≡ new_date y m d
 unfolding new_date
 not_made y m d e = rw e
 
@@ -113,16 +112,16 @@ pub late : (y m d : ℕ) → 9999 < y → false ≡ is_date y m d
 unfolding is_date
 late y m d h = rw (lt-leb y 9999 h, and-false (leb 1 y))
 
-made_by : (y m d : ℕ) (t : Bool) → is_date y m d ≡ t → (x : Date) → new_date y m d ≡ Made x → true ≡ is_date y m d
+made_by : (y m d : ℕ) (t : Bool) → is_date y m d ≡ t → (x : Date) → new_date y m d ≡ Some x → true ≡ is_date y m d
 made_by y m d true e x p = sym e
-made_by y m d false e x p = let q : InvalidDate ≡ new_date y m d = not_made y m d e in cc
+made_by y m d false e x p = let q : None ≡ new_date y m d = not_made y m d e in cc
 
-pub made-is : (y m d : ℕ) (x : Date) → new_date y m d ≡ Made x → true ≡ is_date y m d
+pub made-is : (y m d : ℕ) (x : Date) → new_date y m d ≡ Some x → true ≡ is_date y m d
 made-is y m d x p = made_by y m d (is_date y m d) refl x p
 
-invalid-by : (y m d : ℕ) (t : Bool) → is_date y m d ≡ t → new_date y m d ≡ InvalidDate → false ≡ is_date y m d
-invalid-by y m d true e p = let q : Made (record { 0 = date_number y m d }) ≡ new_date y m d = made y m d e in cc
+invalid-by : (y m d : ℕ) (t : Bool) → is_date y m d ≡ t → new_date y m d ≡ None → false ≡ is_date y m d
+invalid-by y m d true e p = let q : Some (record { 0 = date_number y m d }) ≡ new_date y m d = made y m d e in cc
 invalid-by y m d false e p = sym e
 
-pub invalid-is : (y m d : ℕ) → new_date y m d ≡ InvalidDate → false ≡ is_date y m d
+pub invalid-is : (y m d : ℕ) → new_date y m d ≡ None → false ≡ is_date y m d
 invalid-is y m d p = invalid-by y m d (is_date y m d) refl p

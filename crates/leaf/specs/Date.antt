@@ -1,8 +1,7 @@
 -- Dates by the Gregorian rule.
-use Rattle.std.specs.Prelude.{◌≡◌, ℕ, ◌+◌, ◌-◌, ◌*◌, ◌/◌, ◌%◌, Bool, true, not, ◌&&◌, ◌||◌, List, [], ◌∷◌, ◌==◌, nat_le, slice_index}
+use Rattle.std.specs.Prelude.{◌≡◌, ℕ, ◌+◌, ◌-◌, ◌*◌, ◌/◌, ◌%◌, Bool, true, not, ◌&&◌, ◌||◌, List, [], ◌∷◌, ◌==◌, nat_le, slice_index, Some, None, Option}
 use Rattle.base.specs.Number.{pick}
-use Rattle.leaf.specs.declared.date.NewDate.{NewDate}
-use Rattle.leaf.specs.declared.date.NewDate.TheVariants.{Made, InvalidDate}
+use Rattle.leaf.specs.declared.date.Date.{Date}
 
 -- n divides y
 abbrev pub divides : ℕ → ℕ → Bool
@@ -40,8 +39,8 @@ abbrev pub date_number : ℕ → ℕ → ℕ → ℕ
 date_number y m d = y * year_weight + m * month_weight + d
 
 -- what Date::new answers: the date by its number, or that there is none
-unfoldable pub new_date : ℕ → ℕ → ℕ → NewDate
-new_date y m d = pick (is_date y m d) (Made (record { 0 = date_number y m d })) InvalidDate
+unfoldable pub new_date : ℕ → ℕ → ℕ → Option Date
+new_date y m d = pick (is_date y m d) (Some (record { 0 = date_number y m d })) None
 
 -- n is the number of a date
 unfoldable pub valid_date : ℕ → Bool

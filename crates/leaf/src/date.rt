@@ -18,13 +18,6 @@ const LAST_YEAR_32: u32 = LAST_YEAR as u32;
 
 const LAST_MONTH: u8 = 12;
 
-// What Date::new answers.
-#[derive(Clone, Copy)]
-pub enum NewDate {
-    Made(Date),
-    InvalidDate,
-}
-
 // Whether a year is a leap year.
 fn is_leap(year: u16) -> bool
     ensures { result ≡ leap year }
@@ -53,16 +46,16 @@ fn month_days(year: u16, month: u8) -> u8
 
 impl Date {
     // The date of a year, a month and a day, if there is one.
-    pub fn new(year: u16, month: u8, day: u8) -> NewDate
+    pub fn new(year: u16, month: u8, day: u8) -> Option<Date>
         ensures { result ≡ new_date year month day }
     {
         let days = month_days(year, month);
         if (1 <= year) & (year <= LAST_YEAR) & (1 <= day) & (day <= days) {
-            NewDate::Made(Date(
+            Some(Date(
                 (year as u32) * YEAR_WEIGHT + (month as u32) * MONTH_WEIGHT + (day as u32),
             ))
         } else {
-            NewDate::InvalidDate
+            None
         }
     }
 }
@@ -82,8 +75,8 @@ pub fn valid_date(d: u32) -> bool
         (d % MONTH_WEIGHT) as u8,
     );
     match made {
-        NewDate::Made(_) => true,
-        NewDate::InvalidDate => false,
+        Some(_) => true,
+        None => false,
     }
 }
 

@@ -22,6 +22,7 @@ use Rattle.writer.specs.declared.Answer.TheVariants.{Done, Appended}
 use Rattle.region.specs.Region.{capacity}
 use Rattle.base.specs.Table.{last_table}
 use Rattle.header.specs.Header.{max_sources}
+use Rattle.std.specs.Prelude.{Ok}
 
 module _ (w : Writer) (s : Source) where
   pub source-done : (may_append w && not (is_open w.tables)) ≡ true → w.tables.count < max_sources → did (with_source w s) ≡ source_step w s
@@ -38,7 +39,7 @@ module _ (w : Writer) (s : Source) where
 
   -- the next source has the record
   pub source-begun : w.tables.count < max_sources → record {
-    answer = Done;
+    answer = (Ok Done);
     writer = record {
       stage = w.stage;
       beginning = w.beginning;
@@ -82,7 +83,7 @@ module _ (w : Writer) where
 
   -- the last source has the block
   pub end-ended : has_source_and_table w.tables ≡ true → record {
-    answer = Done;
+    answer = (Ok Done);
     writer = record {
       stage = w.stage;
       beginning = w.beginning;
@@ -117,13 +118,13 @@ module _ (w : Writer) (xs : List ℕ) where
   bytes-turn e = rw e
 
 module _ (w : Writer) (xs : List ℕ) where
-  pub appended-none : is_due w.contents ≡ true → record { answer = Appended 0; writer = w } ≡ appended w xs
+  pub appended-none : is_due w.contents ≡ true → record { answer = Ok (Appended 0); writer = w } ≡ appended w xs
   unfolding appended
   appended-none e = rw e
 
-  pub appended-some : (n : ℕ) (v : Writer) → is_due w.contents ≡ false → n ≡ accepted w.contents (length xs) → v ≡ with_bytes w (take n xs) → record { answer = Appended n; writer = v } ≡ appended w xs
+  pub appended-some : (n : ℕ) (v : Writer) → is_due w.contents ≡ false → n ≡ accepted w.contents (length xs) → v ≡ with_bytes w (take n xs) → record { answer = Ok (Appended n); writer = v } ≡ appended w xs
   unfolding appended
-  appended-some n v e h k = rw (e, ← h) (ap (λ (x : Writer). record { answer = Appended n; writer = x }) k)
+  appended-some n v e h k = rw (e, ← h) (ap (λ (x : Writer). record { answer = Ok (Appended n); writer = x }) k)
 
 -- the tail and the position of a state that may append
 pub takes-fits : (w : Writer) → may_append w ≡ true → (w.contents.fill ≤ tail_size) × (position w.contents ≤ capacity)

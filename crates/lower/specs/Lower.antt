@@ -1,5 +1,5 @@
 -- The lower layer's calls that do no flash operation: begin, source, table, bytes, table end, close.
-use Rattle.std.specs.Prelude.{Bool, true, false, not, ◌&&◌, ◌||◌, List, [], ℕ, ◌+◌, ◌-◌, ◌^◌, min, leb, ltb, eqb, ℤ, pos, length, take, set, get_or}
+use Rattle.std.specs.Prelude.{Bool, true, false, not, ◌&&◌, ◌||◌, List, [], ℕ, ◌+◌, ◌-◌, ◌^◌, min, leb, ltb, eqb, ℤ, pos, length, take, set, get_or, Ok, Err, Some, None, Result, Option}
 use Rattle.std.specs.Int.Bits.{bit_or}
 use Rattle.std.proofs.lemmas.List.Edits.{sets}
 use Rattle.base.specs.Number.{pick}
@@ -11,26 +11,26 @@ use Rattle.record.specs.Record.{no_block, no_source}
 use Rattle.header.specs.Header.{max_sources}
 use Rattle.base.specs.Lists.{fill}
 use Rattle.region.specs.Region.{capacity}
-use Rattle.bank.specs.declared.Loaded.{Loaded}
-use Rattle.bank.specs.declared.Loaded.TheVariants.{Found, Nothing, Refused as NotRead}
 use Rattle.bank.specs.Bank.{loaded}
 use Rattle.writer.specs.declared.Stage.TheVariants.{Idle}
 use Rattle.writer.specs.declared.Contents.{Contents}
 use Rattle.writer.specs.declared.Tables.{Tables}
 use Rattle.writer.specs.declared.Writer.{Writer}
-use Rattle.writer.specs.declared.Answer.{Answer}
-use Rattle.writer.specs.declared.Answer.TheVariants.{Done, Appended, Refused}
+use Rattle.writer.specs.declared.Answer.TheVariants.{Done, Appended}
 use Rattle.writer.specs.declared.Step.{Step}
 use Rattle.writer.specs.State.{did, stays, tail_size, position, is_due, stage_of, no_table, is_open, begun_in, in_range}
 use Rattle.base.specs.Table.{max_tables, last_table}
+use Rattle.refusal.specs.declared.Refusal.{Refusal}
+use Rattle.header.specs.declared.Bank.{Bank}
+use Rattle.writer.specs.declared.Answer.{Answer}
 
 -- Begin loads the region. The only refusal is 1, and then every call on the state meets 11.
-abbrev pub answer_of : Loaded → Answer
-answer_of (Found b) = Done
-answer_of Nothing = Done
-answer_of (NotRead r) = Refused r
+abbrev pub answer_of : Result (Option Bank) Refusal → Result Answer Refusal
+answer_of (Ok (Some b)) = Ok Done
+answer_of (Ok None) = Ok Done
+answer_of (Err r) = Err r
 
-unfoldable pub started : Loaded → Bool → ℤ → Writer
+unfoldable pub started : Result (Option Bank) Refusal → Bool → ℤ → Writer
 started active comparing now =
     record {
       stage = Idle;
@@ -124,8 +124,8 @@ with_bytes w xs =
 unfoldable pub appended : Writer → List ℕ → Step
 appended w xs =
     pick (is_due w.contents)
-    (record { answer = Appended 0; writer = w })
-    (record { answer = Appended (accepted w.contents (length xs)); writer = with_bytes w (take (accepted w.contents (length xs)) xs) })
+    (record { answer = Ok (Appended 0); writer = w })
+    (record { answer = Ok (Appended (accepted w.contents (length xs))); writer = with_bytes w (take (accepted w.contents (length xs)) xs) })
 
 unfoldable pub bytes_step : Writer → List ℕ → Step
 bytes_step w xs =

@@ -1,5 +1,5 @@
 // The lower layer's append: bytes are put into the tail until it is full.
-ghost use Rattle.std.specs.Prelude.{◌≡◌, List, ℕ, ◌+◌, ◌≤◌, length, take};
+ghost use Rattle.std.specs.Prelude.{◌≡◌, List, ℕ, ◌+◌, ◌≤◌, length, take, Ok};
 ghost use Rattle.std.proofs.lemmas.List.Edits.{sets};
 ghost use Rattle.record.specs.declared.Source.{Source};
 ghost use Rattle.writer.specs.Parts.{whole_of, step_with};
@@ -32,7 +32,7 @@ fn put_tail(tail: &mut [u8; TAIL_SIZE], at: usize, bytes: &[u8])
 // The answer, how many bytes are appended and at which offset of the tail, and what else they change.
 #[derive(Clone, Copy)]
 struct Appended {
-    answer: Answer,
+    answer: Result<Answer, Refusal>,
     n: usize,
     at: usize,
     stage: Stage,
@@ -41,7 +41,7 @@ struct Appended {
 }
 
 // No byte is appended.
-fn none_appended(p: Parts, answer: Answer) -> Appended
+fn none_appended(p: Parts, answer: Result<Answer, Refusal>) -> Appended
     ensures { result ≡ record { answer = answer; n = 0; at = 0; stage = p.stage; contents = p.contents; tables = p.tables } }
 {
     let stage = p.stage;
@@ -60,7 +60,7 @@ fn none_appended(p: Parts, answer: Answer) -> Appended
 // The first n bytes are appended.
 fn first_appended(b: Beginning, p: Parts, bytes: &[u8], n: usize) -> Appended
     requires { (n ≤ length bytes.now) × (p.contents.fill + n ≤ tail_size) }
-    ensures { (result.answer ≡ Answers.Appended n) × (result.n ≡ n) × (result.at + result.n ≤ tail_size) × ((ss : List Source) (tail : List ℕ) → whole_of b (parts_appended result) ss (tail_appended result bytes.now tail) ≡ Lower.with_bytes (whole_of b p ss tail) (take n bytes.now)) }
+    ensures { (result.answer ≡ Ok (Answers.Appended n)) × (result.n ≡ n) × (result.at + result.n ≤ tail_size) × ((ss : List Source) (tail : List ℕ) → whole_of b (parts_appended result) ss (tail_appended result bytes.now tail) ≡ Lower.with_bytes (whole_of b p ss tail) (take n bytes.now)) }
 {
     let t = p.contents;
     let x = p.tables;
@@ -74,7 +74,7 @@ fn first_appended(b: Beginning, p: Parts, bytes: &[u8], n: usize) -> Appended
     let tables = Tables { crc: crcs.b, ..x };
     let stage = stage_of(b.comparing, contents);
     Appended {
-        answer: Answer::Appended(n as u32),
+        answer: Ok(Answer::Appended(n as u32)),
         n,
         at: t.fill as usize,
         stage,
@@ -88,7 +88,7 @@ fn append_some(b: Beginning, p: Parts, bytes: &[u8]) -> Appended
     ensures { (result.n ≤ length bytes.now) × (result.at + result.n ≤ tail_size) × ((ss : List Source) (tail : List ℕ) → step_with b (step_appended result) ss (tail_appended result bytes.now tail) ≡ Lower.appended (whole_of b p ss tail) bytes.now) }
 {
     if is_due(p.contents) {
-        return none_appended(p, Answer::Appended(0));
+        return none_appended(p, Ok(Answer::Appended(0)));
     }
     let n = accepted(p.contents, bytes.len());
     first_appended(b, p, bytes, n)
@@ -99,11 +99,11 @@ fn append_any(b: Beginning, p: Parts, offered: &[u8]) -> Appended
 {
     let t = p.contents;
     if !may_append_parts(b, p) {
-        return none_appended(p, Answer::Refused(Refusal::Turn));
+        return none_appended(p, Err(Refusal::Turn));
     }
     let free = CAPACITY - (t.written + t.fill) as usize;
     if free < offered.len() {
-        return none_appended(p, Answer::Refused(Refusal::Full));
+        return none_appended(p, Err(Refusal::Full));
     }
     append_some(b, p, offered)
 }

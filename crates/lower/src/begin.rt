@@ -5,8 +5,8 @@ ghost use Rattle.writer.specs.Parts.{whole_of, step_with};
 ghost use Rattle.lower.specs.Lower as Lower;
 
 use crate::{is_open, may_append_parts};
-use bank::{Loaded, load};
-use header::SOURCES;
+use bank::load;
+use header::{Bank, SOURCES};
 use record::no_source;
 use refusal::Refusal;
 use writer::{
@@ -15,7 +15,7 @@ use writer::{
 };
 
 // The state of an update that begins.
-pub fn started(active: Loaded, comparing: bool, now: i64) -> Writer
+pub fn started(active: Result<Option<Bank>, Refusal>, comparing: bool, now: i64) -> Writer
     ensures { result ≡ Lower.started active comparing now }
 {
     let z = no_source();
@@ -47,13 +47,13 @@ pub fn started(active: Loaded, comparing: bool, now: i64) -> Writer
     }
 }
 
-fn answer_of(l: Loaded) -> Answer
+fn answer_of(l: Result<Option<Bank>, Refusal>) -> Result<Answer, Refusal>
     ensures { result ≡ Lower.answer_of l }
 {
     match l {
-        Loaded::Found(_) => Answer::Done,
-        Loaded::Nothing => Answer::Done,
-        Loaded::Refused(r) => Answer::Refused(r),
+        Ok(Some(_)) => Ok(Answer::Done),
+        Ok(None) => Ok(Answer::Done),
+        Err(r) => Err(r),
     }
 }
 

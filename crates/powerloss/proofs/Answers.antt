@@ -3,7 +3,6 @@
 -- is appended then, if the capacity holds it. By induction on the bytes.
 use mathlib.Core.Path.{◌≡◌, refl, sym, ap, ◌∙◌, subst}
 use mathlib.Core.Bool.{Bool, true, false, not, false≢true, and-false}
-use mathlib.Core.Option.{Option, none, some}
 use mathlib.Core.List.{List, [], ◌∷◌, ◌++◌}
 use Prim.Native.Nat.{ℕ, zero, suc, ◌+◌, ◌-◌, ◌/◌, ◌%◌, ◌≤◌, ◌<◌}
 use native.Mathlib.Omega.{arith}
@@ -21,7 +20,6 @@ use Rattle.key.proofs.Longest.{longest}
 use Rattle.record.specs.declared.Source.{Source}
 use Rattle.region.specs.Region.{region_size, capacity, sector_size}
 use Rattle.header.specs.Header.{max_sources}
-use Rattle.bank.specs.declared.Loaded.{Loaded}
 use Rattle.bank.specs.Bank.{loaded}
 use Rattle.bank.proofs.Laws.{load-no-region}
 use Rattle.flash.specs.Flash.{Op, performed}
@@ -47,6 +45,8 @@ use Rattle.powerloss.specs.Ranges.{is_refused, NoneRefused, Keeps, Answers}
 use Rattle.powerloss.proofs.Load.{active-ok, target_fits}
 use Rattle.powerloss.proofs.Range.{range-of, tables-none, headed-end, committed-end, idle-due, idle-free}
 use Rattle.powerloss.proofs.Keeps.{keeps-source, keeps-table, keeps-end, keeps-bytes, keeps-closed, keeps-call, keeps-run}
+use Rattle.std.specs.Prelude.{Ok, Result, Some, None, Option}
+use Rattle.header.specs.declared.Bank.{Bank}
 
 -- a region of its size and a state within its ranges
 pub record Fit (region : List ℕ) (w : Writer) : Type 0 where
@@ -169,15 +169,15 @@ after-three region w f =
 -- ---- a byte
 
 appended_one : (x : ℕ) (w : Writer) (a f d : Bool) (n : ℕ) → a ≡ true → f ≡ true → d ≡ false → n ≡ 1
-    → pick {A = Step} a (pick f (pick d (record { answer = Appended 0; writer = w }) (record { answer = Appended n; writer = with_bytes w (take n (x ∷ [])) })) (stays w Full)) (stays w Turn)
-    ≡ record { answer = Appended 1; writer = with_bytes w (x ∷ []) }
+    → pick {A = Step} a (pick f (pick d (record { answer = Ok (Appended 0); writer = w }) (record { answer = Ok (Appended n); writer = with_bytes w (take n (x ∷ [])) })) (stays w Full)) (stays w Turn)
+    ≡ record { answer = Ok (Appended 1); writer = with_bytes w (x ∷ []) }
 appended_one x w a f d n p q r s = rw (p, q, r, s)
 
 pub may-append : (w : Writer) → in_range w ≡ true → w.contents.closed ≡ false → may_append w ≡ true
 may-append w r e = rw (r, e)
 
 pub byte_step : (region : List ℕ) (w : Writer) (x : ℕ) → Fit region w → w.contents.closed ≡ false → is_due w.contents ≡ false → position w.contents + 1 ≤ capacity
-    → bytes_step w (x ∷ []) ≡ record { answer = Appended 1; writer = with_bytes w (x ∷ []) }
+    → bytes_step w (x ∷ []) ≡ record { answer = Ok (Appended 1); writer = with_bytes w (x ∷ []) }
 unfolding bytes_step appended
 byte_step region w x f e d p =
     appended_one x w (may_append w) (leb (position w.contents + 1) capacity) (is_due w.contents) (accepted w.contents 1) (may-append w f.range e) (le-leb (position w.contents + 1) capacity p) d
@@ -247,7 +247,7 @@ appends-answered (x ∷ xs) region w f e d p =
     let free = idle-free w.contents d (ranged w f.range).contents in
     let f1 : Fit region w1 = record { size = f.size; range = keeps-bytes w f.range (x ∷ []) e (omega arith) (omega arith) } in
     let t = after-three region w1 f1 in
-    answered-call region w (bytes (x ∷ [])) (dues ++ appends xs) (record { answer = Appended 1; writer = w1 }) (unfold lower_step in s) (unfold lower_ops in refl) refl
+    answered-call region w (bytes (x ∷ [])) (dues ++ appends xs) (record { answer = Ok (Appended 1); writer = w1 }) (unfold lower_step in s) (unfold lower_ops in refl) refl
     (dues-answered region w1 (appends xs) f1
     (appends-answered xs (region_three region w1) (writer_three region w1) t.fit (t.closed ∙ bytes-closed w (x ∷ []) ∙ e) t.still (omega (arith, t.position·, bytes-position w x))))
 
@@ -266,22 +266,22 @@ pub record Accepted (region : List ℕ) (w : Writer) (c : Upper) : Type 0 where
   pub fits : all_fits w c ≡ true
 
 abbrev is_some : Option Refusal → Bool
-is_some none = false
-is_some (some r) = true
+is_some None = false
+is_some (Some r) = true
 
-pick-none : (t : Bool) (x : Option Refusal) (r : Refusal) → pick t x (some r) ≡ none → (t ≡ true) × (x ≡ none)
+pick-none : (t : Bool) (x : Option Refusal) (r : Refusal) → pick t x (Some r) ≡ None → (t ≡ true) × (x ≡ None)
 pick-none true x r e = (refl, e)
 pick-none false x r e = absurd (false≢true (sym (ap is_some e)))
 
-pub accepted-by : (region : List ℕ) (w : Writer) (c : Upper) → refusal_of region w c ≡ none → Accepted region w c
+pub accepted-by : (region : List ℕ) (w : Writer) (c : Upper) → refusal_of region w c ≡ None → Accepted region w c
 unfolding refusal_of
 accepted-by region w c e =
-    let f = pick-none (all_fits w c) none Full in
-    let d = pick-none (row_ok w c) (pick (all_fits w c) none (some Full)) Row in
-    let b = pick-none (order_ok w c) (pick (row_ok w c) (pick (all_fits w c) none (some Full)) (some Row)) Turn in
-    let a = pick-none (argument_ok c) (pick (order_ok w c) (pick (row_ok w c) (pick (all_fits w c) none (some Full)) (some Row)) (some Turn)) Argument in
+    let f = pick-none (all_fits w c) None Full in
+    let d = pick-none (row_ok w c) (pick (all_fits w c) None (Some Full)) Row in
+    let b = pick-none (order_ok w c) (pick (row_ok w c) (pick (all_fits w c) None (Some Full)) (Some Row)) Turn in
+    let a = pick-none (argument_ok c) (pick (order_ok w c) (pick (row_ok w c) (pick (all_fits w c) None (Some Full)) (Some Row)) (Some Turn)) Argument in
     let z = pick-none (eqb (length region) region_size)
-    (pick (argument_ok c) (pick (order_ok w c) (pick (row_ok w c) (pick (all_fits w c) none (some Full)) (some Row)) (some Turn)) (some Argument)) Region e in
+    (pick (argument_ok c) (pick (order_ok w c) (pick (row_ok w c) (pick (all_fits w c) None (Some Full)) (Some Row)) (Some Turn)) (Some Argument)) Region e in
     let za = a z.1 in
     let zb = b za.1 in
     let zd = d zb.1 in
@@ -419,20 +419,20 @@ record Ended (region : List ℕ) (w : Writer) (cs : List Lower) (s : Step) : Typ
   nothing : is_due s.writer.contents ≡ false
   none· : NoneRefused region w cs
 
-upper_by : (region : List ℕ) (w : Writer) (c : Upper) (x : Option Refusal) → refusal_of region w c ≡ x → (answered x (ran_writer region w (run_if x (run_of c)))).answer ≡ Done
+upper_by : (region : List ℕ) (w : Writer) (c : Upper) (x : Option Refusal) → refusal_of region w c ≡ x → (answered x (ran_writer region w (run_if x (run_of c)))).answer ≡ Ok Done
     → Ended region w (run_if x (run_of c)) (answered x (ran_writer region w (run_if x (run_of c))))
-upper_by region w c none e f =
+upper_by region w c None e f =
     let z = run-answered region w c (accepted-by region w c e) in
     record { nothing = z.still; none· = z.none· }
-upper_by region w c (some r) e f = absurd (false≢true (ap is_done f))
+upper_by region w c (Some r) e f = absurd (false≢true (ap is_done f))
 
-upper-ended : (region : List ℕ) (w : Writer) (c : Upper) → (upper_step region w c).answer ≡ Done → Ended region w (upper_run region w c) (upper_step region w c)
+upper-ended : (region : List ℕ) (w : Writer) (c : Upper) → (upper_step region w c).answer ≡ Ok Done → Ended region w (upper_run region w c) (upper_step region w c)
 unfolding upper_step upper_run
 upper-ended region w c = upper_by region w c (refusal_of region w c) refl
 
 keeps-by : (region : List ℕ) (w : Writer) (cs : List Lower) (x : Option Refusal) → in_range w ≡ true → in_range (answered x (ran_writer region w cs)).writer ≡ true
-keeps-by region w cs none r = keeps-run cs region w r
-keeps-by region w cs (some q) r = keeps-run cs region w r
+keeps-by region w cs None r = keeps-run cs region w r
+keeps-by region w cs (Some q) r = keeps-run cs region w r
 
 keeps-upper : (region : List ℕ) (w : Writer) (c : Upper) → in_range w ≡ true → in_range (upper_step region w c).writer ≡ true
 unfolding upper_step
@@ -440,28 +440,28 @@ keeps-upper region w c = keeps-by region w (upper_run region w c) (refusal_of re
 
 -- ---- a beginning
 
-pub started-range : (hd : Loaded) (comparing : Bool) (now : ℤ) → active_ok hd ≡ true → in_range (started hd comparing now) ≡ true
+pub started-range : (hd : Result (Option Bank) Refusal) (comparing : Bool) (now : ℤ) → active_ok hd ≡ true → in_range (started hd comparing now) ≡ true
 unfolding started contents_ok stage_ok is_due
 started-range hd comparing now ok = range-of (started hd comparing now) ok refl (tables-none 0 (started hd comparing now).tables (omega arith) refl) refl
 
 -- a beginning that is answered has a region of its size
-read-size : (region : List ℕ) (z : Bool) → eqb (length region) region_size ≡ z → answer_of (loaded region) ≡ Done → length region ≡ region_size
+read-size : (region : List ℕ) (z : Bool) → eqb (length region) region_size ≡ z → answer_of (loaded region) ≡ Ok Done → length region ≡ region_size
 read-size region true z e = eqb-true (length region) region_size z
 read-size region false z e = absurd (false≢true (ap is_done (ap answer_of (load-no-region region z) ∙ e)))
 
 fit-started : (region : List ℕ) (comparing : Bool) (now : ℤ) → length region ≡ region_size → Fit region (started (loaded region) comparing now)
 fit-started region comparing now l = record { size = l; range = started-range (loaded region) comparing now (active-ok region (loaded region) l refl) }
 
-keeps-beginning : (region : List ℕ) (comparing : Bool) (now : ℤ) → (begun region comparing now).answer ≡ Done → in_range (begun region comparing now).writer ≡ true
+keeps-beginning : (region : List ℕ) (comparing : Bool) (now : ℤ) → (begun region comparing now).answer ≡ Ok Done → in_range (begun region comparing now).writer ≡ true
 unfolding begun
 keeps-beginning region comparing now e = (fit-started region comparing now (read-size region (eqb (length region) region_size) refl e)).range
 
-pub key_fits : (region identity texts lengths : List ℕ) → begin_refusal region identity texts lengths ≡ none → (length region ≡ region_size) × (length (key_bytes identity texts lengths) ≤ capacity)
+pub key_fits : (region identity texts lengths : List ℕ) → begin_refusal region identity texts lengths ≡ None → (length region ≡ region_size) × (length (key_bytes identity texts lengths) ≤ capacity)
 unfolding begin_refusal
 key_fits region identity texts lengths e =
-    let z = pick-none (eqb (length region) region_size) (pick (Key.fit texts lengths) (pick (leb (length identity) 65535) none (some Identity)) (some Argument)) Region e in
-    let a = pick-none (Key.fit texts lengths) (pick (leb (length identity) 65535) none (some Identity)) Argument z.1 in
-    let b = pick-none (leb (length identity) 65535) none Identity a.1 in
+    let z = pick-none (eqb (length region) region_size) (pick (Key.fit texts lengths) (pick (leb (length identity) 65535) None (Some Identity)) (Some Argument)) Region e in
+    let a = pick-none (Key.fit texts lengths) (pick (leb (length identity) 65535) None (Some Identity)) Argument z.1 in
+    let b = pick-none (leb (length identity) 65535) None Identity a.1 in
     (eqb-true (length region) region_size z.0, omega (arith, longest identity texts lengths a.0 (leb-true (length identity) 65535 b.0)))
 
 -- the key's run
@@ -472,20 +472,20 @@ module _ (region : List ℕ) (comparing : Bool) (now : ℤ) (identity texts leng
   abbrev w0 : Writer
   w0 = started (loaded region) comparing now
 
-  key-answered : begin_refusal region identity texts lengths ≡ none → Answered region w0 (appends key)
+  key-answered : begin_refusal region identity texts lengths ≡ None → Answered region w0 (appends key)
   unfolding started is_due
   key-answered e =
       let f = key_fits region identity texts lengths e in
       appends-answered key region w0 (fit-started region comparing now f.0) refl refl (omega (arith, f.1))
 
-  key-by : (x : Option Refusal) → begin_refusal region identity texts lengths ≡ x → (began_with x (ran_writer region w0 (run_if x (appends key))) comparing now).answer ≡ Done
+  key-by : (x : Option Refusal) → begin_refusal region identity texts lengths ≡ x → (began_with x (ran_writer region w0 (run_if x (appends key))) comparing now).answer ≡ Ok Done
       → Ended region w0 (run_if x (appends key)) (began_with x (ran_writer region w0 (run_if x (appends key))) comparing now) × (in_range (began_with x (ran_writer region w0 (run_if x (appends key))) comparing now).writer ≡ true)
-  key-by none e f =
+  key-by None e f =
       let z = key-answered e in
       (record { nothing = z.still; none· = z.none· }, keeps-run (appends key) region w0 (fit-started region comparing now (key_fits region identity texts lengths e).0).range)
-  key-by (some r) e f = absurd (false≢true (ap is_done f))
+  key-by (Some r) e f = absurd (false≢true (ap is_done f))
 
-  key_ended : (begin_step region comparing now identity texts lengths).answer ≡ Done
+  key_ended : (begin_step region comparing now identity texts lengths).answer ≡ Ok Done
       → Ended region w0 (begin_run region identity texts lengths) (begin_step region comparing now identity texts lengths) × (in_range (begin_step region comparing now identity texts lengths).writer ≡ true)
   unfolding begin_step begin_run
   key_ended = key-by (begin_refusal region identity texts lengths) refl

@@ -17,7 +17,6 @@ use Rattle.refusal.specs.declared.Refusal.TheVariants.{Full, Turn}
 use Rattle.region.specs.Region.{capacity}
 use Rattle.base.proofs.Bools.{and_left, and_right}
 use Rattle.header.specs.Types.{Bytes}
-use Rattle.bank.specs.declared.Loaded.{Loaded}
 use Rattle.writer.specs.declared.Stage.{Stage}
 use Rattle.writer.specs.declared.Stage.TheVariants.{Idle, Due, HeaderWritten, Committed}
 use Rattle.writer.specs.declared.Operation.TheVariants.{Erase, Write, Compare}
@@ -35,6 +34,9 @@ use Rattle.powerloss.proofs.Inv.{Lies, Mode, Open}
 use Rattle.powerloss.proofs.Keeps.{keeps-bytes, keeps-closed}
 use Rattle.powerloss.proofs.Range.{open-aligned, true-false}
 use Rattle.powerloss.proofs.Quiet.{only-idle, mode-stage, with_appended-nil}
+use Rattle.std.specs.Prelude.{Ok, Result, Option}
+use Rattle.refusal.specs.declared.Refusal.{Refusal}
+use Rattle.header.specs.declared.Bank.{Bank}
 
 -- the tail once bytes are appended to what it holds
 tail_more : (tail : List ℕ) (n : ℕ) (ys : List ℕ) → n + length ys ≤ length tail → take (n + length ys) (sets tail n ys) ≡ take n tail ++ ys
@@ -69,7 +71,7 @@ idle-more t tail u b ys l (inr h) =
       h.1,
     )
 
-mode-more : (c : Bool) (st : Stage) (region : List ℕ) (hd active : Loaded) (t : Contents) (tail : List ℕ) (u : Update) (ys : List ℕ) → st ≡ Idle → t.fill + length ys ≤ length tail
+mode-more : (c : Bool) (st : Stage) (region : List ℕ) (hd active : Result (Option Bank) Refusal) (t : Contents) (tail : List ℕ) (u : Update) (ys : List ℕ) → st ≡ Idle → t.fill + length ys ≤ length tail
     → Mode c st region hd active t tail u → Mode c Idle region hd active (more_contents t ys) (sets tail t.fill ys) (with_appended ys u)
 mode-more true st region hd active t tail u ys e l h =
     let g = h.1 in
@@ -87,11 +89,11 @@ close-lies t tail u b (Due (Compare i j)) h = h
 close-lies t tail u b HeaderWritten h = h
 close-lies t tail u b Committed h = h
 
-mode-closed : (c : Bool) (st : Stage) (region : List ℕ) (hd active : Loaded) (t : Contents) (tail : List ℕ) (u : Update) → Mode c st region hd active t tail u → Mode c st region hd active (closed_contents t) tail u
+mode-closed : (c : Bool) (st : Stage) (region : List ℕ) (hd active : Result (Option Bank) Refusal) (t : Contents) (tail : List ℕ) (u : Update) → Mode c st region hd active t tail u → Mode c st region hd active (closed_contents t) tail u
 mode-closed true st region hd active t tail u h = h
 mode-closed false st region hd active t tail u h = (h.0, close-lies t tail u _ st h.1)
 
-module _ (region : List ℕ) (hd : Loaded) (w : Writer) (u : Update) (o : Open region hd w u) where
+module _ (region : List ℕ) (hd : Result (Option Bank) Refusal) (w : Writer) (u : Update) (o : Open region hd w u) where
   own : Ranged w
   own = ranged w o.tied.range
 
@@ -152,8 +154,8 @@ module _ (region : List ℕ) (hd : Loaded) (w : Writer) (u : Update) (o : Open r
   none-appended = subst (Open region hd w) (sym (with_appended-nil u)) o
 
   appended-by : (xs : List ℕ) → Bytes xs → w.contents.closed ≡ false → position w.contents + length xs ≤ capacity → (n : ℕ) → n ≡ accepted w.contents (length xs) → (d : Bool) → is_due w.contents ≡ d
-      → Open region hd (pick {A = Step} d (record { answer = Appended 0; writer = w }) (record { answer = Appended n; writer = with_bytes w (take n xs) })).writer
-      (update_after (bytes xs) (pick {A = Step} d (record { answer = Appended 0; writer = w }) (record { answer = Appended n; writer = with_bytes w (take n xs) })).answer u)
+      → Open region hd (pick {A = Step} d (record { answer = Ok (Appended 0); writer = w }) (record { answer = Ok (Appended n); writer = with_bytes w (take n xs) })).writer
+      (update_after (bytes xs) (pick {A = Step} d (record { answer = Ok (Appended 0); writer = w }) (record { answer = Ok (Appended n); writer = with_bytes w (take n xs) })).answer u)
   unfolding update_after
   appended-by xs b e p n r true d = none-appended
   appended-by xs b e p n r false d =

@@ -9,10 +9,8 @@ use lib.ListN.{length}
 use Rattle.record.specs.declared.Source.{Source}
 use Rattle.region.specs.Region.{capacity}
 use Rattle.header.specs.Types.{Bytes}
-use Rattle.bank.specs.declared.Loaded.{Loaded}
 use Rattle.flash.specs.Flash.{performed}
-use Rattle.writer.specs.declared.Answer.{Answer}
-use Rattle.writer.specs.declared.Answer.TheVariants.{Done, Appended, NoneDue, Same, Different, Refused}
+use Rattle.writer.specs.declared.Answer.TheVariants.{Done, Appended, NoneDue, Same, Different}
 use Rattle.writer.specs.declared.Writer.{Writer}
 use Rattle.writer.specs.declared.Step.{Step}
 use Rattle.writer.specs.State.{position, is_due}
@@ -30,23 +28,27 @@ use Rattle.powerloss.proofs.AppendBytes.{with-bytes}
 use Rattle.powerloss.proofs.Answers.{Fit, region_after, writer_after, region_three, writer_three, AfterThree, after-three, byte_step, bytes-closed, bytes-position}
 use Rattle.powerloss.proofs.Lowers.{plain-call}
 use Rattle.powerloss.proofs.Runs.{ran_update}
+use Rattle.std.specs.Prelude.{Ok, Err, Result, Option}
+use Rattle.refusal.specs.declared.Refusal.{Refusal}
+use Rattle.header.specs.declared.Bank.{Bank}
+use Rattle.writer.specs.declared.Answer.{Answer}
 
-pub record Now (hd : Loaded) (rs : List Source) (im : Image) (region : List ℕ) (w : Writer) (u : Update) : Type 0 where
+pub record Now (hd : Result (Option Bank) Refusal) (rs : List Source) (im : Image) (region : List ℕ) (w : Writer) (u : Update) : Type 0 where
   pub kept : Kept region hd rs im
   pub open· : Open region hd w u
 
 -- ---- due calls
 
-due-nothing : (x : Answer) (u : Update) → update_after due x u ≡ u
+due-nothing : (x : Result Answer Refusal) (u : Update) → update_after due x u ≡ u
 unfolding update_after
-due-nothing Done u = refl
-due-nothing (Appended n) u = refl
-due-nothing NoneDue u = refl
-due-nothing Same u = refl
-due-nothing Different u = refl
-due-nothing (Refused r) u = refl
+due-nothing (Ok Done) u = refl
+due-nothing (Ok (Appended n)) u = refl
+due-nothing (Ok NoneDue) u = refl
+due-nothing (Ok Same) u = refl
+due-nothing (Ok Different) u = refl
+due-nothing (Err r) u = refl
 
-module _ (hd : Loaded) (rs : List Source) (im : Image) where
+module _ (hd : Result (Option Bank) Refusal) (rs : List Source) (im : Image) where
   due-now : (region : List ℕ) (w : Writer) (u : Update) → Now hd rs im region w u → Now hd rs im (region_after region w) (writer_after region w) u
   due-now region w u h =
       let z = plain-call region hd rs im w u h.kept h.open· due tt in
@@ -56,14 +58,14 @@ module _ (hd : Loaded) (rs : List Source) (im : Image) where
       }
 
 -- three of them
-pub record Three (hd : Loaded) (rs : List Source) (im : Image) (region : List ℕ) (w : Writer) (u : Update) : Type 0 where
+pub record Three (hd : Result (Option Bank) Refusal) (rs : List Source) (im : Image) (region : List ℕ) (w : Writer) (u : Update) : Type 0 where
   pub now : Now hd rs im (region_three region w) (writer_three region w) u
   pub after : AfterThree region w
 
-pub fit-now : (hd : Loaded) (rs : List Source) (im : Image) (region : List ℕ) (w : Writer) (u : Update) → Now hd rs im region w u → Fit region w
+pub fit-now : (hd : Result (Option Bank) Refusal) (rs : List Source) (im : Image) (region : List ℕ) (w : Writer) (u : Update) → Now hd rs im region w u → Fit region w
 fit-now hd rs im region w u h = record { size = h.kept.size; range = h.open·.tied.range }
 
-pub three : (hd : Loaded) (rs : List Source) (im : Image) (region : List ℕ) (w : Writer) (u : Update) → Now hd rs im region w u → Three hd rs im region w u
+pub three : (hd : Result (Option Bank) Refusal) (rs : List Source) (im : Image) (region : List ℕ) (w : Writer) (u : Update) → Now hd rs im region w u → Three hd rs im region w u
 three hd rs im region w u h =
     let h1 = due-now hd rs im region w u h in
     let h2 = due-now hd rs im (region_after region w) (writer_after region w) u h1 in
@@ -87,12 +89,12 @@ with_appended-more : (x : ℕ) (xs : List ℕ) (u : Update) → with_appended xs
 with_appended-more x xs u =
     ap (λ (l : List ℕ). record { number = u.number; generation = u.generation; now = u.now; data· = l; notes = u.notes; checked = u.checked }) (append_assoc u.data· (x ∷ []) xs)
 
-byte-update : (region : List ℕ) (w : Writer) (u : Update) (x : ℕ) (cs : List Lower) → bytes_step w (x ∷ []) ≡ record { answer = Appended 1; writer = with_bytes w (x ∷ []) }
+byte-update : (region : List ℕ) (w : Writer) (u : Update) (x : ℕ) (cs : List Lower) → bytes_step w (x ∷ []) ≡ record { answer = Ok (Appended 1); writer = with_bytes w (x ∷ []) }
     → ran_update region w (bytes (x ∷ []) ∷ cs) u ≡ ran_update region (with_bytes w (x ∷ [])) cs (with_appended (x ∷ []) u)
 unfolding ran_update lower_ops lower_step performed update_after
 byte-update region w u x cs e = ap (λ (s : Step). ran_update region s.writer cs (update_after (bytes (x ∷ [])) s.answer u)) e
 
-pub appends-update : (hd : Loaded) (rs : List Source) (im : Image) (xs region : List ℕ) (w : Writer) (u : Update) → Now hd rs im region w u → w.contents.closed ≡ false → is_due w.contents ≡ false
+pub appends-update : (hd : Result (Option Bank) Refusal) (rs : List Source) (im : Image) (xs region : List ℕ) (w : Writer) (u : Update) → Now hd rs im region w u → w.contents.closed ≡ false → is_due w.contents ≡ false
     → position w.contents + length xs ≤ capacity → Bytes xs → ran_update region w (appends xs) u ≡ with_appended xs u
 unfolding appends
 appends-update hd rs im [] region w u h e d p b = unfold ran_update in (sym (with_appended-nil u))
@@ -111,7 +113,7 @@ appends-update hd rs im (x ∷ xs) region w u h e d p b =
     ∙ with_appended-more x xs u
 
 -- what was due, then bytes
-pub dues-appends : (hd : Loaded) (rs : List Source) (im : Image) (xs region : List ℕ) (w : Writer) (u : Update) → Now hd rs im region w u → w.contents.closed ≡ false
+pub dues-appends : (hd : Result (Option Bank) Refusal) (rs : List Source) (im : Image) (xs region : List ℕ) (w : Writer) (u : Update) → Now hd rs im region w u → w.contents.closed ≡ false
     → position w.contents + length xs ≤ capacity → Bytes xs → ran_update region w (dues ++ appends xs) u ≡ with_appended xs u
 dues-appends hd rs im xs region w u h e p b =
     let t = three hd rs im region w u h in

@@ -4,7 +4,6 @@
 use mathlib.Core.Path.{◌≡◌, refl, sym, ap, ◌∙◌, subst}
 use mathlib.Core.Bool.{Bool, true, false, not, ◌&&◌, false≢true}
 use mathlib.Core.Logic.{◌⊎◌, inl, inr}
-use mathlib.Core.Option.{some}
 use mathlib.Core.List.{List, [], ◌∷◌, ◌++◌, append-nil}
 use Prim.Native.Nat.{ℕ, ◌-◌, ◌^◌, ◌≤◌, ◌<◌}
 use native.Mathlib.Omega.{arith}
@@ -26,8 +25,6 @@ use Rattle.record.specs.Record.{no_block}
 use Rattle.base.specs.Lists.{fill, each, byte}
 use Rattle.record.specs.Types.{All}
 use Rattle.header.specs.declared.Bank.{Bank}
-use Rattle.header.specs.declared.Validated.{Validated}
-use Rattle.header.specs.declared.Validated.TheVariants.{Good, Refused as Bad}
 use Rattle.region.specs.Region.{region_size, bank_of, data_of, sector_size}
 use Rattle.header.specs.Header as Header
 use Rattle.header.specs.Header.{header_of, span_ok, source_ok, length_ok, key_ok, count_ok, commit_offset}
@@ -37,8 +34,6 @@ use Rattle.header.specs.WriteHeader.{header_bytes, blank_word, commit_bytes, is_
 use Rattle.header.specs.Types.{Proper, Numbers}
 use Rattle.header.proofs.Writing.{judge-is}
 use Rattle.header.proofs.WriteLaws.{fit-passes, fit_count, committed, records-are, unmarked, byte-47}
-use Rattle.bank.specs.declared.Loaded.{Loaded}
-use Rattle.bank.specs.declared.Loaded.TheVariants.{Found, Nothing, Refused as NotRead}
 use Rattle.bank.specs.Bank.{validated, data_ok, generation, or_else, loaded}
 use Rattle.flash.specs.Flash.{write, done, torn, applied}
 use Rattle.flash.proofs.Laws.{length-bank, length-applied, write-past}
@@ -48,8 +43,6 @@ use Rattle.writer.specs.State.{position, target, next_generation, key_length, in
 use Rattle.writer.proofs.Laws.{Ranged, ranged, position-fits, count_fits}
 use Rattle.lower.specs.Lower.{past_end}
 use Rattle.due.specs.Due.{with_stage}
-use Rattle.commit.specs.declared.Stamp.{Stamp}
-use Rattle.commit.specs.declared.Stamp.TheVariants.{Given, Missing}
 use Rattle.commit.specs.Commit.{checked_time, routes_offset, bank_for, records_for, is_idle, may_commit, is_current, commit_step, commit_ops}
 use Rattle.run.specs.Run.{commit}
 use Rattle.powerloss.specs.History.{Update, bank_of as bank_from, records_of, records_after, checks, update_after}
@@ -61,20 +54,22 @@ use Rattle.powerloss.proofs.Laid.{head-unmarked, header-write, word_write, heade
 use Rattle.powerloss.proofs.Keeps.{is-idle, keeps-stage}
 use Rattle.powerloss.proofs.Range.{AtEnd, idle-due, closed-empty, headed-of, headed-end, committed-of}
 use Rattle.powerloss.proofs.Dues.{Carried, no-ops, one-op, kept-unmarked-at, live_at, bank-at, seen, stage_is}
+use Rattle.std.specs.Prelude.{Ok, Err, Some, None, Result, Option}
+use Rattle.refusal.specs.declared.Refusal.{Refusal}
 
-pub next_small : (a : Loaded) → next_generation a < 2 ^ 32
+pub next_small : (a : Result (Option Bank) Refusal) → next_generation a < 2 ^ 32
 unfolding next_generation next
-next_small (Found b) = omega arith
-next_small Nothing = lit< tt
-next_small (NotRead r) = lit< tt
+next_small (Ok (Some b)) = omega arith
+next_small (Ok None) = lit< tt
+next_small (Err r) = lit< tt
 
 fits_by : (t : Bool) (s now : ℤ) → SFits w64 s → SFits w64 now → SFits w64 (pick t s now)
 fits_by true s now f g = f
 fits_by false s now f g = g
 
-checked-fits : (stamp : Stamp) (now : ℤ) → StampTyped stamp → SFits w64 now → SFits w64 (checked_time stamp now)
-checked-fits (Given s) now f g = fits_by (le_z now s) s now f g
-checked-fits Missing now f g = g
+checked-fits : (stamp : Option ℤ) (now : ℤ) → StampTyped stamp → SFits w64 now → SFits w64 (checked_time stamp now)
+checked-fits (Some s) now f g = fits_by (le_z now s) s now f g
+checked-fits None now f g = g
 
 fit-span : (b : Bank) (ss : List Source) → is_fit b ss ≡ true → span_ok b ≡ true
 fit-span b ss f = and_left (span_ok b) (each (source_ok b) ss) (sym (judge-is b ss) ∙ fit-passes b ss f)
@@ -87,7 +82,7 @@ span-some b e =
     leb-true 1 b.count (and_left (leb 1 b.count) (leb b.count 3) (and_left (count_ok b) t r))
 
 -- the records that the history gives are the writer's
-module _ (region : List ℕ) (hd : Loaded) (w : Writer) (u : Update) (o : Open region hd w u) where
+module _ (region : List ℕ) (hd : Result (Option Bank) Refusal) (w : Writer) (u : Update) (o : Open region hd w u) where
   own : Ranged w
   own = ranged w o.tied.range
 
@@ -100,7 +95,7 @@ module _ (region : List ℕ) (hd : Loaded) (w : Writer) (u : Update) (o : Open r
   pub routes-is : 1 ≤ w.tables.count → routes_offset (records_for w) ≡ routes_offset w.sources
   routes-is h = ap (λ (s : Source). (get_or s.tables 0 no_block).offset) (get_or-take w.tables.count w.sources 0 past_end (omega arith))
 
-  module _ (stamp : Stamp) (z : w.contents.fill ≡ 0) (c : 1 ≤ w.tables.count) where
+  module _ (stamp : Option ℤ) (z : w.contents.fill ≡ 0) (c : 1 ≤ w.tables.count) where
     -- the bank that the history holds then is the one that is written
     pub bank-is : bank_from (checks (checked_time stamp u.now) u) ≡ bank_for w stamp
     unfolding bank_from bank_for
@@ -119,7 +114,7 @@ module _ (region : List ℕ) (hd : Loaded) (w : Writer) (u : Update) (o : Open r
           checked = checked_time stamp (o.tied.began.now i);
         }
 
-  pub numbers_of : (stamp : Stamp) → StampTyped stamp → is_fit (bank_for w stamp) (records_for w) ≡ true → Numbers (bank_for w stamp)
+  pub numbers_of : (stamp : Option ℤ) → StampTyped stamp → is_fit (bank_for w stamp) (records_for w) ≡ true → Numbers (bank_for w stamp)
   unfolding bank_for
   numbers_of stamp ty f =
       let sp = fit-span (bank_for w stamp) (records_for w) f in
@@ -136,11 +131,11 @@ module _ (region : List ℕ) (hd : Loaded) (w : Writer) (u : Update) (o : Open r
         checked = checked-fits stamp w.beginning.now ty o.tied.began.fits;
       }
 
-pub fit_length : (w : Writer) (stamp : Stamp) → is_fit (bank_for w stamp) (records_for w) ≡ true → 1 ≤ w.contents.written
+pub fit_length : (w : Writer) (stamp : Option ℤ) → is_fit (bank_for w stamp) (records_for w) ≡ true → 1 ≤ w.contents.written
 unfolding bank_for
 fit_length w stamp f = (span-length (bank_for w stamp) (fit-span (bank_for w stamp) (records_for w) f)).0
 
-fit-sources : (w : Writer) (stamp : Stamp) → is_fit (bank_for w stamp) (records_for w) ≡ true → 1 ≤ w.tables.count
+fit-sources : (w : Writer) (stamp : Option ℤ) → is_fit (bank_for w stamp) (records_for w) ≡ true → 1 ≤ w.tables.count
 unfolding bank_for
 fit-sources w stamp f = span-some (bank_for w stamp) (fit-span (bank_for w stamp) (records_for w) f)
 
@@ -150,8 +145,8 @@ laid-only wr fl tail d b n (inr h) = h.0
 
 -- ---- the first call
 
-module _ (region : List ℕ) (hd : Loaded) (rs : List Source) (im : Image) (w : Writer) (u : Update) (k : Kept region hd rs im) (o : Open region hd w u) where
-  module _ (stamp : Stamp) (current : Bool) (ty : StampTyped stamp) where
+module _ (region : List ℕ) (hd : Result (Option Bank) Refusal) (rs : List Source) (im : Image) (w : Writer) (u : Update) (k : Kept region hd rs im) (o : Open region hd w u) where
+  module _ (stamp : Option ℤ) (current : Bool) (ty : StampTyped stamp) where
     write-head : may_commit w ≡ true → is_current w current ≡ true → is_fit (bank_for w stamp) (records_for w) ≡ true
         → Carried (write 0 (header_bytes (bank_for w stamp) (records_for w) blank_word) ∷ []) (target w.beginning.active) region hd rs im (with_stage w HeaderWritten) (checks (checked_time stamp u.now) u)
     write-head e g f =
@@ -222,39 +217,39 @@ module _ (region : List ℕ) (hd : Loaded) (rs : List Source) (im : Image) (w : 
 
 -- ---- the commit word
 
-abbrev pub held_new : Update → Loaded
-held_new u = Found (bank_from u)
+abbrev pub held_new : Update → Result (Option Bank) Refusal
+held_new u = Ok (Some (bank_from u))
 
 abbrev pub image_new : List ℕ → Update → Image
-image_new region u = record { bank = bank_of region u.number; given = some u.data· }
+image_new region u = record { bank = bank_of region u.number; given = Some u.data· }
 
-abbrev bank_or : Bank → Loaded → Bank
-bank_or d (Found b) = b
-bank_or d Nothing = d
-bank_or d (NotRead r) = d
+abbrev bank_or : Bank → Result (Option Bank) Refusal → Bank
+bank_or d (Ok (Some b)) = b
+bank_or d (Ok None) = d
+bank_or d (Err r) = d
 
-abbrev is_found : Loaded → Bool
-is_found (Found b) = true
-is_found Nothing = false
-is_found (NotRead r) = false
+abbrev is_found : Result (Option Bank) Refusal → Bool
+is_found (Ok (Some b)) = true
+is_found (Ok None) = false
+is_found (Err r) = false
 
 -- the new generation is the next after the other bank's, or the other bank fails
-good_of : (v : Validated) (b : Bank) → or_else v Nothing ≡ Found b → v ≡ Good b
-good_of (Good c) b e = ap (λ (x : Loaded). Good (bank_or b x)) e
-good_of (Bad r) b e = absurd (false≢true (ap is_found e))
+good_of : (v : Result Bank Refusal) (b : Bank) → or_else v (Ok None) ≡ Ok (Some b) → v ≡ Ok b
+good_of (Ok c) b e = ap (λ (x : Result (Option Bank) Refusal). Ok (bank_or b x)) e
+good_of (Err r) b e = absurd (false≢true (ap is_found e))
 
-follows : (region : List ℕ) (a : Loaded) → length region ≡ region_size → active_ok a ≡ true → Small a → or_else (validated region (1 - target a)) Nothing ≡ a
+follows : (region : List ℕ) (a : Result (Option Bank) Refusal) → length region ≡ region_size → active_ok a ≡ true → Small a → or_else (validated region (1 - target a)) (Ok None) ≡ a
     → generation region (target a) ≡ next_generation a
-    → (or_else (validated region (1 - target a)) Nothing ≡ Nothing) ⊎ ((generation region (1 - target a) < 2 ^ 32) × (generation region (target a) ≡ next (generation region (1 - target a))))
+    → (or_else (validated region (1 - target a)) (Ok None) ≡ Ok None) ⊎ ((generation region (1 - target a) < 2 ^ 32) × (generation region (target a) ≡ next (generation region (1 - target a))))
 unfolding next_generation active_ok
-follows region (Found b) l ok s e g =
-    let f : 1 - target (Found b) ≤ 1 = omega (arith, target_fits (Found b)) in
-    let q = valid-generation region (1 - target (Found b)) b l f (good_of (validated region (1 - target (Found b))) b e) in
+follows region (Ok (Some b)) l ok s e g =
+    let f : 1 - target (Ok (Some b)) ≤ 1 = omega (arith, target_fits (Ok (Some b))) in
+    let q = valid-generation region (1 - target (Ok (Some b))) b l f (good_of (validated region (1 - target (Ok (Some b)))) b e) in
     inr (subst (λ (x : ℕ). x < 2 ^ 32) q s, g ∙ ap next q)
-follows region Nothing l ok s e g = inl e
-follows region (NotRead r) l ok s e g = absurd (false≢true ok)
+follows region (Ok None) l ok s e g = inl e
+follows region (Err r) l ok s e g = absurd (false≢true ok)
 
-module _ (region : List ℕ) (hd : Loaded) (rs : List Source) (im : Image) (w : Writer) (u : Update) (k : Kept region hd rs im) (o : Open region hd w u) where
+module _ (region : List ℕ) (hd : Result (Option Bank) Refusal) (rs : List Source) (im : Image) (w : Writer) (u : Update) (k : Kept region hd rs im) (o : Open region hd w u) where
   -- what the word's write leaves
   module _ (e : w.stage ≡ HeaderWritten) where
     ended : AtEnd w.beginning.comparing w.contents
@@ -291,7 +286,7 @@ module _ (region : List ℕ) (hd : Loaded) (rs : List Source) (im : Image) (w : 
     unfolding bank_from n
     number_is = o.tied.began.number
 
-    header-new : header_of n (bank_of r' n) ≡ Good (bank_from u)
+    header-new : header_of n (bank_of r' n) ≡ Ok (bank_from u)
     unfolding bank_from
     header-new =
         ap (header_of n) bank-new
@@ -316,7 +311,7 @@ module _ (region : List ℕ) (hd : Loaded) (rs : List Source) (im : Image) (w : 
     unfolding n
     n-fits = target_fits w.beginning.active
 
-    valid-new : validated r' n ≡ Good (bank_from u)
+    valid-new : validated r' n ≡ Ok (bank_from u)
     valid-new = then-valid r' n (bank_from u) length-new n-fits header-new data-ok
 
     generation-new : generation r' n ≡ next_generation w.beginning.active
@@ -326,13 +321,13 @@ module _ (region : List ℕ) (hd : Loaded) (rs : List Source) (im : Image) (w : 
     small-active : Small w.beginning.active
     small-active = subst Small (sym place.0.active) k.small
 
-    other-new : or_else (validated r' (1 - target w.beginning.active)) Nothing ≡ w.beginning.active
+    other-new : or_else (validated r' (1 - target w.beginning.active)) (Ok None) ≡ w.beginning.active
     unfolding r'
     other-new =
         let v = live_at region hd w.beginning.active rs im k place.0 (write commit_offset commit_bytes) in
-        subst (λ (x : Loaded). or_else (validated (applied (target w.beginning.active) (write commit_offset commit_bytes) region) (1 - target x)) Nothing ≡ x) (sym place.0.active) v.other
+        subst (λ (x : Result (Option Bank) Refusal). or_else (validated (applied (target w.beginning.active) (write commit_offset commit_bytes) region) (1 - target x)) (Ok None) ≡ x) (sym place.0.active) v.other
 
-    loads-new : loaded r' ≡ Found (bank_from u)
+    loads-new : loaded r' ≡ Ok (Some (bank_from u))
     unfolding n
     loads-new =
         load-new r' n (bank_from u) length-new n-fits valid-new

@@ -15,20 +15,20 @@ use Rattle.base.proofs.Same.{same-means, same_self}
 use Rattle.region.specs.Region.{region_size, bank_size, sector_size, capacity, last_bank, bank_of, data_of}
 use Rattle.flash.proofs.Laws.{length-bank}
 use Rattle.header.specs.declared.Bank.{Bank}
-use Rattle.bank.specs.declared.Loaded.{Loaded}
-use Rattle.bank.specs.declared.Loaded.TheVariants.{Found, Nothing, Refused as NotRead}
 use Rattle.writer.specs.declared.Contents.{Contents}
 use Rattle.writer.specs.State.{position, active_ok}
 use Rattle.due.specs.Due.{differs}
 use Rattle.powerloss.proofs.Inv.{Begins, Told, Compared}
 use Rattle.powerloss.proofs.Range.{or-both}
+use Rattle.std.specs.Prelude.{Ok, Err, Some, None, Result, Option}
+use Rattle.refusal.specs.declared.Refusal.{Refusal}
 
 -- nothing is compared yet
-pub none-compared : (region : List ℕ) (hd : Loaded) → Told region hd [] false
+pub none-compared : (region : List ℕ) (hd : Result (Option Bank) Refusal) → Told region hd [] false
 unfolding data_of
-none-compared region (Found b) = (λ e. record { fits = omega arith; same = refl }, λ h. refl)
-none-compared region Nothing = tt
-none-compared region (NotRead r) = tt
+none-compared region (Ok (Some b)) = (λ e. record { fits = omega arith; same = refl }, λ h. refl)
+none-compared region (Ok None) = tt
+none-compared region (Err r) = tt
 
 not-false : (a : Bool) → not a ≡ false → a ≡ true
 not-false true e = refl
@@ -97,10 +97,10 @@ module _ (region : List ℕ) (b : Bank) (front tail : List ℕ) (t : Contents) (
         let e : next ≡ ys = sym (drop_at (take t.written xs) next t.written first) ∙ ap (drop t.written) whole ∙ drop_at front ys t.written c in
         rw e (same_self ys)
 
-told-on : (region : List ℕ) (a : Loaded) (front tail : List ℕ) (t : Contents) → length region ≡ region_size → active_ok a ≡ true → position t ≤ capacity → length front ≡ t.written → t.fill ≤ length tail
+told-on : (region : List ℕ) (a : Result (Option Bank) Refusal) (front tail : List ℕ) (t : Contents) → length region ≡ region_size → active_ok a ≡ true → position t ≤ capacity → length front ≡ t.written → t.fill ≤ length tail
     → Told region a front t.different → Told region a (front ++ take t.fill tail) (t.different || differs region a t tail)
 unfolding differs active_ok
-told-on region (Found b) front tail t l ok p c f h =
+told-on region (Ok (Some b)) front tail t l ok p c f h =
     let n : length (bank_of region b.number) ≡ bank_size = length-bank region b.number l (leb-true b.number last_bank ok) in
     let s : position t ≤ length (drop sector_size (bank_of region b.number)) = omega (arith, n, length-drop sector_size (bank_of region b.number)) in
     let bytes = same (take t.fill (drop (sector_size + t.written) (bank_of region b.number))) (take t.fill tail) in
@@ -113,11 +113,11 @@ told-on region (Found b) front tail t l ok p c f h =
           or-false t.different (not fits || not bytes) (h.1 (front-begins region b front tail t c f s g))
           (or-false (not fits) (not bytes) (ap not (tail-fits region b front tail t c f s g)) (ap not (tail-same region b front tail t c f s g))),
     )
-told-on region Nothing front tail t l ok p c f h = tt
-told-on region (NotRead r) front tail t l ok p c f h = tt
+told-on region (Ok None) front tail t l ok p c f h = tt
+told-on region (Err r) front tail t l ok p c f h = tt
 
 -- the tail is compared: it is empty, and its bytes are among those compared
-pub tail-compared : (region : List ℕ) (a : Loaded) (t : Contents) (tail d : List ℕ) → length region ≡ region_size → active_ok a ≡ true → position t ≤ capacity → t.fill ≤ length tail
+pub tail-compared : (region : List ℕ) (a : Result (Option Bank) Refusal) (t : Contents) (tail d : List ℕ) → length region ≡ region_size → active_ok a ≡ true → position t ≤ capacity → t.fill ≤ length tail
     → Compared region a t.written t.fill t.different tail d → Compared region a (position t) 0 (t.different || differs region a t tail) tail d
 tail-compared region a t tail d l ok p f h =
     record {

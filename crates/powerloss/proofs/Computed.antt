@@ -2,7 +2,6 @@
 -- update is computed from any run whose history holds what load gives, so that one can follow another.
 use mathlib.Core.Path.{◌≡◌, refl, sym, ap, ◌∙◌, subst}
 use mathlib.Core.Bool.{Bool, true, false, false≢true}
-use mathlib.Core.Option.{some}
 use mathlib.Core.List.{List, [], ◌∷◌, ◌++◌, map}
 use Prim.Native.Nat.{ℕ, zero, suc, ◌<◌}
 use native.Mathlib.Omega.{arith}
@@ -22,14 +21,11 @@ use Rattle.record.specs.Record.{no_block, no_source}
 use Rattle.base.specs.Lists.{fill, each}
 use Rattle.record.specs.Types.{All, U32, Block32}
 use Rattle.base.proofs.Lists.{drop-fill, length-fill}
-use Rattle.header.specs.declared.Validated.{Validated}
 use Rattle.header.specs.Header.{marked, span_ok, source_ok, judge, max_sources, commit_offset}
 use Rattle.region.specs.Region.{region_size, bank_size, sector_size}
 use Rattle.region.specs.Region as Region
 use Rattle.header.specs.WriteHeader.{is_fit, header_bytes, blank_word, commit_bytes}
 use Rattle.header.specs.Types.{Bytes, Proper}
-use Rattle.bank.specs.declared.Loaded.{Loaded}
-use Rattle.bank.specs.declared.Loaded.TheVariants.{Found, Nothing, Refused as NotRead}
 use Rattle.bank.specs.Bank.{loaded, or_else}
 use Rattle.flash.specs.Flash.{Op, erase, write, with_bank, torn, performed}
 use Rattle.flash.proofs.Laws.{length-performed, torn-first}
@@ -38,13 +34,11 @@ use Rattle.writer.specs.declared.Stage.{Stage}
 use Rattle.writer.specs.declared.Stage.TheVariants.{Idle, Due, HeaderWritten, Committed}
 use Rattle.writer.specs.declared.Contents.{Contents}
 use Rattle.writer.specs.declared.Tables.{Tables}
-use Rattle.writer.specs.declared.Answer.{Answer}
 use Rattle.writer.specs.declared.Answer.TheVariants.{Done, Appended}
 use Rattle.writer.specs.declared.Writer.{Writer}
 use Rattle.writer.specs.State.{is_due, data_due, first_due, stage_of, target, next_generation, begun_in, active_ok, contents_ok, tables_ok, operation_ok, stage_ok, in_range, tail_size}
 use Rattle.lower.specs.Lower.{answer_of, started, begun, with_source, source_step, with_table, table_step, with_bytes, appended, bytes_step, with_end, end_step, with_closed, close_step, emptied, with_block, past_end}
 use Rattle.due.specs.Due.{padded, due_ops, operated, due_step}
-use Rattle.commit.specs.declared.Stamp.TheVariants.{Missing}
 use Rattle.commit.specs.Commit.{bank_for, records_for, commit_step, commit_ops, word_step, word_ops}
 use Rattle.run.specs.Run.{Lower, source, table, bytes, end, close, due, commit, word, lower_step, lower_ops, ran_ops}
 use Rattle.powerloss.specs.History.{Update, Note, source_note, table_note, end_note, opened, bank_of, records_after, block_between, update_after, is_word, committed, after_lower, after_lower_cut, after_begin}
@@ -57,9 +51,13 @@ use Rattle.powerloss.proofs.Load.{load-other, active-ok, unmarked-refused, targe
 use Rattle.powerloss.proofs.Lowers.{mk}
 use Rattle.powerloss.proofs.Uppers.{inv-all, inv-found, demand3}
 use Rattle.base.specs.Table.{max_tables}
+use Rattle.std.specs.Prelude.{Ok, Err, Some, None, Result, Option}
+use Rattle.refusal.specs.declared.Refusal.{Refusal}
+use Rattle.header.specs.declared.Bank.{Bank}
+use Rattle.writer.specs.declared.Answer.{Answer}
 
 -- a state of this update
-abbrev st : Loaded → Stage → Contents → Tables → List Source → List ℕ → Writer
+abbrev st : Result (Option Bank) Refusal → Stage → Contents → Tables → List Source → List ℕ → Writer
 st hd g t b ss tail = record { stage = g; beginning = record { active = hd; comparing = false; now = pos 0 }; contents = t; tables = b; sources = ss; tail = tail }
 
 abbrev tk : ℕ → ℕ → ℕ → Bool → Contents
@@ -68,68 +66,68 @@ tk n k crc closed = record { written = n; fill = k; crc = crc; different = false
 abbrev tb : ℕ → ℕ → ℕ → ℕ → ℕ → Tables
 tb n t i crc k = record { count = n; table = t; start = i; crc = crc; begun = k }
 
-abbrev upd : Loaded → List ℕ → List Note → Update
+abbrev upd : Result (Option Bank) Refusal → List ℕ → List Note → Update
 upd hd xs ns = record { number = target hd; generation = next_generation hd; now = pos 0; data· = xs; notes = ns; checked = pos 0 }
 
-abbrev at : Loaded → List Source → Image → List ℕ → Writer → Update → Run
-at hd rs im region w u = mk region (some w) hd rs (some u) im
+abbrev at : Result (Option Bank) Refusal → List Source → Image → List ℕ → Writer → Update → Run
+at hd rs im region w u = mk region (Some w) hd rs (Some u) im
 
 -- what a call does on a state: its answer, the state after it, its operations
-abbrev Does : Lower → List ℕ → Writer → Answer → Writer → List Op → Type 0
+abbrev Does : Lower → List ℕ → Writer → Result Answer Refusal → Writer → List Op → Type 0
 Does c region w x w' ops = (lower_step region w c ≡ record { answer = x; writer = w' }) × (lower_ops region w c ≡ ops)
 
 -- ---- each call: sources, tail and CRCs are any if it doesn't look at them
 
-module _ (hd : Loaded) (ok : active_ok hd ≡ true) (region : List ℕ) (ss : List Source) (tail : List ℕ) (a b : ℕ) where
+module _ (hd : Result (Option Bank) Refusal) (ok : active_ok hd ≡ true) (region : List ℕ) (ss : List Source) (tail : List ℕ) (a b : ℕ) where
   does-key : Does (bytes key) region (st hd Idle (tk 0 0 a false) (tb 0 8 0 b 0) ss tail)
-      (Appended 1) (st hd Idle (tk 0 1 (crc32 a key) false) (tb 0 8 0 (crc32 b key) 0) ss (sets tail 0 key)) []
+      (Ok (Appended 1)) (st hd Idle (tk 0 1 (crc32 a key) false) (tb 0 8 0 (crc32 b key) 0) ss (sets tail 0 key)) []
   unfolding lower_step lower_ops bytes_step appended with_bytes stage_of in_range contents_ok tables_ok stage_ok is_due
   does-key = rw ok (refl, refl)
 
   does-source : Does (source the_source) region (st hd Idle (tk 0 1 a false) (tb 0 8 0 b 0) ss tail)
-      Done (st hd Idle (tk 0 1 a false) (tb 1 8 0 b 0) (set ss 0 (emptied the_source)) tail) []
+      (Ok Done) (st hd Idle (tk 0 1 a false) (tb 1 8 0 b 0) (set ss 0 (emptied the_source)) tail) []
   unfolding lower_step lower_ops source_step with_source in_range contents_ok tables_ok stage_ok is_due
   does-source = rw ok (refl, refl)
 
   does-dates : Does (bytes dates) region (st hd Idle (tk 0 1 a false) (tb 1 8 0 b 0) ss tail)
-      (Appended 8) (st hd Idle (tk 0 9 (crc32 a dates) false) (tb 1 8 0 (crc32 b dates) 0) ss (sets tail 1 dates)) []
+      (Ok (Appended 8)) (st hd Idle (tk 0 9 (crc32 a dates) false) (tb 1 8 0 (crc32 b dates) 0) ss (sets tail 1 dates)) []
   unfolding lower_step lower_ops bytes_step appended with_bytes stage_of in_range contents_ok tables_ok stage_ok is_due
   does-dates = rw ok (refl, refl)
 
-  does-table : Does (table 0) region (st hd Idle (tk 0 9 a false) (tb 1 8 0 b 0) ss tail) Done (st hd Idle (tk 0 9 a false) (tb 1 0 9 0 1) ss tail) []
+  does-table : Does (table 0) region (st hd Idle (tk 0 9 a false) (tb 1 8 0 b 0) ss tail) (Ok Done) (st hd Idle (tk 0 9 a false) (tb 1 0 9 0 1) ss tail) []
   unfolding lower_step lower_ops table_step with_table begun_in in_range contents_ok tables_ok stage_ok is_due
   does-table = rw ok (refl, refl)
 
   does-routes : Does (bytes routes) region (st hd Idle (tk 0 9 a false) (tb 1 0 9 b 1) ss tail)
-      (Appended 3) (st hd Idle (tk 0 12 (crc32 a routes) false) (tb 1 0 9 (crc32 b routes) 1) ss (sets tail 9 routes)) []
+      (Ok (Appended 3)) (st hd Idle (tk 0 12 (crc32 a routes) false) (tb 1 0 9 (crc32 b routes) 1) ss (sets tail 9 routes)) []
   unfolding lower_step lower_ops bytes_step appended with_bytes stage_of in_range contents_ok tables_ok stage_ok is_due
   does-routes = rw ok (refl, refl)
 
   does-end : Does end region (st hd Idle (tk 0 12 a false) (tb 1 0 9 b 1) ss tail)
-      Done (st hd Idle (tk 0 12 a false) (tb 1 8 9 b 1) (set ss 0 (with_block (get_or ss 0 past_end) 0 (record { offset = 9; length = 3; crc = b }))) tail) []
+      (Ok Done) (st hd Idle (tk 0 12 a false) (tb 1 8 9 b 1) (set ss 0 (with_block (get_or ss 0 past_end) 0 (record { offset = 9; length = 3; crc = b }))) tail) []
   unfolding lower_step lower_ops end_step with_end in_range contents_ok tables_ok stage_ok is_due
   does-end = rw ok (refl, refl)
 
-  does-close : Does close region (st hd Idle (tk 0 12 a false) (tb 1 8 9 b 1) ss tail) Done (st hd (Due (Erase 0)) (tk 0 12 a true) (tb 1 8 9 b 1) ss tail) []
+  does-close : Does close region (st hd Idle (tk 0 12 a false) (tb 1 8 9 b 1) ss tail) (Ok Done) (st hd (Due (Erase 0)) (tk 0 12 a true) (tb 1 8 9 b 1) ss tail) []
   unfolding lower_step lower_ops close_step with_closed stage_of first_due in_range contents_ok tables_ok stage_ok is_due
   does-close = rw ok (refl, refl)
 
   -- the operations: the region has its size
   module _ (l : length region ≡ region_size) where
-    does-header : Does due region (st hd (Due (Erase 0)) (tk 0 12 a true) (tb 1 8 9 b 1) ss tail) Done (st hd (Due (Erase 1)) (tk 0 12 a true) (tb 1 8 9 b 1) ss tail) (erase 0 ∷ [])
+    does-header : Does due region (st hd (Due (Erase 0)) (tk 0 12 a true) (tb 1 8 9 b 1) ss tail) (Ok Done) (st hd (Due (Erase 1)) (tk 0 12 a true) (tb 1 8 9 b 1) ss tail) (erase 0 ∷ [])
     unfolding lower_step lower_ops due_step due_ops operated data_due in_range contents_ok tables_ok stage_ok operation_ok is_due
     does-header = rw (eq-eqb (length region) region_size l, ok) (refl, refl)
 
-    does-sector : Does due region (st hd (Due (Erase 1)) (tk 0 12 a true) (tb 1 8 9 b 1) ss tail) Done (st hd (Due (Write 0 12)) (tk 0 12 a true) (tb 1 8 9 b 1) ss tail) (erase sector_size ∷ [])
+    does-sector : Does due region (st hd (Due (Erase 1)) (tk 0 12 a true) (tb 1 8 9 b 1) ss tail) (Ok Done) (st hd (Due (Write 0 12)) (tk 0 12 a true) (tb 1 8 9 b 1) ss tail) (erase sector_size ∷ [])
     unfolding lower_step lower_ops due_step due_ops operated in_range contents_ok tables_ok stage_ok operation_ok is_due
     does-sector = rw (eq-eqb (length region) region_size l, ok) (refl, refl)
 
     does-write : Does due region (st hd (Due (Write 0 12)) (tk 0 12 a true) (tb 1 8 9 b 1) ss tail)
-        Done (st hd Idle (tk 12 0 a true) (tb 1 8 9 b 1) ss tail) (write sector_size (padded (take 12 tail)) ∷ [])
+        (Ok Done) (st hd Idle (tk 12 0 a true) (tb 1 8 9 b 1) ss tail) (write sector_size (padded (take 12 tail)) ∷ [])
     unfolding lower_step lower_ops due_step due_ops operated in_range contents_ok tables_ok stage_ok operation_ok is_due
     does-write = rw (eq-eqb (length region) region_size l, ok) (refl, refl)
 
-    does-word : Does word region (st hd HeaderWritten (tk 12 0 a true) (tb 1 8 9 b 1) ss tail) Done (st hd Committed (tk 12 0 a true) (tb 1 8 9 b 1) ss tail) (write commit_offset commit_bytes ∷ [])
+    does-word : Does word region (st hd HeaderWritten (tk 12 0 a true) (tb 1 8 9 b 1) ss tail) (Ok Done) (st hd Committed (tk 12 0 a true) (tb 1 8 9 b 1) ss tail) (write commit_offset commit_bytes ∷ [])
     unfolding lower_step lower_ops word_step word_ops in_range contents_ok tables_ok stage_ok is_due
     does-word = rw (eq-eqb (length region) region_size l, ok) (refl, refl)
 
@@ -140,28 +138,28 @@ sources1 = set (fill no_source max_sources) 0 (emptied the_source)
 abbrev sources2 : ℕ → List Source
 sources2 b = set sources1 0 (with_block (get_or sources1 0 past_end) 0 (record { offset = 9; length = 3; crc = b }))
 
-abbrev ready : Loaded → List ℕ → ℕ → ℕ → Writer
+abbrev ready : Result (Option Bank) Refusal → List ℕ → ℕ → ℕ → Writer
 ready hd tail a b = st hd Idle (tk 12 0 a true) (tb 1 8 9 b 1) (sources2 b) tail
 
-abbrev headed : Loaded → List ℕ → ℕ → ℕ → Writer
+abbrev headed : Result (Option Bank) Refusal → List ℕ → ℕ → ℕ → Writer
 headed hd tail a b = st hd HeaderWritten (tk 12 0 a true) (tb 1 8 9 b 1) (sources2 b) tail
 
-abbrev header : Loaded → List ℕ → ℕ → ℕ → List Op
-header hd tail a b = write 0 (header_bytes (bank_for (ready hd tail a b) Missing) (records_for (ready hd tail a b)) blank_word) ∷ []
+abbrev header : Result (Option Bank) Refusal → List ℕ → ℕ → ℕ → List Op
+header hd tail a b = write 0 (header_bytes (bank_for (ready hd tail a b) None) (records_for (ready hd tail a b)) blank_word) ∷ []
 
 -- refusal 13 isn't met
-fit : (hd : Loaded) (tail : List ℕ) (a b : ℕ) → is_fit (bank_for (ready hd tail a b) Missing) (records_for (ready hd tail a b)) ≡ true
+fit : (hd : Result (Option Bank) Refusal) (tail : List ℕ) (a b : ℕ) → is_fit (bank_for (ready hd tail a b) None) (records_for (ready hd tail a b)) ≡ true
 unfolding is_fit judge span_ok source_ok each bank_for fill no_source valid_date is_date month_days leap
 fit hd tail a b = refl
 
-does-commit : (hd : Loaded) → active_ok hd ≡ true → (region tail : List ℕ) (a b : ℕ) → length region ≡ region_size → Does (commit Missing true) region (ready hd tail a b) Done (headed hd tail a b) (header hd tail a b)
+does-commit : (hd : Result (Option Bank) Refusal) → active_ok hd ≡ true → (region tail : List ℕ) (a b : ℕ) → length region ≡ region_size → Does (commit None true) region (ready hd tail a b) (Ok Done) (headed hd tail a b) (header hd tail a b)
 unfolding lower_step lower_ops commit_step commit_ops in_range contents_ok tables_ok stage_ok is_due
 does-commit hd ok region tail a b l = rw (eq-eqb (length region) region_size l, ok, fit hd tail a b) (refl, refl)
 
 -- ---- the list of calls
 
 -- a call that isn't the commit word's, then the rest
-called : (hd : Loaded) (rs : List Source) (im : Image) (c : Lower) (region : List ℕ) (g : Stage) (t : Contents) (b : Tables) (ss : List Source) (tail : List ℕ) (x : Answer) (w' : Writer) (ops : List Op) (u : Update)
+called : (hd : Result (Option Bank) Refusal) (rs : List Source) (im : Image) (c : Lower) (region : List ℕ) (g : Stage) (t : Contents) (b : Tables) (ss : List Source) (tail : List ℕ) (x : Result Answer Refusal) (w' : Writer) (ops : List Op) (u : Update)
     (es : List Event)
     → is_word c ≡ false → Does c region (st hd g t b ss tail) x w' ops
     → next_all (at hd rs im region (st hd g t b ss tail) u) (call c ∷ es) ≡ next_all (at hd rs im (performed (target hd) ops region) w' (update_after c x u)) es
@@ -169,7 +167,7 @@ unfolding next_all next on_call after_lower committed image_after
 called hd rs im c region g t b ss tail x w' ops u es e d = rw (e, d.0, d.1)
 
 -- its operations, then those of the rest
-ran : (hd : Loaded) (c : Lower) (region : List ℕ) (g : Stage) (t : Contents) (b : Tables) (ss : List Source) (tail : List ℕ) (x : Answer) (w' : Writer) (ops : List Op) (cs : List Lower)
+ran : (hd : Result (Option Bank) Refusal) (c : Lower) (region : List ℕ) (g : Stage) (t : Contents) (b : Tables) (ss : List Source) (tail : List ℕ) (x : Result Answer Refusal) (w' : Writer) (ops : List Op) (cs : List Lower)
     → Does c region (st hd g t b ss tail) x w' ops → ran_ops region (st hd g t b ss tail) (c ∷ cs) ≡ ops ++ ran_ops (performed (target hd) ops region) w' cs
 unfolding ran_ops
 ran hd c region g t b ss tail x w' ops cs d = rw (d.0, d.1)
@@ -208,23 +206,23 @@ tail2 = sets tail1 1 dates
 abbrev tail3 : List ℕ
 tail3 = sets tail2 9 routes
 
-abbrev first : Loaded → Writer
+abbrev first : Result (Option Bank) Refusal → Writer
 first hd = st hd Idle (tk 0 0 0 false) (tb 0 8 0 0 0) (fill no_source max_sources) (fill 0 tail_size)
 
-abbrev due_first : Loaded → Writer
+abbrev due_first : Result (Option Bank) Refusal → Writer
 due_first hd = st hd (Due (Erase 0)) (tk 0 12 crc_data true) (tb 1 8 9 crc_routes 1) (sources2 crc_routes) tail3
 
-abbrev last· : Loaded → Writer
+abbrev last· : Result (Option Bank) Refusal → Writer
 last· hd = headed hd tail3 crc_data crc_routes
 
-answer_ok : (hd : Loaded) → active_ok hd ≡ true → answer_of hd ≡ Done
+answer_ok : (hd : Result (Option Bank) Refusal) → active_ok hd ≡ true → answer_of hd ≡ Ok Done
 unfolding active_ok
-answer_ok (Found b) e = refl
-answer_ok Nothing e = refl
-answer_ok (NotRead r) e = absurd (false≢true e)
+answer_ok (Ok (Some b)) e = refl
+answer_ok (Ok None) e = refl
+answer_ok (Err r) e = absurd (false≢true e)
 
 -- the region before each of the operations
-module _ (hd : Loaded) (region : List ℕ) (l : length region ≡ region_size) where
+module _ (hd : Result (Option Bank) Refusal) (region : List ℕ) (l : length region ≡ region_size) where
   abbrev region1 : List ℕ
   region1 = performed (target hd) (erase 0 ∷ []) region
 
@@ -253,7 +251,7 @@ module _ (hd : Loaded) (region : List ℕ) (l : length region ≡ region_size) w
   l4 = length-performed (target hd) (header hd tail3 crc_data crc_routes) region3 (target_fits hd) l3
 
 -- an update from a run whose history holds what load gives
-module _ (hd : Loaded) (ok : active_ok hd ≡ true) (r : Run) (e : loaded r.region ≡ hd) (f : r.history.held ≡ hd) (l : length r.region ≡ region_size) where
+module _ (hd : Result (Option Bank) Refusal) (ok : active_ok hd ≡ true) (r : Run) (e : loaded r.region ≡ hd) (f : r.history.held ≡ hd) (l : length r.region ≡ region_size) where
   abbrev from : List ℕ → Writer → Update → Run
   from region w u = at hd r.history.records r.image region w u
 
@@ -284,11 +282,11 @@ module _ (hd : Loaded) (ok : active_ok hd ≡ true) (r : Run) (e : loaded r.regi
       let g = r.region in
       let rs = r.history.records in
       let im = r.image in
-      closed (call due ∷ call due ∷ call due ∷ call (commit Missing true) ∷ es)
+      closed (call due ∷ call due ∷ call due ∷ call (commit None true) ∷ es)
       ∙ called hd rs im due g _ _ _ _ _ _ _ _ (upd hd data· notes) _ refl (does-header hd ok g (sources2 crc_routes) tail3 crc_data crc_routes l)
       ∙ called hd rs im due (region1 hd g l) _ _ _ _ _ _ _ _ (upd hd data· notes) _ refl (does-sector hd ok (region1 hd g l) (sources2 crc_routes) tail3 crc_data crc_routes (l1 hd g l))
       ∙ called hd rs im due (region2 hd g l) _ _ _ _ _ _ _ _ (upd hd data· notes) _ refl (does-write hd ok (region2 hd g l) (sources2 crc_routes) tail3 crc_data crc_routes (l2 hd g l))
-      ∙ called hd rs im (commit Missing true) (region3 hd g l) _ _ _ _ _ _ _ _ (upd hd data· notes) _ refl (does-commit hd ok (region3 hd g l) tail3 crc_data crc_routes (l3 hd g l))
+      ∙ called hd rs im (commit None true) (region3 hd g l) _ _ _ _ _ _ _ _ (upd hd data· notes) _ refl (does-commit hd ok (region3 hd g l) tail3 crc_data crc_routes (l3 hd g l))
 
   -- before the last event
   before : (last : Event) → next_all r (update_with last) ≡ next (from (region4 hd r.region l) (last· hd) (upd hd data· notes)) last
@@ -298,20 +296,20 @@ module _ (hd : Loaded) (ok : active_ok hd ≡ true) (r : Run) (e : loaded r.regi
 -- ---- the last event
 
 -- the bank that the history notes
-noted-bank : (hd : Loaded) → bank_of (upd hd data· notes) ≡ updated hd
+noted-bank : (hd : Result (Option Bank) Refusal) → bank_of (upd hd data· notes) ≡ updated hd
 unfolding bank_of records_after block_between fill
 noted-bank hd = refl
 
-module _ (hd : Loaded) (ok : active_ok hd ≡ true) (rs : List Source) (im : Image) (region : List ℕ) (l : length region ≡ region_size) where
+module _ (hd : Result (Option Bank) Refusal) (ok : active_ok hd ≡ true) (rs : List Source) (im : Image) (region : List ℕ) (l : length region ≡ region_size) where
   abbrev at_word : Run
   at_word = at hd rs im region (last· hd) (upd hd data· notes)
 
-  word-does : Does word region (last· hd) Done (st hd Committed (tk 12 0 crc_data true) (tb 1 8 9 crc_routes 1) (sources2 crc_routes) tail3) (write commit_offset commit_bytes ∷ [])
+  word-does : Does word region (last· hd) (Ok Done) (st hd Committed (tk 12 0 crc_data true) (tb 1 8 9 crc_routes 1) (sources2 crc_routes) tail3) (write commit_offset commit_bytes ∷ [])
   word-does = does-word hd ok region (sources2 crc_routes) tail3 crc_data crc_routes l
 
   by_word : (next at_word (call word)).history.held ≡ the_new hd
   unfolding next on_call after_lower committed update_after
-  by_word = rw word-does.0 (ap Found (noted-bank hd))
+  by_word = rw word-does.0 (ap (λ (b : Bank). Ok (Some b)) (noted-bank hd))
 
   by-cut-before : (next at_word (cut word 0 0)).history.held ≡ the_old hd
   unfolding next on_cut after_lower_cut committed done_at commit_bytes le32
@@ -331,11 +329,11 @@ module _ (hd : Loaded) (ok : active_ok hd ≡ true) (rs : List Source) (im : Ima
 
   by-cut-4 : (next at_word (cut word 0 4)).history.held ≡ the_new hd
   unfolding next on_cut after_lower_cut committed done_at commit_bytes le32
-  by-cut-4 = rw word-does.1 (ap Found (noted-bank hd))
+  by-cut-4 = rw word-does.1 (ap (λ (b : Bank). Ok (Some b)) (noted-bank hd))
 
   by-cut-after : (next at_word (cut word 1 0)).history.held ≡ the_new hd
   unfolding next on_cut after_lower_cut committed done_at
-  by-cut-after = rw word-does.1 (ap Found (noted-bank hd))
+  by-cut-after = rw word-does.1 (ap (λ (b : Bank). Ok (Some b)) (noted-bank hd))
 
   three-bytes : (next at_word (cut word 0 3)).region ≡ torn (target hd) 3 (write commit_offset commit_bytes) region
   unfolding next on_cut
@@ -347,18 +345,18 @@ module _ (hd : Loaded) (ok : active_ok hd ≡ true) (rs : List Source) (im : Ima
   by-erase-cut = rw ((does-header hd ok region (sources2 crc_routes) tail3 crc_data crc_routes l).1, cut_inside (target hd) (erase 0) [] region 100) (refl, refl)
 
 -- what the last event gives, on any state before it
-abbrev Ends : Event → (Loaded → Loaded) → Type 0
+abbrev Ends : Event → ((Result (Option Bank) Refusal) → Result (Option Bank) Refusal) → Type 0
 Ends last held =
-    (hd : Loaded) → active_ok hd ≡ true → (rs : List Source) (im : Image) (region : List ℕ) → length region ≡ region_size
+    (hd : Result (Option Bank) Refusal) → active_ok hd ≡ true → (rs : List Source) (im : Image) (region : List ℕ) → length region ≡ region_size
     → (next (at hd rs im region (last· hd) (upd hd data· notes)) last).history.held ≡ held hd
 
-held_after : (last : Event) (held : Loaded → Loaded) → Ends last held
-    → (hd : Loaded) → active_ok hd ≡ true → (r : Run) → loaded r.region ≡ hd → r.history.held ≡ hd → length r.region ≡ region_size
+held_after : (last : Event) (held : Result (Option Bank) Refusal → Result (Option Bank) Refusal) → Ends last held
+    → (hd : Result (Option Bank) Refusal) → active_ok hd ≡ true → (r : Run) → loaded r.region ≡ hd → r.history.held ≡ hd → length r.region ≡ region_size
     → (next_all r (update_with last)).history.held ≡ held hd
 held_after last held g hd ok r e f l =
     ap (λ (x : Run). x.history.held) (before hd ok r e f l last) ∙ g hd ok r.history.records r.image (region4 hd r.region l) (l4 hd r.region l)
 
-erase-after : (hd : Loaded) → active_ok hd ≡ true → (r : Run) → loaded r.region ≡ hd → r.history.held ≡ hd → length r.region ≡ region_size
+erase-after : (hd : Result (Option Bank) Refusal) → active_ok hd ≡ true → (r : Run) → loaded r.region ≡ hd → r.history.held ≡ hd → length r.region ≡ region_size
     → ((next_all r erase_cut).region ≡ with_bank r.region (target hd) (fill 255 100 ++ drop 100 (Region.bank_of r.region (target hd)))) × ((next_all r erase_cut).history.held ≡ hd)
 unfolding erase_cut
 erase-after hd ok r e f l =
@@ -366,7 +364,7 @@ erase-after hd ok r e f l =
     let p = by-erase-cut hd ok r.history.records r.image r.region l in
     (ap (λ (x : Run). x.region) q ∙ p.0 ∙ torn-first (target hd) 100 r.region l (target_fits hd) (omega arith), ap (λ (x : Run). x.history.held) q ∙ p.1)
 
-by : (last : Event) (held : Loaded → Loaded) → Ends last held → Gives last held
+by : (last : Event) (held : Result (Option Bank) Refusal → Result (Option Bank) Refusal) → Ends last held → Gives last held
 by last held g region l = unfold found in (held_after last held g (loaded region) (active-ok region (loaded region) l refl) (found region) refl refl l)
 
 pub whole_update : WholeUpdate
@@ -460,7 +458,7 @@ typed : (last : Event) → Typed last → AllTyped (update_with last)
 unfolding update_with
 typed last t = (zero-fits, (bytes-key, (proper, (bytes-dates, (tt, (bytes-routes, (tt, (tt, (tt, (tt, (tt, (tt, (t, tt)))))))))))))
 
-loads-by : (last : Event) (held : Loaded → Loaded) → Typed last → Gives last held → Loads last held
+loads-by : (last : Event) (held : Result (Option Bank) Refusal → Result (Option Bank) Refusal) → Typed last → Gives last held → Loads last held
 loads-by last held t g region l y = (demand3 region (update_with last) l y (typed last t)).loads ∙ g region l
 
 pub whole_update_loads : WholeUpdateLoads
@@ -489,8 +487,8 @@ cut_in_the_erase_loads region l y = (demand3 region erase_cut l y erase-typed).l
 
 abbrev Ended : Event → Type 0
 Ended last =
-    (hd : Loaded) → active_ok hd ≡ true → (rs : List Source) (im : Image) (region : List ℕ) → length region ≡ region_size
-    → (next (at hd rs im region (last· hd) (upd hd data· notes)) last).image.given ≡ some data·
+    (hd : Result (Option Bank) Refusal) → active_ok hd ≡ true → (rs : List Source) (im : Image) (region : List ℕ) → length region ≡ region_size
+    → (next (at hd rs im region (last· hd) (upd hd data· notes)) last).image.given ≡ Some data·
 
 given_word : Ended (call word)
 unfolding next on_call image_after
@@ -507,7 +505,7 @@ data-by last t g f region l y =
     let ok = active-ok region hd l refl in
     let r = next_all (found region) (update_with last) in
     let d = demand3 region (update_with last) l y (typed last t) in
-    let h : r.image.given ≡ some data· =
+    let h : r.image.given ≡ Some data· =
     ap (λ (x : Run). x.image.given) (before hd ok (found region) refl refl l last) ∙ f hd ok (found region).history.records (found region).image (region4 hd region l) (l4 hd region l) in
     let b : Region.bank_of r.region (target hd) ≡ r.image.bank = ap (bank_in r.region) (sym (g region l)) ∙ d.image in
     ap (λ (x : List ℕ). Region.data_of x 12) b ∙ subst (Holds r.image.bank) h d.given
@@ -529,8 +527,8 @@ pub typed-append : (xs ys : List Event) → AllTyped xs → AllTyped ys → AllT
 typed-append [] ys p q = q
 typed-append (x ∷ xs) ys p q = (p.0, typed-append xs ys p.1 q)
 
-after_one : (es : List Event) (held : Loaded → Loaded) → AllTyped es
-    → ((hd : Loaded) → active_ok hd ≡ true → (r : Run) → loaded r.region ≡ hd → r.history.held ≡ hd → length r.region ≡ region_size → (next_all r es).history.held ≡ held hd)
+after_one : (es : List Event) (held : Result (Option Bank) Refusal → Result (Option Bank) Refusal) → AllTyped es
+    → ((hd : Result (Option Bank) Refusal) → active_ok hd ≡ true → (r : Run) → loaded r.region ≡ hd → r.history.held ≡ hd → length r.region ≡ region_size → (next_all r es).history.held ≡ held hd)
     → AfterOne es held
 after_one es held p g region l y =
     let one = update_with (call word) in
@@ -542,7 +540,7 @@ after_one es held p g region l y =
     ∙ ap (λ (x : Run). x.history.held) (next-append one es (found region))
     ∙ g (the_new (loaded region)) (active-ok r.region (the_new (loaded region)) k.size e) r e f k.size
 
-after-by : (last : Event) (held : Loaded → Loaded) → Typed last → Ends last held → AfterOne (update_with last) held
+after-by : (last : Event) (held : Result (Option Bank) Refusal → Result (Option Bank) Refusal) → Typed last → Ends last held → AfterOne (update_with last) held
 after-by last held t g = after_one (update_with last) held (typed last t) (held_after last held g)
 
 pub last_committed : LastCommitted
@@ -565,11 +563,11 @@ data-op : padded (take 12 tail3) ≡ data·
 unfolding padded fill
 data-op = refl
 
-header-op : (hd : Loaded) → header hd tail3 crc_data crc_routes ≡ write 0 (header_bytes (updated hd) (written ∷ []) blank_word) ∷ []
+header-op : (hd : Result (Option Bank) Refusal) → header hd tail3 crc_data crc_routes ≡ write 0 (header_bytes (updated hd) (written ∷ []) blank_word) ∷ []
 unfolding bank_for fill
 header-op hd = rw crc-data
 
-module _ (hd : Loaded) (ok : active_ok hd ≡ true) (region : List ℕ) (l : length region ≡ region_size) where
+module _ (hd : Result (Option Bank) Refusal) (ok : active_ok hd ≡ true) (region : List ℕ) (l : length region ≡ region_size) where
   abbrev s2 : List Source
   s2 = sources2 crc_routes
 
@@ -577,14 +575,14 @@ module _ (hd : Loaded) (ok : active_ok hd ≡ true) (region : List ℕ) (l : len
   unfolding ran_ops
   ops-word = rw (does-word hd ok (region4 hd region l) s2 tail3 crc_data crc_routes (l4 hd region l)).1
 
-  ops-commit : ran_ops (region3 hd region l) (ready hd tail3 crc_data crc_routes) (commit Missing true ∷ word ∷ [])
+  ops-commit : ran_ops (region3 hd region l) (ready hd tail3 crc_data crc_routes) (commit None true ∷ word ∷ [])
       ≡ write 0 (header_bytes (updated hd) (written ∷ []) blank_word) ∷ write commit_offset commit_bytes ∷ []
   ops-commit =
-      ran hd (commit Missing true) (region3 hd region l) _ _ _ _ _ _ _ _ (word ∷ []) (does-commit hd ok (region3 hd region l) tail3 crc_data crc_routes (l3 hd region l))
+      ran hd (commit None true) (region3 hd region l) _ _ _ _ _ _ _ _ (word ∷ []) (does-commit hd ok (region3 hd region l) tail3 crc_data crc_routes (l3 hd region l))
       ∙ (λ i. header-op hd i ++ ops-word i)
 
   abbrev committing : List Lower
-  committing = commit Missing true ∷ word ∷ []
+  committing = commit None true ∷ word ∷ []
 
   ops-due : ran_ops region (due_first hd) (due ∷ due ∷ due ∷ committing)
       ≡ erase 0 ∷ erase sector_size ∷ write sector_size data· ∷ write 0 (header_bytes (updated hd) (written ∷ []) blank_word) ∷ write commit_offset commit_bytes ∷ []
@@ -643,13 +641,13 @@ unmarked1 = ap (λ (l : List ℕ). marked (take bank_size l)) (drop-fill 255 reg
 pub erased_has_none : ErasedHasNone
 erased_has_none =
     load-other erased 0 Mark erased-size (omega arith) (unmarked-refused erased 0 erased-size (omega arith) unmarked0)
-    ∙ ap (λ (v : Validated). or_else v Nothing) (unmarked-refused erased 1 erased-size (omega arith) unmarked1)
+    ∙ ap (λ (v : Result Bank Refusal). or_else v (Ok None)) (unmarked-refused erased 1 erased-size (omega arith) unmarked1)
 
 erased-bytes : Bytes erased
 erased-bytes = bytes-fill 255 region_size (omega arith)
 
 -- what load gives on an erased region follows from what it found there: none
-on-erased : (last : Event) (held : Loaded → Loaded) → Loads last held → on_erased last ≡ held Nothing
+on-erased : (last : Event) (held : Result (Option Bank) Refusal → Result (Option Bank) Refusal) → Loads last held → on_erased last ≡ held (Ok None)
 on-erased last held g = g erased erased-size erased-bytes ∙ ap held erased_has_none
 
 pub erased_update : ErasedUpdate

@@ -28,7 +28,6 @@ use Rattle.writer.specs.State.{is_due, write_due, data_due, first_due, stage_of,
 use Rattle.writer.proofs.Laws.{Ranged, ranged, fill-fits}
 use Rattle.lower.specs.Lower.{may_append, may_begin, may_end, with_source, source_step, with_table, table_step, accepted, more_contents, with_bytes, appended, bytes_step, with_end, end_step, closed_contents, with_closed, close_step}
 use Rattle.due.specs.Due.{ops_of, operated, with_stage, step_of, due_step}
-use Rattle.commit.specs.declared.Stamp.{Stamp}
 use Rattle.commit.specs.Commit.{bank_for, records_for, is_idle, is_header_written, may_commit, is_current, commit_step, commit_ops, word_step, word_ops}
 use Rattle.commit.specs.Unchanged.{may_ask, is_unchanged, unchanged_step}
 use Rattle.run.specs.Run.{Lower, source, table, bytes, end, close, due, unchanged, commit, word, lower_step, lower_ops}
@@ -39,6 +38,7 @@ use Rattle.powerloss.proofs.Commits.{fit_length}
 use Rattle.powerloss.specs.Operations.{sectors, writes}
 use Rattle.powerloss.proofs.Exactly.{compare_ops, ops-are}
 use Rattle.header.specs.Header.{commit_offset}
+use Rattle.std.specs.Prelude.{Ok, Option, ℤ}
 
 -- in writing mode, with n bytes written: none before the first erase
 abbrev pub so_far : Stage → ℕ → ℕ
@@ -51,15 +51,15 @@ so_far HeaderWritten n = min n 1 + sectors n + writes n + 1
 so_far Committed n = min n 1 + sectors n + writes n + 2
 
 -- a header is written for one byte or more
-abbrev Some : Stage → ℕ → Type 0
-Some HeaderWritten n = 1 ≤ n
-Some Committed n = 1 ≤ n
-Some Idle n = Unit {0}
-Some (Due o) n = Unit {0}
+abbrev AnyBytes : Stage → ℕ → Type 0
+AnyBytes HeaderWritten n = 1 ≤ n
+AnyBytes Committed n = 1 ≤ n
+AnyBytes Idle n = Unit {0}
+AnyBytes (Due o) n = Unit {0}
 
 abbrev pub Tally : Bool → Stage → ℕ → ℕ → Type 0
 Tally true st n ops = ops ≡ 0
-Tally false st n ops = (ops ≡ so_far st n) × Some st n
+Tally false st n ops = (ops ≡ so_far st n) × AnyBytes st n
 
 abbrev pub TallyOf : ℕ → Writer → Type 0
 TallyOf ops w = Tally w.beginning.comparing w.stage w.contents.written ops
@@ -184,7 +184,7 @@ module _ (region : List ℕ) (w : Writer) (ops m : ℕ) (l : length region ≡ r
   end-tally true e = quiet e
   end-tally false e = quiet e
 
-  unchanged-tally : (a b c : Bool) → m ≡ ops + 0 → TallyOf m (pick a (pick b (record { answer = pick c Same Different; writer = w }) (stays w Turn)) (stays w Region)).writer
+  unchanged-tally : (a b c : Bool) → m ≡ ops + 0 → TallyOf m (pick a (pick b (record { answer = pick c (Ok Same) (Ok Different); writer = w }) (stays w Turn)) (stays w Region)).writer
   unchanged-tally true true c e = quiet e
   unchanged-tally true false c e = quiet e
   unchanged-tally false b c e = quiet e
@@ -199,7 +199,7 @@ module _ (region : List ℕ) (w : Writer) (ops m : ℕ) (l : length region ≡ r
       (only-idle w.beginning.comparing w.contents w.stage own.stage (open_of e) d) (quiet q)
 
   appended-tally : (n : ℕ) (xs : List ℕ) (d : Bool) → may_append w ≡ true → is_due w.contents ≡ d → m ≡ ops + 0
-      → TallyOf m (pick {A = Step} d (record { answer = Appended 0; writer = w }) (record { answer = Appended n; writer = with_bytes w (take n xs) })).writer
+      → TallyOf m (pick {A = Step} d (record { answer = Ok (Appended 0); writer = w }) (record { answer = Ok (Appended n); writer = with_bytes w (take n xs) })).writer
   unfolding with_bytes
   appended-tally n xs true e d q = quiet q
   appended-tally n xs false e d q = stage-tally w.beginning.comparing (more_contents w.contents (take n xs)) m (none-due e d q)
@@ -228,14 +228,14 @@ module _ (region : List ℕ) (w : Writer) (ops m : ℕ) (l : length region ≡ r
       (step-tally region w ops m own.contents w.beginning.comparing w.stage own.stage refl h q))
 
   -- commit's two writes
-  head-tally : (stamp : Stamp) (current : Bool) → may_commit w ≡ true → is_current w current ≡ true → is_fit (bank_for w stamp) (records_for w) ≡ true → m ≡ ops + 1 → TallyOf m (with_stage w HeaderWritten)
+  head-tally : (stamp : Option ℤ) (current : Bool) → may_commit w ≡ true → is_current w current ≡ true → is_fit (bank_for w stamp) (records_for w) ≡ true → m ≡ ops + 1 → TallyOf m (with_stage w HeaderWritten)
   head-tally stamp current a b f q =
       let i = is-idle w.stage (and_right w.contents.closed (is_idle w.stage) (and_right (in_range w) (w.contents.closed && is_idle w.stage) a)) in
       let c = not-true w.beginning.comparing (and_left (not w.beginning.comparing) current b) in
       let g = subst (λ (x : Bool). Tally x Idle w.contents.written ops) c (subst (λ (s : Stage). Tally w.beginning.comparing s w.contents.written ops) i h) in
       subst (λ (x : Bool). Tally x HeaderWritten w.contents.written m) (sym c) (omega (arith, g.0), fit_length w stamp f)
 
-  commit-tally : (stamp : Stamp) (current : Bool) (x : Op) (a b f : Bool) → may_commit w ≡ a → is_current w current ≡ b → is_fit (bank_for w stamp) (records_for w) ≡ f
+  commit-tally : (stamp : Option ℤ) (current : Bool) (x : Op) (a b f : Bool) → may_commit w ≡ a → is_current w current ≡ b → is_fit (bank_for w stamp) (records_for w) ≡ f
       → m ≡ ops + length (pick (a && (b && f)) (x ∷ []) [])
       → TallyOf m (pick a (pick b (pick f (did (with_stage w HeaderWritten)) (stays w Unfit)) (stays w Obsolete)) (stays w Turn)).writer
   commit-tally stamp current x true true true e g f q = head-tally stamp current e g f q
@@ -251,7 +251,7 @@ module _ (region : List ℕ) (w : Writer) (ops m : ℕ) (l : length region ≡ r
       subst (λ (x : Bool). Tally x Committed w.contents.written m) (sym c) (omega (arith, g.0), g.1)
   word-tally x false e q = quiet q
 
-  commit-at : (stamp : Stamp) (current : Bool) → m ≡ ops + length (commit_ops region w stamp current) → TallyOf m (commit_step region w stamp current).writer
+  commit-at : (stamp : Option ℤ) (current : Bool) → m ≡ ops + length (commit_ops region w stamp current) → TallyOf m (commit_step region w stamp current).writer
   unfolding commit_step commit_ops
   commit-at stamp current q =
       let e = eq-eqb (length region) region_size l in

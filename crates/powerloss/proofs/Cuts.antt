@@ -1,9 +1,9 @@
 -- Laws of a cut: the region that it leaves and the number of operations done then, operation by operation. Other proofs cite these, not the
 -- definitions. With no byte of the next operation done it is a cut between two operations.
+use Rattle.std.specs.Prelude.{Some, None, Option}
 use mathlib.Core.Path.{◌≡◌, refl, sym, ap, ◌∙◌}
 use mathlib.Core.Bool.{Bool, true, false}
 use mathlib.Core.List.{List, [], ◌∷◌, ◌++◌}
-use mathlib.Core.Option.{Option, none, some}
 use Prim.Native.Nat.{ℕ, zero, suc, ◌+◌, ◌≤◌, ◌<◌}
 use native.Mathlib.Nat.{suc-add}
 use borrow.Author.Tests.{le-leb, lt-leb, leb-true, leb-false}
@@ -91,11 +91,11 @@ number_at [] rest op j = number_by j op rest (leb (size op) j) refl
 number_at (first ∷ before) rest op j =
     done-after first (before ++ (op ∷ rest)) (length before) j ∙ ap suc (number_at before rest op j) ∙ sym (suc-add (length before) (pick (leb (size op) j) 1 0))
 
-lower-at : (c : Lower) (k j : ℕ) (r : Run) (w : Writer) → r.state ≡ some w → (next r (cut c k j)).region ≡ cut_at (target w.beginning.active) k j (lower_ops r.region w c) r.region
+lower-at : (c : Lower) (k j : ℕ) (r : Run) (w : Writer) → r.state ≡ Some w → (next r (cut c k j)).region ≡ cut_at (target w.beginning.active) k j (lower_ops r.region w c) r.region
 unfolding next on_cut
 lower-at c k j r w e = rw e
 
-upper-at : (c : Upper) (k j : ℕ) (r : Run) (w : Writer) → r.state ≡ some w → (next r (upper_cut c k j)).region ≡ cut_at (target w.beginning.active) k j (upper_ops r.region w c) r.region
+upper-at : (c : Upper) (k j : ℕ) (r : Run) (w : Writer) → r.state ≡ Some w → (next r (upper_cut c k j)).region ≡ cut_at (target w.beginning.active) k j (upper_ops r.region w c) r.region
 unfolding next on_upper_cut
 upper-at c k j r w e = rw e
 
@@ -137,16 +137,16 @@ cut-typed = record { lower = λ c k j p. p; upper = λ c k j p. p; beginning = �
 
 -- ---- a cut drops the update
 
-no-open : (c : Lower) (n : ℕ) (h : History) (v : Option Update) → (after_lower_cut c n h v).open· ≡ none
+no-open : (c : Lower) (n : ℕ) (h : History) (v : Option Update) → (after_lower_cut c n h v).open· ≡ None
 unfolding after_lower_cut
-no-open c n h none = refl
-no-open c n h (some u) = refl
+no-open c n h None = refl
+no-open c n h (Some u) = refl
 
-drops : (c : Lower) (k j : ℕ) (r : Run) (w : Writer) → r.state ≡ some w → NoneOpen (next r (cut c k j))
+drops : (c : Lower) (k j : ℕ) (r : Run) (w : Writer) → r.state ≡ Some w → NoneOpen (next r (cut c k j))
 unfolding next on_cut
 drops c k j r w e = rw e (refl, no-open c (done_at k j (lower_ops r.region w c)) r.history r.history.open·)
 
-upper-drops : (c : Upper) (k j : ℕ) (r : Run) (w : Writer) → r.state ≡ some w → NoneOpen (next r (upper_cut c k j))
+upper-drops : (c : Upper) (k j : ℕ) (r : Run) (w : Writer) → r.state ≡ Some w → NoneOpen (next r (upper_cut c k j))
 unfolding next on_upper_cut
 upper-drops c k j r w e = rw e (refl, refl)
 

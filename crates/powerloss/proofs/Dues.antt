@@ -14,15 +14,13 @@ use Rattle.region.specs.Region.{region_size, bank_size, sector_size, bank_of}
 use Rattle.header.specs.Header.{marked}
 use Rattle.header.proofs.WriteLaws.{no-magic}
 use Rattle.base.specs.Lists.{byte}
-use Rattle.bank.specs.declared.Loaded.{Loaded}
 use Rattle.flash.specs.Flash.{Op, erase, write, size, done, torn, applied, performed}
 use Rattle.flash.proofs.Laws.{length-bank, bank-applied, torn-none, cut-first}
 use Rattle.writer.specs.declared.Operation.{Operation}
 use Rattle.writer.specs.declared.Operation.TheVariants.{Erase, Write, Compare}
 use Rattle.writer.specs.declared.Stage.{Stage}
 use Rattle.writer.specs.declared.Stage.TheVariants.{Idle, Due, HeaderWritten, Committed}
-use Rattle.writer.specs.declared.Answer.{Answer}
-use Rattle.writer.specs.declared.Answer.TheVariants.{Done, Appended, NoneDue, Same, Different, Refused}
+use Rattle.writer.specs.declared.Answer.TheVariants.{Done, Appended, NoneDue, Same, Different}
 use Rattle.writer.specs.declared.Contents.{Contents}
 use Rattle.writer.specs.declared.Writer.{Writer}
 use Rattle.writer.specs.declared.Step.{Step}
@@ -40,14 +38,18 @@ use Rattle.powerloss.proofs.Keeps.{keeps-stage, keeps-emptied}
 use Rattle.powerloss.proofs.Range.{tail-aligned, due-fill, write-ok, data-ok, due-ok, due-of, erase-mode, write-at, erase-data}
 use Rattle.powerloss.proofs.Quiet.{data-lies}
 use Rattle.powerloss.proofs.Compared.{tail-compared}
+use Rattle.std.specs.Prelude.{Ok, Err, Result, Option}
+use Rattle.refusal.specs.declared.Refusal.{Refusal}
+use Rattle.header.specs.declared.Bank.{Bank}
+use Rattle.writer.specs.declared.Answer.{Answer}
 
 -- what operations on bank n leave, all of them or the first ones
-pub record Carried (ops : List Op) (n : ℕ) (region : List ℕ) (hd : Loaded) (rs : List Source) (im : Image) (w : Writer) (u : Update) : Type 0 where
+pub record Carried (ops : List Op) (n : ℕ) (region : List ℕ) (hd : Result (Option Bank) Refusal) (rs : List Source) (im : Image) (w : Writer) (u : Update) : Type 0 where
   pub whole : Kept (performed n ops region) hd rs im
   pub open· : Open (performed n ops region) hd w u
   pub cut : (k j : ℕ) → Kept (cut_at n k j ops region) hd rs im
 
-module _ (n : ℕ) (region : List ℕ) (hd : Loaded) (rs : List Source) (im : Image) (w : Writer) (u : Update) (k : Kept region hd rs im) where
+module _ (n : ℕ) (region : List ℕ) (hd : Result (Option Bank) Refusal) (rs : List Source) (im : Image) (w : Writer) (u : Update) (k : Kept region hd rs im) where
   pub no-ops : Open region hd w u → Carried [] n region hd rs im w u
   unfolding performed
   no-ops o = record { whole = k; open· = o; cut = λ i j. rw (cut-none n i j region) k }
@@ -64,14 +66,14 @@ module _ (n : ℕ) (region : List ℕ) (hd : Loaded) (rs : List Source) (im : Im
       parts q (suc i) j = rw (cut-after n op [] region i j, cut-none n i j (applied n op region)) q
 
 -- an operation on the bank that is written, which the state names
-module _ (region : List ℕ) (hd a : Loaded) (rs : List Source) (im : Image) (k : Kept region hd rs im) (v : Live region hd a) (op : Op) where
+module _ (region : List ℕ) (hd a : Result (Option Bank) Refusal) (rs : List Source) (im : Image) (k : Kept region hd rs im) (v : Live region hd a) (op : Op) where
   pub kept-unmarked-at : (j : ℕ) → marked (done j op (bank_of region (target a))) ≡ false → Kept (torn (target a) j op region) hd rs im
   kept-unmarked-at j =
-      subst (λ (x : Loaded). marked (done j op (bank_of region (target x))) ≡ false → Kept (torn (target x) j op region) hd rs im) (sym v.active) (kept-unmarked region hd rs im k j op a v)
+      subst (λ (x : Result (Option Bank) Refusal). marked (done j op (bank_of region (target x))) ≡ false → Kept (torn (target x) j op region) hd rs im) (sym v.active) (kept-unmarked region hd rs im k j op a v)
 
   pub live_at : Live (applied (target a) op region) hd a
   unfolding applied
-  live_at = subst (λ (x : Loaded). Live (torn (target x) (size op) op region) hd a) (sym v.active) (live-after region hd rs im k (size op) op a v)
+  live_at = subst (λ (x : Result (Option Bank) Refusal). Live (torn (target x) (size op) op region) hd a) (sym v.active) (live-after region hd rs im k (size op) op a v)
 
   pub bank-at : bank_of (applied (target a) op region) (target a) ≡ done (size op) op (bank_of region (target a))
   bank-at = bank-applied region (target a) k.size (target_fits a) op
@@ -79,7 +81,7 @@ module _ (region : List ℕ) (hd a : Loaded) (rs : List Source) (im : Image) (k 
   pub length_at : length (bank_of region (target a)) ≡ bank_size
   length_at = length-bank region (target a) k.size (target_fits a)
 
-module _ (region : List ℕ) (hd : Loaded) (rs : List Source) (im : Image) (w : Writer) (u : Update) (k : Kept region hd rs im) (o : Open region hd w u) where
+module _ (region : List ℕ) (hd : Result (Option Bank) Refusal) (rs : List Source) (im : Image) (w : Writer) (u : Update) (k : Kept region hd rs im) (o : Open region hd w u) where
   own : Ranged w
   own = ranged w o.tied.range
 
@@ -247,14 +249,14 @@ module _ (region : List ℕ) (hd : Loaded) (rs : List Source) (im : Image) (w : 
   unfolding due_ops
   due-ops-is = rw (eq-eqb (length region) region_size k.size, o.tied.range)
 
-  no_change : (x : Answer) → update_after due x u ≡ u
+  no_change : (x : Result Answer Refusal) → update_after due x u ≡ u
   unfolding update_after
-  no_change Done = refl
-  no_change (Appended n) = refl
-  no_change NoneDue = refl
-  no_change Same = refl
-  no_change Different = refl
-  no_change (Refused r) = refl
+  no_change (Ok Done) = refl
+  no_change (Ok (Appended n)) = refl
+  no_change (Ok NoneDue) = refl
+  no_change (Ok Same) = refl
+  no_change (Ok Different) = refl
+  no_change (Err r) = refl
 
   pub on-due : Carried (due_ops region w) (target w.beginning.active) region hd rs im (due_step region w).writer (update_after due (due_step region w).answer u)
   on-due =

@@ -29,6 +29,9 @@ use Rattle.powerloss.proofs.Uppers.{inv-found, inv-all}
 use Rattle.powerloss.proofs.States.{reached}
 use Rattle.powerloss.specs.Ranges.{SomethingDue, Exactly, DueInRange}
 use Rattle.powerloss.specs.Operations.{DueExactly}
+use Rattle.refusal.specs.declared.Refusal.{Refusal}
+use Rattle.writer.specs.declared.Answer.{Answer}
+use Rattle.std.specs.Prelude.{Ok, Result}
 
 -- ---- the condition as a test
 
@@ -51,7 +54,7 @@ not-due t false e n = e
 
 -- ---- a stage within its ranges
 
-answer-is : (region : List ℕ) (w : Writer) (c : Bool) (st : Stage) → stage_ok c w.contents st ≡ true → (step_of region w st).answer ≡ pick (is_due w.contents) Done NoneDue
+answer-is : (region : List ℕ) (w : Writer) (c : Bool) (st : Stage) → stage_ok c w.contents st ≡ true → (step_of region w st).answer ≡ pick (is_due w.contents) (Ok Done) (Ok NoneDue)
 answer-is region w c Idle k = rw (idle-due c w.contents k)
 answer-is region w c (Due o) k = rw (due-ok c w.contents o k).0
 answer-is region w c HeaderWritten k = rw (empty-due w.contents (headed-end c w.contents k).empty)
@@ -83,7 +86,7 @@ no-op c t tail Committed k d = refl
 
 -- ---- the call
 
-is-done : (d : Bool) → pick d Done NoneDue ≡ Done → d ≡ true
+is-done : (d : Bool) → ◌≡◌ {A = Result Answer Refusal} (pick d (Ok Done) (Ok NoneDue)) (Ok Done) → d ≡ true
 is-done true e = refl
 is-done false e = absurd (false≢true (ap is_done e))
 
@@ -94,7 +97,7 @@ module _ (region : List ℕ) (w : Writer) (l : length region ≡ region_size) (r
   ok_in : (c : Bool) → w.beginning.comparing ≡ c → stage_ok c w.contents w.stage ≡ true
   ok_in c e = ap (λ (x : Bool). stage_ok x w.contents w.stage) (sym e) ∙ ok
 
-  answered : (due_step region w).answer ≡ pick (is_due w.contents) Done NoneDue
+  answered : (due_step region w).answer ≡ pick (is_due w.contents) (Ok Done) (Ok NoneDue)
   unfolding due_step
   answered = rw (eq-eqb (length region) region_size l, r) (answer-is region w w.beginning.comparing w.stage ok)
 
@@ -102,8 +105,8 @@ module _ (region : List ℕ) (w : Writer) (l : length region ≡ region_size) (r
   unfolding due_ops
   ops-are = rw (eq-eqb (length region) region_size l, r)
 
-  when : (d : Bool) → is_due w.contents ≡ d → (due_step region w).answer ≡ pick d Done NoneDue
-  when d e = answered ∙ ap (λ (x : Bool). pick x Done NoneDue) e
+  when : (d : Bool) → is_due w.contents ≡ d → (due_step region w).answer ≡ pick d (Ok Done) (Ok NoneDue)
+  when d e = answered ∙ ap (λ (x : Bool). pick x (Ok Done) (Ok NoneDue)) e
 
   exactly : Exactly region w
   exactly =

@@ -4,7 +4,6 @@
 use mathlib.Core.Path.{◌≡◌, refl, ap, ◌∙◌}
 use mathlib.Core.Bool.{Bool, true, false}
 use mathlib.Core.Logic.{◌⊎◌}
-use mathlib.Core.Option.{Option, none, some}
 use mathlib.Core.List.{List, [], ◌++◌}
 use Prim.Native.Nat.{ℕ, zero, suc, ◌+◌, ◌-◌, ◌%◌, ◌^◌, ◌≤◌, ◌<◌}
 use native.Mathlib.Omega.{arith}
@@ -18,13 +17,10 @@ use Rattle.base.specs.Lists.{fill}
 use Rattle.record.specs.Types.{All}
 use Rattle.refusal.specs.declared.Refusal.TheVariants.{Mark}
 use Rattle.header.specs.declared.Bank.{Bank}
-use Rattle.header.specs.declared.Validated.{Validated}
 use Rattle.region.specs.Region.{region_size, sector_size, bank_of, data_of}
 use Rattle.header.specs.Header.{marked}
 use Rattle.header.specs.WriteHeader.{header_bytes, blank_word, is_fit}
 use Rattle.header.specs.Types.{Bytes, Proper, Numbers}
-use Rattle.bank.specs.declared.Loaded.{Loaded}
-use Rattle.bank.specs.declared.Loaded.TheVariants.{Found, Nothing, Refused as NotRead}
 use Rattle.bank.specs.Bank.{validated, or_else, loaded}
 use Rattle.flash.specs.Flash.{Op, done, torn}
 use Rattle.flash.proofs.Laws.{length-torn, bank-torn, other-torn}
@@ -41,15 +37,17 @@ use Rattle.powerloss.specs.Machine.{Image, bank_in, records_in}
 use Rattle.powerloss.specs.Claim.{Holds}
 use Rattle.powerloss.proofs.Load.{load-own, load-other, unmarked-refused, valid_same, target_fits}
 use Rattle.powerloss.proofs.Records.{table_of, from_of}
+use Rattle.std.specs.Prelude.{Ok, Err, Some, None, Result, Option}
+use Rattle.refusal.specs.declared.Refusal.{Refusal}
 
 -- ---- the region and the held bank
 
-abbrev pub Small : Loaded → Type 0
-Small (Found b) = b.generation < 2 ^ 32
-Small Nothing = Unit {0}
-Small (NotRead r) = Unit {0}
+abbrev pub Small : Result (Option Bank) Refusal → Type 0
+Small (Ok (Some b)) = b.generation < 2 ^ 32
+Small (Ok None) = Unit {0}
+Small (Err r) = Unit {0}
 
-pub record Kept (region : List ℕ) (hd : Loaded) (rs : List Source) (im : Image) : Type 0 where
+pub record Kept (region : List ℕ) (hd : Result (Option Bank) Refusal) (rs : List Source) (im : Image) : Type 0 where
   pub size : length region ≡ region_size
   pub loads : loaded region ≡ hd
   pub records : records_in region hd ≡ rs
@@ -58,9 +56,9 @@ pub record Kept (region : List ℕ) (hd : Loaded) (rs : List Source) (im : Image
   pub small : Small hd
 
 -- the bank that isn't written is the one held
-pub record Live (region : List ℕ) (hd a : Loaded) : Type 0 where
+pub record Live (region : List ℕ) (hd a : Result (Option Bank) Refusal) : Type 0 where
   pub active : a ≡ hd
-  pub other : or_else (validated region (1 - target hd)) Nothing ≡ hd
+  pub other : or_else (validated region (1 - target hd)) (Ok None) ≡ hd
 
 -- ---- the state and the open update
 
@@ -133,7 +131,7 @@ Lies (Due (Compare a n)) t tail u b = ⊥
 Lies HeaderWritten t tail u b = HeaderLies u b
 Lies Committed t tail u b = Unit {0}
 
-abbrev pub LiveAt : Stage → List ℕ → Loaded → Loaded → Type 0
+abbrev pub LiveAt : Stage → List ℕ → Result (Option Bank) Refusal → Result (Option Bank) Refusal → Type 0
 LiveAt Committed region hd active = Unit {0}
 LiveAt Idle region hd active = Live region hd active
 LiveAt (Due o) region hd active = Live region hd active
@@ -147,36 +145,36 @@ pub record Begins (region : List ℕ) (b : Bank) (xs : List ℕ) : Type 0 where
   pub same : data_of (bank_of region b.number) (length xs) ≡ xs
 
 -- `different` is false exactly while the active bank's data begin with the bytes compared
-abbrev pub Told : List ℕ → Loaded → List ℕ → Bool → Type 0
-Told region (Found b) xs d = (d ≡ false → Begins region b xs) × (Begins region b xs → d ≡ false)
-Told region Nothing xs d = Unit {0}
-Told region (NotRead r) xs d = Unit {0}
+abbrev pub Told : List ℕ → Result (Option Bank) Refusal → List ℕ → Bool → Type 0
+Told region (Ok (Some b)) xs d = (d ≡ false → Begins region b xs) × (Begins region b xs → d ≡ false)
+Told region (Ok None) xs d = Unit {0}
+Told region (Err r) xs d = Unit {0}
 
 -- the bytes compared, front, are the first `written` ones of the update; the others are in the tail
-pub record Compared (region : List ℕ) (active : Loaded) (wr fl : ℕ) (different : Bool) (tail d : List ℕ) : Type 0 where
+pub record Compared (region : List ℕ) (active : Result (Option Bank) Refusal) (wr fl : ℕ) (different : Bool) (tail d : List ℕ) : Type 0 where
   pub front : List ℕ
   pub count : length front ≡ wr
   pub all : d ≡ front ++ take fl tail
   pub told : Told region active front different
 
 -- comparing does nothing to the region
-abbrev pub Mode : Bool → Stage → List ℕ → Loaded → Loaded → Contents → List ℕ → Update → Type 0
+abbrev pub Mode : Bool → Stage → List ℕ → Result (Option Bank) Refusal → Result (Option Bank) Refusal → Contents → List ℕ → Update → Type 0
 Mode true st region hd active t tail u = (active ≡ hd) × Compared region active t.written t.fill t.different tail u.data·
 Mode false st region hd active t tail u = LiveAt st region hd active × Lies st t tail u (bank_of region (target active))
 
-pub record Open (region : List ℕ) (hd : Loaded) (w : Writer) (u : Update) : Type 0 where
+pub record Open (region : List ℕ) (hd : Result (Option Bank) Refusal) (w : Writer) (u : Update) : Type 0 where
   pub tied : Tied w u
   pub mode : Mode w.beginning.comparing w.stage region hd w.beginning.active w.contents w.tail u
 
 -- without a state nothing is required; with one an update is open
-abbrev pub State : List ℕ → Loaded → Option Writer → Option Update → Type 0
-State region hd none v = Unit {0}
-State region hd (some w) none = ⊥
-State region hd (some w) (some u) = Open region hd w u
+abbrev pub State : List ℕ → Result (Option Bank) Refusal → Option Writer → Option Update → Type 0
+State region hd None v = Unit {0}
+State region hd (Some w) None = ⊥
+State region hd (Some w) (Some u) = Open region hd w u
 
 -- ---- an operation, whole or in part, that leaves the written bank without its mark
 
-module _ (region : List ℕ) (hd : Loaded) (rs : List Source) (im : Image) (k : Kept region hd rs im) (j : ℕ) (op : Op) where
+module _ (region : List ℕ) (hd : Result (Option Bank) Refusal) (rs : List Source) (im : Image) (k : Kept region hd rs im) (j : ℕ) (op : Op) where
   abbrev after : List ℕ
   after = torn (target hd) j op region
 
@@ -190,20 +188,20 @@ module _ (region : List ℕ) (hd : Loaded) (rs : List Source) (im : Image) (k : 
   same-other =
       valid_same region after (1 - target hd) k.size length-after (omega arith) (same-bank (1 - target hd) (omega arith) (λ e. omega arith))
 
-  pub live-after : (active : Loaded) → Live region hd active → Live after hd active
-  live-after active v = record { active = v.active; other = ap (λ (x : Validated). or_else x Nothing) same-other ∙ v.other }
+  pub live-after : (active : Result (Option Bank) Refusal) → Live region hd active → Live after hd active
+  live-after active v = record { active = v.active; other = ap (λ (x : Result Bank Refusal). or_else x (Ok None)) same-other ∙ v.other }
 
-same-records : (region region' : List ℕ) (hd : Loaded) → length region ≡ region_size → loaded region ≡ hd → ((m : ℕ) → m ≤ 1 → (m ≡ target hd → ⊥) → bank_of region' m ≡ bank_of region m)
+same-records : (region region' : List ℕ) (hd : Result (Option Bank) Refusal) → length region ≡ region_size → loaded region ≡ hd → ((m : ℕ) → m ≤ 1 → (m ≡ target hd → ⊥) → bank_of region' m ≡ bank_of region m)
     → (records_in region' hd ≡ records_in region hd) × (bank_in region' hd ≡ bank_in region hd)
 unfolding target
-same-records region region' (Found b) e g f =
+same-records region region' (Ok (Some b)) e g f =
     let o = load-own region b e g in
     let q = f b.number o.number (λ h. omega (arith, o.number)) in
     rw q (refl, refl)
-same-records region region' Nothing e g f = (refl, refl)
-same-records region region' (NotRead r) e g f = (refl, refl)
+same-records region region' (Ok None) e g f = (refl, refl)
+same-records region region' (Err r) e g f = (refl, refl)
 
-module _ (region : List ℕ) (hd : Loaded) (rs : List Source) (im : Image) (k : Kept region hd rs im) (j : ℕ) (op : Op) where
+module _ (region : List ℕ) (hd : Result (Option Bank) Refusal) (rs : List Source) (im : Image) (k : Kept region hd rs im) (j : ℕ) (op : Op) where
   -- the held bank's bytes stay
   pub kept-records : records_in (torn (target hd) j op region) hd ≡ rs
   kept-records = (same-records region (torn (target hd) j op region) hd k.size k.loads (same-bank region hd rs im k j op)).0 ∙ k.records
@@ -211,7 +209,7 @@ module _ (region : List ℕ) (hd : Loaded) (rs : List Source) (im : Image) (k : 
   pub kept-image : bank_in (torn (target hd) j op region) hd ≡ im.bank
   kept-image = (same-records region (torn (target hd) j op region) hd k.size k.loads (same-bank region hd rs im k j op)).1 ∙ k.image
 
-  pub kept-unmarked : (active : Loaded) → Live region hd active → marked (done j op (bank_of region (target hd))) ≡ false → Kept (torn (target hd) j op region) hd rs im
+  pub kept-unmarked : (active : Result (Option Bank) Refusal) → Live region hd active → marked (done j op (bank_of region (target hd))) ≡ false → Kept (torn (target hd) j op region) hd rs im
   kept-unmarked active v f =
       let n = target hd in
       let r' = torn n j op region in

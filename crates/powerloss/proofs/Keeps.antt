@@ -29,11 +29,11 @@ use Rattle.writer.specs.State.{position, is_due, write_due, data_due, stage_of, 
 use Rattle.writer.proofs.Laws.{Ranged, ranged, fill-fits, count_fits}
 use Rattle.lower.specs.Lower.{may_append, may_begin, may_end, accepted, more_contents, closed_contents, with_source, with_table, with_end, with_bytes, with_closed, source_step, table_step, end_step, bytes_step, appended, close_step}
 use Rattle.due.specs.Due.{differs, emptied, with_stage, with_emptied, operated, step_of, due_step}
-use Rattle.commit.specs.declared.Stamp.{Stamp}
 use Rattle.commit.specs.Commit.{is_idle, is_header_written, may_commit, is_current, bank_for, records_for, commit_step, word_step}
 use Rattle.commit.specs.Unchanged.{unchanged_step, may_ask, is_unchanged}
 use Rattle.run.specs.Run.{Lower, source, table, bytes, end, close, due, unchanged, commit, word, lower_step, lower_region, ran_writer}
 use Rattle.powerloss.proofs.Range.{range-of, open-aligned, contents-of, aligned-of, empty-contents, empty-idle, write-ok, data-ok, stage-ok, due-ok, due-of, erase-mode, headed-of, committed-of, idle-due, closed-empty, close-stage, close-contents, tables-none, tables-open, tables-later}
+use Rattle.std.specs.Prelude.{Ok, Option, ℤ}
 
 -- ---- stages
 
@@ -146,8 +146,8 @@ module _ (region : List ℕ) (w : Writer) (r : in_range w ≡ true) where
   on-bytes xs =
       let t = w.contents in
       let n = accepted t (length xs) in
-      let some· : Step = record { answer = Appended n; writer = with_bytes w (take n xs) } in
-      let none· : Step = record { answer = Appended 0; writer = w } in
+      let some· : Step = record { answer = Ok (Appended n); writer = with_bytes w (take n xs) } in
+      let none· : Step = record { answer = Ok (Appended 0); writer = w } in
       by-test (may_append w) (pick (leb (position t + length xs) capacity) (pick (is_due t) none· some·) (stays w Full)) (stays w Turn)
       (λ e. by-test (leb (position t + length xs) capacity) (pick (is_due t) none· some·) (stays w Full)
       (λ f. by-test (is_due t) none· some· refused
@@ -201,7 +201,7 @@ module _ (region : List ℕ) (w : Writer) (r : in_range w ≡ true) where
   on-unchanged : in_range (unchanged_step region w).writer ≡ true
   unfolding unchanged_step
   on-unchanged =
-      let answered : Step = record { answer = pick (is_unchanged region w w.beginning.active) Same Different; writer = w } in
+      let answered : Step = record { answer = pick (is_unchanged region w w.beginning.active) (Ok Same) (Ok Different); writer = w } in
       by-test (eqb (length region) region_size) (pick (may_ask w) answered (stays w Turn)) (stays w Region) (λ e. by-test (may_ask w) answered (stays w Turn) refused refused) refused
 
   header-written : (current : Bool) → may_commit w ≡ true → is_current w current ≡ true → in_range (with_stage w HeaderWritten) ≡ true
@@ -213,7 +213,7 @@ module _ (region : List ℕ) (w : Writer) (r : in_range w ≡ true) where
       let wr = not-true w.beginning.comparing (and_left (not w.beginning.comparing) current g) in
       keeps-stage w r HeaderWritten (headed-of w.beginning.comparing t wr cl (closed-empty t cl (idle-due w.beginning.comparing t (stage_at Idle id))))
 
-  on-commit : (stamp : Stamp) (current : Bool) → in_range (commit_step region w stamp current).writer ≡ true
+  on-commit : (stamp : Option ℤ) (current : Bool) → in_range (commit_step region w stamp current).writer ≡ true
   unfolding commit_step
   on-commit stamp current =
       let fit = pick (is_fit (bank_for w stamp) (records_for w)) (did (with_stage w HeaderWritten)) (stays w Unfit) in

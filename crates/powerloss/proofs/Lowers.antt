@@ -3,7 +3,6 @@
 use mathlib.Core.Path.{◌≡◌, refl, sym}
 use mathlib.Core.Bool.{Bool, true, false, false≢true}
 use mathlib.Core.Logic.{inl}
-use mathlib.Core.Option.{Option, none, some}
 use mathlib.Core.List.{List, [], ◌∷◌}
 use Prim.Native.Nat.{ℕ, zero, suc, ◌<◌}
 use native.Mathlib.Omega.{arith}
@@ -24,13 +23,11 @@ use Rattle.region.specs.Region.{region_size}
 use Rattle.header.specs.WriteHeader.{commit_bytes}
 use Rattle.header.specs.Types.{Bytes, Proper}
 use Rattle.header.proofs.WriteLaws.{length-commit-bytes}
-use Rattle.bank.specs.declared.Loaded.{Loaded}
 use Rattle.bank.specs.Bank.{loaded}
 use Rattle.flash.specs.Flash.{Op, write, torn, applied, performed}
 use Rattle.flash.proofs.Laws.{torn-whole}
 use Rattle.writer.specs.declared.Stage.TheVariants.{Committed}
-use Rattle.writer.specs.declared.Answer.{Answer}
-use Rattle.writer.specs.declared.Answer.TheVariants.{Done, Appended, NoneDue, Same, Different, Refused}
+use Rattle.writer.specs.declared.Answer.TheVariants.{Done, Appended, NoneDue, Same, Different}
 use Rattle.writer.specs.declared.Writer.{Writer}
 use Rattle.writer.specs.State.{is_due, target, active_ok, contents_ok, stage_ok, did, stays, tail_size}
 use Rattle.lower.specs.Lower.{started, begun, answer_of}
@@ -52,6 +49,10 @@ use Rattle.powerloss.proofs.Dues.{Carried, no-ops, on-due}
 use Rattle.powerloss.proofs.Keeps.{is-header-written}
 use Rattle.powerloss.proofs.Commits.{on-commit, word_kept, word-torn, word-open}
 use Rattle.header.specs.Header.{max_sources, commit_offset}
+use Rattle.std.specs.Prelude.{Ok, Err, Result, Some, None, Option}
+use Rattle.refusal.specs.declared.Refusal.{Refusal}
+use Rattle.header.specs.declared.Bank.{Bank}
+use Rattle.writer.specs.declared.Answer.{Answer}
 
 -- a lower call that isn't the commit word
 abbrev pub Plain : Lower → Type 0
@@ -65,7 +66,7 @@ Plain close = Unit {0}
 Plain due = Unit {0}
 Plain unchanged = Unit {0}
 
-module _ (region : List ℕ) (hd : Loaded) (rs : List Source) (im : Image) (w : Writer) (u : Update) (k : Kept region hd rs im) (o : Open region hd w u) where
+module _ (region : List ℕ) (hd : Result (Option Bank) Refusal) (rs : List Source) (im : Image) (w : Writer) (u : Update) (k : Kept region hd rs im) (o : Open region hd w u) where
   pub plain-call : (c : Lower) → Plain c
       → Carried (lower_ops region w c) (target w.beginning.active) region hd rs im (lower_step region w c).writer (update_after c (lower_step region w c).answer u)
   unfolding lower_ops lower_step
@@ -84,20 +85,20 @@ pub record Inv (r : Run) : Type 0 where
   pub kept : Kept r.region r.history.held r.history.records r.image
   pub open· : State r.region r.history.held r.state r.history.open·
 
-abbrev pub mk : List ℕ → Option Writer → Loaded → List Source → Option Update → Image → Run
+abbrev pub mk : List ℕ → Option Writer → Result (Option Bank) Refusal → List Source → Option Update → Image → Run
 mk region s hd rs v im = record { region = region; state = s; history = record { held = hd; records = rs; open· = v }; image = im }
 
-module _ (region : List ℕ) (hd : Loaded) (rs : List Source) (im : Image) (w : Writer) (u : Update) (k : Kept region hd rs im) (o : Open region hd w u) where
+module _ (region : List ℕ) (hd : Result (Option Bank) Refusal) (rs : List Source) (im : Image) (w : Writer) (u : Update) (k : Kept region hd rs im) (o : Open region hd w u) where
   abbrev here : Run
-  here = mk region (some w) hd rs (some u) im
+  here = mk region (Some w) hd rs (Some u) im
 
-  plain-inv : (c : Lower) → is_word c ≡ false → Plain c → Inv (on_call c here (some w))
+  plain-inv : (c : Lower) → is_word c ≡ false → Plain c → Inv (on_call c here (Some w))
   unfolding on_call after_lower committed image_after
   plain-inv c e p =
       let z = plain-call region hd rs im w u k o c p in
       rw e (record { kept = z.whole; open· = z.open· })
 
-  plain-cut : (c : Lower) (i j : ℕ) → is_word c ≡ false → Plain c → Inv (on_cut c i j here (some w))
+  plain-cut : (c : Lower) (i j : ℕ) → is_word c ≡ false → Plain c → Inv (on_cut c i j here (Some w))
   unfolding on_cut after_lower_cut committed image_after
   plain-cut c i j e p =
       let z = plain-call region hd rs im w u k o c p in
@@ -107,9 +108,9 @@ module _ (region : List ℕ) (hd : Loaded) (rs : List Source) (im : Image) (w : 
   word-by : (b : Bool) → is_header_written w.stage ≡ b
       → Inv (record {
         region = performed (target w.beginning.active) (pick b (write commit_offset commit_bytes ∷ []) []) region;
-        state = some (pick b (did (with_stage w Committed)) (stays w Turn)).writer;
-        history = after_lower word (pick b (did (with_stage w Committed)) (stays w Turn)).answer (record { held = hd; records = rs; open· = some u }) (some u);
-        image = image_after true (is_done (pick b (did (with_stage w Committed)) (stays w Turn)).answer) (some u) (performed (target w.beginning.active) (pick b (write commit_offset commit_bytes ∷ []) []) region) im;
+        state = Some (pick b (did (with_stage w Committed)) (stays w Turn)).writer;
+        history = after_lower word (pick b (did (with_stage w Committed)) (stays w Turn)).answer (record { held = hd; records = rs; open· = Some u }) (Some u);
+        image = image_after true (is_done (pick b (did (with_stage w Committed)) (stays w Turn)).answer) (Some u) (performed (target w.beginning.active) (pick b (write commit_offset commit_bytes ∷ []) []) region) im;
       })
   unfolding performed after_lower committed image_after update_after
   word-by true e =
@@ -117,7 +118,7 @@ module _ (region : List ℕ) (hd : Loaded) (rs : List Source) (im : Image) (w : 
       record { kept = word_kept region hd rs im w u k o h; open· = word-open region hd rs im w u k o h }
   word-by false e = record { kept = k; open· = o }
 
-  word-inv : Inv (on_call word here (some w))
+  word-inv : Inv (on_call word here (Some w))
   unfolding on_call lower_step lower_ops word_step word_ops
   word-inv = rw (eq-eqb (length region) region_size k.size, o.tied.range) (word-by (is_header_written w.stage) refl)
 
@@ -126,9 +127,9 @@ module _ (region : List ℕ) (hd : Loaded) (rs : List Source) (im : Image) (w : 
   word-left left number =
       record {
         region = left;
-        state = none;
-        history = after_lower_cut word number (record { held = hd; records = rs; open· = some u }) (some u);
-        image = image_after true (any_done number) (some u) left im;
+        state = None;
+        history = after_lower_cut word number (record { held = hd; records = rs; open· = Some u }) (Some u);
+        image = image_after true (any_done number) (Some u) left im;
       }
 
   abbrev bank : ℕ
@@ -168,11 +169,11 @@ module _ (region : List ℕ) (hd : Loaded) (rs : List Source) (im : Image) (w : 
       rw (cut-after bank word_write [] region i j, cut-none bank i j (applied bank word_write region), done-after word_write [] i j, done_none i j) (left-written e)
   cut_by false i j e = rw (cut-none bank i j region, done_none i j) left-none
 
-  word_cut : (i j : ℕ) → Inv (on_cut word i j here (some w))
+  word_cut : (i j : ℕ) → Inv (on_cut word i j here (Some w))
   unfolding on_cut lower_ops word_ops
   word_cut i j = rw (eq-eqb (length region) region_size k.size, o.tied.range) (cut_by (is_header_written w.stage) i j refl)
 
-  inv-lower : (c : Lower) → LowerTyped c → Inv (on_call c here (some w))
+  inv-lower : (c : Lower) → LowerTyped c → Inv (on_call c here (Some w))
   inv-lower (source s) p = plain-inv (source s) refl p
   inv-lower (table t) p = plain-inv (table t) refl p
   inv-lower (bytes xs) p = plain-inv (bytes xs) refl p
@@ -183,7 +184,7 @@ module _ (region : List ℕ) (hd : Loaded) (rs : List Source) (im : Image) (w : 
   inv-lower (commit stamp current) p = plain-inv (commit stamp current) refl p
   inv-lower word p = word-inv
 
-  inv-lower-cut : (c : Lower) (i j : ℕ) → LowerTyped c → Inv (on_cut c i j here (some w))
+  inv-lower-cut : (c : Lower) (i j : ℕ) → LowerTyped c → Inv (on_cut c i j here (Some w))
   inv-lower-cut (source s) i j p = plain-cut (source s) i j refl p
   inv-lower-cut (table t) i j p = plain-cut (table t) i j refl p
   inv-lower-cut (bytes xs) i j p = plain-cut (bytes xs) i j refl p
@@ -195,25 +196,25 @@ module _ (region : List ℕ) (hd : Loaded) (rs : List Source) (im : Image) (w : 
   inv-lower-cut word i j p = word_cut i j
 
 -- with a state or without
-pub inv-call : (c : Lower) (region : List ℕ) (s : Option Writer) (hd : Loaded) (rs : List Source) (v : Option Update) (im : Image) → LowerTyped c → Inv (mk region s hd rs v im) → Inv (on_call c (mk region s hd rs v im) s)
-inv-call c region none hd rs v im p h = unfold on_call in h
-inv-call c region (some w) hd rs none im p h = absurd h.open·
-inv-call c region (some w) hd rs (some u) im p h = inv-lower region hd rs im w u h.kept h.open· c p
+pub inv-call : (c : Lower) (region : List ℕ) (s : Option Writer) (hd : Result (Option Bank) Refusal) (rs : List Source) (v : Option Update) (im : Image) → LowerTyped c → Inv (mk region s hd rs v im) → Inv (on_call c (mk region s hd rs v im) s)
+inv-call c region None hd rs v im p h = unfold on_call in h
+inv-call c region (Some w) hd rs None im p h = absurd h.open·
+inv-call c region (Some w) hd rs (Some u) im p h = inv-lower region hd rs im w u h.kept h.open· c p
 
-pub inv-cut : (c : Lower) (i j : ℕ) (region : List ℕ) (s : Option Writer) (hd : Loaded) (rs : List Source) (v : Option Update) (im : Image) → LowerTyped c → Inv (mk region s hd rs v im) → Inv (on_cut c i j (mk region s hd rs v im) s)
-inv-cut c i j region none hd rs v im p h = unfold on_cut in h
-inv-cut c i j region (some w) hd rs none im p h = absurd h.open·
-inv-cut c i j region (some w) hd rs (some u) im p h = inv-lower-cut region hd rs im w u h.kept h.open· c i j p
+pub inv-cut : (c : Lower) (i j : ℕ) (region : List ℕ) (s : Option Writer) (hd : Result (Option Bank) Refusal) (rs : List Source) (v : Option Update) (im : Image) → LowerTyped c → Inv (mk region s hd rs v im) → Inv (on_cut c i j (mk region s hd rs v im) s)
+inv-cut c i j region None hd rs v im p h = unfold on_cut in h
+inv-cut c i j region (Some w) hd rs None im p h = absurd h.open·
+inv-cut c i j region (Some w) hd rs (Some u) im p h = inv-lower-cut region hd rs im w u h.kept h.open· c i j p
 
 -- ---- a beginning
 
-begin-mode : (c : Bool) (region : List ℕ) (hd : Loaded) (now : ℤ) → length region ≡ region_size → loaded region ≡ hd
+begin-mode : (c : Bool) (region : List ℕ) (hd : Result (Option Bank) Refusal) (now : ℤ) → length region ≡ region_size → loaded region ≡ hd
     → Mode c (started hd c now).stage region hd (started hd c now).beginning.active (started hd c now).contents (started hd c now).tail (with_appended [] (opened hd now))
 unfolding started opened
 begin-mode true region hd now l e = (refl, record { front = []; count = refl; all = refl; told = none-compared region hd })
 begin-mode false region hd now l e = (record { active = refl; other = other-held region hd l e }, inl (record { written = refl; all = refl }))
 
-begin-open : (region : List ℕ) (hd : Loaded) (c : Bool) (now : ℤ) → SFits w64 now → length region ≡ region_size → loaded region ≡ hd → active_ok hd ≡ true
+begin-open : (region : List ℕ) (hd : Result (Option Bank) Refusal) (c : Bool) (now : ℤ) → SFits w64 now → length region ≡ region_size → loaded region ≡ hd → active_ok hd ≡ true
     → Open region hd (started hd c now) (with_appended [] (opened hd now))
 unfolding started opened contents_ok stage_ok is_due records_after All
 begin-open region hd c now f l e ok =
@@ -237,11 +238,11 @@ begin-open region hd c now f l e ok =
     }
 
 -- the new state, if the beginning is answered
-pub begun-open : (region : List ℕ) (hd : Loaded) (rs : List Source) (im : Image) (c : Bool) (now : ℤ) → SFits w64 now → Kept region hd rs im → answer_of hd ≡ Done
+pub begun-open : (region : List ℕ) (hd : Result (Option Bank) Refusal) (rs : List Source) (im : Image) (c : Bool) (now : ℤ) → SFits w64 now → Kept region hd rs im → answer_of hd ≡ Ok Done
     → Open region hd (started hd c now) (with_appended [] (opened hd now))
 begun-open region hd rs im c now f k d = begin-open region hd c now f k.size k.loads (active-ok region hd k.size k.loads)
 
-begin-by : (c : Bool) (now : ℤ) (region : List ℕ) (s : Option Writer) (hd : Loaded) (rs : List Source) (v : Option Update) (im : Image) → SFits w64 now → Inv (mk region s hd rs v im) → (x : Answer) → answer_of hd ≡ x
+begin-by : (c : Bool) (now : ℤ) (region : List ℕ) (s : Option Writer) (hd : Result (Option Bank) Refusal) (rs : List Source) (v : Option Update) (im : Image) → SFits w64 now → Inv (mk region s hd rs v im) → (x : Result Answer Refusal) → answer_of hd ≡ x
     → Inv (record {
       region = region;
       state = state_after x (started hd c now) s;
@@ -249,14 +250,14 @@ begin-by : (c : Bool) (now : ℤ) (region : List ℕ) (s : Option Writer) (hd : 
       image = im;
     })
 unfolding after_begin
-begin-by c now region s hd rs v im f h Done e = record { kept = h.kept; open· = begun-open region hd rs im c now f h.kept e }
-begin-by c now region s hd rs v im f h (Appended n) e = h
-begin-by c now region s hd rs v im f h NoneDue e = h
-begin-by c now region s hd rs v im f h Same e = h
-begin-by c now region s hd rs v im f h Different e = h
-begin-by c now region s hd rs v im f h (Refused r) e = h
+begin-by c now region s hd rs v im f h (Ok Done) e = record { kept = h.kept; open· = begun-open region hd rs im c now f h.kept e }
+begin-by c now region s hd rs v im f h (Ok (Appended n)) e = h
+begin-by c now region s hd rs v im f h (Ok NoneDue) e = h
+begin-by c now region s hd rs v im f h (Ok Same) e = h
+begin-by c now region s hd rs v im f h (Ok Different) e = h
+begin-by c now region s hd rs v im f h (Err r) e = h
 
-pub inv-begin : (c : Bool) (now : ℤ) (region : List ℕ) (s : Option Writer) (hd : Loaded) (rs : List Source) (v : Option Update) (im : Image) → SFits w64 now → Inv (mk region s hd rs v im)
+pub inv-begin : (c : Bool) (now : ℤ) (region : List ℕ) (s : Option Writer) (hd : Result (Option Bank) Refusal) (rs : List Source) (v : Option Update) (im : Image) → SFits w64 now → Inv (mk region s hd rs v im)
     → Inv (next (mk region s hd rs v im) (begin c now))
 unfolding next begun
 inv-begin c now region s hd rs v im f h = rw h.kept.loads (begin-by c now region s hd rs v im f h (answer_of hd) refl)

@@ -24,7 +24,6 @@ use Rattle.base.proofs.Lists.{length-fill}
 use Rattle.region.specs.Region.{region_size, sector_size}
 use Rattle.base.proofs.Bools.{and_left, and_right}
 use Rattle.header.specs.Types.{Proper}
-use Rattle.bank.specs.declared.Loaded.{Loaded}
 use Rattle.writer.specs.declared.Operation.TheVariants.{Erase, Write, Compare}
 use Rattle.writer.specs.declared.Stage.{Stage}
 use Rattle.writer.specs.declared.Stage.TheVariants.{Idle, Due, HeaderWritten, Committed}
@@ -43,6 +42,9 @@ use Rattle.powerloss.proofs.Keeps.{keeps-source, keeps-table, keeps-end}
 use Rattle.powerloss.proofs.Range.{true-false, due-ok, headed-end, committed-end}
 use Rattle.base.specs.Table.{max_tables}
 use Rattle.header.specs.Header.{max_sources}
+use Rattle.std.specs.Prelude.{Ok, Result, Option}
+use Rattle.refusal.specs.declared.Refusal.{Refusal}
+use Rattle.header.specs.declared.Bank.{Bank}
 
 -- ---- records
 
@@ -107,7 +109,7 @@ no-head c t n u tail b (Due (Compare i j)) e k h = h
 no-head c t n u tail b HeaderWritten e k h = true-false t.closed (headed-end c t k).closed e
 no-head c t n u tail b Committed e k h = h
 
-mode-noted : (c : Bool) (st : Stage) (region : List ℕ) (hd active : Loaded) (t : Contents) (tail : List ℕ) (n : Note) (u : Update) → t.closed ≡ false → stage_ok c t st ≡ true
+mode-noted : (c : Bool) (st : Stage) (region : List ℕ) (hd active : Result (Option Bank) Refusal) (t : Contents) (tail : List ℕ) (n : Note) (u : Update) → t.closed ≡ false → stage_ok c t st ≡ true
     → Mode c st region hd active t tail u → Mode c st region hd active t tail (notes_of n u)
 mode-noted true st region hd active t tail n u e k h = h
 mode-noted false st region hd active t tail n u e k h = (h.0, no-head false t n u tail _ st e k h.1)
@@ -143,13 +145,13 @@ module _ (t : Contents) (tail : List ℕ) (u : Update) (b : List ℕ) (m : t.wri
   first-lies (inr h) true e = absurd (omega (arith, eqb-true t.written 0 e, h.1))
   first-lies (inr h) false e = data-lies h.0 (eqb (t.written % sector_size) 0) refl
 
-  stage-lies : (region : List ℕ) (hd active : Loaded) → Live region hd active → Lies Idle t tail u b → (d : Bool)
+  stage-lies : (region : List ℕ) (hd active : Result (Option Bank) Refusal) → Live region hd active → Lies Idle t tail u b → (d : Bool)
       → LiveAt (pick d (Due (first_due false t)) Idle) region hd active × Lies (pick d (Due (first_due false t)) Idle) t tail u b
   unfolding first_due
   stage-lies region hd active v h true = (v, first-lies h (eqb t.written 0) refl)
   stage-lies region hd active v h false = (v, h)
 
-pub mode-stage : (c : Bool) (region : List ℕ) (hd active : Loaded) (t : Contents) (tail : List ℕ) (u : Update) → t.written % tail_size ≡ 0 → Mode c Idle region hd active t tail u
+pub mode-stage : (c : Bool) (region : List ℕ) (hd active : Result (Option Bank) Refusal) (t : Contents) (tail : List ℕ) (u : Update) → t.written % tail_size ≡ 0 → Mode c Idle region hd active t tail u
     → Mode c (stage_of c t) region hd active t tail u
 unfolding stage_of
 mode-stage true region hd active t tail u m h = h
@@ -158,7 +160,7 @@ mode-stage false region hd active t tail u m h = stage-lies t tail u _ m region 
 pub with_appended-nil : (u : Update) → with_appended [] u ≡ u
 with_appended-nil u = ap (λ (l : List ℕ). record { number = u.number; generation = u.generation; now = u.now; data· = l; notes = u.notes; checked = u.checked }) (append-nil u.data·)
 
-module _ (region : List ℕ) (hd : Loaded) (w : Writer) (u : Update) (o : Open region hd w u) where
+module _ (region : List ℕ) (hd : Result (Option Bank) Refusal) (w : Writer) (u : Update) (o : Open region hd w u) where
   own : Ranged w
   own = ranged w o.tied.range
 
@@ -333,8 +335,8 @@ module _ (region : List ℕ) (hd : Loaded) (w : Writer) (u : Update) (o : Open r
   -- ---- unchanged
 
   unchanged-by : (a b c : Bool)
-      → Open region hd (pick a (pick b (record { answer = pick c Same Different; writer = w }) (stays w Turn)) (stays w Region)).writer
-      (update_after unchanged (pick a (pick b (record { answer = pick c Same Different; writer = w }) (stays w Turn)) (stays w Region)).answer u)
+      → Open region hd (pick a (pick b (record { answer = pick c (Ok Same) (Ok Different); writer = w }) (stays w Turn)) (stays w Region)).writer
+      (update_after unchanged (pick a (pick b (record { answer = pick c (Ok Same) (Ok Different); writer = w }) (stays w Turn)) (stays w Region)).answer u)
   unfolding update_after
   unchanged-by true true true = o
   unchanged-by true true false = o

@@ -3,7 +3,6 @@
 -- the header sector's erase, the data sector's and the first write.
 use mathlib.Core.Path.{◌≡◌, refl, sym, ap, ◌∙◌, subst}
 use mathlib.Core.Bool.{Bool, true, false, ◌&&◌}
-use mathlib.Core.Option.{none}
 use mathlib.Core.List.{List, [], ◌∷◌, ◌++◌, append-nil}
 use Prim.Native.Nat.{ℕ, suc, ◌+◌, ◌≤◌, ◌<◌}
 use native.Mathlib.Omega.{arith}
@@ -35,6 +34,7 @@ use Rattle.upper.specs.Upper.{Upper, appended_bytes, lower_of, run_of, refusal_o
 use Rattle.powerloss.proofs.Load.{target_fits}
 use Rattle.powerloss.proofs.Keeps.{keeps-bytes, keeps-call}
 use Rattle.powerloss.proofs.Answers.{Fit, byte_step, bytes-closed, bytes-position}
+use Rattle.std.specs.Prelude.{Ok, None}
 
 -- the state, the region and the operations of a run
 pub record Outcome : Type 0 where
@@ -105,11 +105,11 @@ module _ (region zs : List ℕ) where
       → outcome region w (appends (y ∷ (ys ++ zs))) ≡ outcome region (with_bytes w (y ∷ ys)) (dues ++ appends zs)
   unfolding appends
   chunk [] y w f e d h k =
-      quiet-call region w (bytes (y ∷ [])) _ (record { answer = Appended 1; writer = with_bytes w (y ∷ []) }) (unfold lower_step in (byte_step region w y f e d (omega arith))) (unfold lower_ops in refl)
+      quiet-call region w (bytes (y ∷ [])) _ (record { answer = Ok (Appended 1); writer = with_bytes w (y ∷ []) }) (unfold lower_step in (byte_step region w y f e d (omega arith))) (unfold lower_ops in refl)
   chunk (x ∷ ys) y w f e d h k =
       let w1 = with_bytes w (y ∷ []) in
       let f1 : Fit region w1 = record { size = f.size; range = keeps-bytes w f.range (y ∷ []) e (omega arith) (omega arith) } in
-      quiet-call region w (bytes (y ∷ [])) _ (record { answer = Appended 1; writer = w1 }) (unfold lower_step in (byte_step region w y f e d (omega arith))) (unfold lower_ops in refl)
+      quiet-call region w (bytes (y ∷ [])) _ (record { answer = Ok (Appended 1); writer = w1 }) (unfold lower_step in (byte_step region w y f e d (omega arith))) (unfold lower_ops in refl)
       ∙ idle-dues region w1 _ (more-idle w (y ∷ []) e (omega arith))
       ∙ chunk ys x w1 f1 (bytes-closed w (y ∷ []) ∙ e) (more-none w (y ∷ []) e (omega arith)) (omega (arith, bytes-fill w y)) (omega (arith, bytes-position w y))
       ∙ ap (λ (v : Writer). outcome region v (dues ++ appends zs)) (both_bytes w y (x ∷ ys))
@@ -218,7 +218,7 @@ module _ (region : List ℕ) (w : Writer) (c : Upper) (h : w.stage ≡ Idle) whe
       ∙ quiet-call region w x _ (did v) e f
       ∙ unfold appends in refl
 
-pub upper-outcome : (region : List ℕ) (w : Writer) (c : Upper) (o : Outcome) → refusal_of region w c ≡ none → outcome region w (run_of c) ≡ o
+pub upper-outcome : (region : List ℕ) (w : Writer) (c : Upper) (o : Outcome) → refusal_of region w c ≡ None → outcome region w (run_of c) ≡ o
     → (upper_step region w c ≡ did o.writer) × (upper_region region w c ≡ o.region) × (upper_ops region w c ≡ o.ops)
 unfolding upper_step upper_region upper_ops upper_run
 upper-outcome region w c o e f = rw e (ap (λ (x : Outcome). did x.writer) f, ap (λ (x : Outcome). x.region) f, ap (λ (x : Outcome). x.ops) f)

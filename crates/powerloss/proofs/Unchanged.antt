@@ -4,7 +4,6 @@
 use mathlib.Core.Path.{◌≡◌, refl, sym, ap, ◌∙◌, subst}
 use mathlib.Core.Bool.{Bool, true, false, not, ◌&&◌, false≢true, and-false}
 use mathlib.Core.Logic.{◌⊎◌, inl, inr}
-use mathlib.Core.Option.{Option, none, some}
 use mathlib.Core.List.{List, [], ◌∷◌, ◌++◌, map, append-nil}
 use Prim.Native.Nat.{ℕ, zero, suc, ◌+◌, ◌*◌, ◌-◌, ◌≤◌}
 use native.Mathlib.Omega.{arith}
@@ -27,13 +26,10 @@ use Rattle.header.specs.Header as Header
 use Rattle.header.specs.Header.{record_at}
 use Rattle.header.specs.Types.{Proper}
 use Rattle.header.proofs.Laws.{span-length, passed}
-use Rattle.bank.specs.declared.Loaded.{Loaded}
-use Rattle.bank.specs.declared.Loaded.TheVariants.{Found, Nothing, Refused as NotRead}
 use Rattle.flash.proofs.Laws.{length-bank}
 use Rattle.writer.specs.declared.Stage.{Stage}
 use Rattle.writer.specs.declared.Stage.TheVariants.{Idle, Due, HeaderWritten, Committed}
-use Rattle.writer.specs.declared.Answer.{Answer}
-use Rattle.writer.specs.declared.Answer.TheVariants.{Done, Appended, NoneDue, Same, Different, Refused}
+use Rattle.writer.specs.declared.Answer.TheVariants.{Done, Appended, NoneDue, Same, Different}
 use Rattle.writer.specs.declared.Contents.{Contents}
 use Rattle.writer.specs.declared.Writer.{Writer}
 use Rattle.writer.specs.State.{key_length, in_range, is_due, stage_ok, stays}
@@ -52,6 +48,9 @@ use Rattle.powerloss.proofs.Commits.{span-some, records_is, length-records, rout
 use Rattle.powerloss.proofs.Lowers.{mk}
 use Rattle.powerloss.proofs.Uppers.{inv-found, inv-all}
 use Rattle.powerloss.proofs.States.{is_state, state_or}
+use Rattle.std.specs.Prelude.{Ok, Err, Some, None, Result, Option}
+use Rattle.refusal.specs.declared.Refusal.{Refusal}
+use Rattle.writer.specs.declared.Answer.{Answer}
 
 -- ---- lists compared element by element
 
@@ -166,7 +165,7 @@ eight-many v l size at (suc n) = (eight-read v l at, eight-many v l size (at + s
 
 -- ---- the call
 
-module _ (region : List ℕ) (hd : Loaded) (rs : List Source) (im : Image) (w : Writer) (u : Update) (k : Kept region hd rs im) (o : Open region hd w u) (m : may_ask w ≡ true) where
+module _ (region : List ℕ) (hd : Result (Option Bank) Refusal) (rs : List Source) (im : Image) (w : Writer) (u : Update) (k : Kept region hd rs im) (o : Open region hd w u) (m : may_ask w ≡ true) where
   abbrev t : Contents
   t = w.contents
 
@@ -190,7 +189,7 @@ module _ (region : List ℕ) (hd : Loaded) (rs : List Source) (im : Image) (w : 
   active-is = (seen region hd rs im w u k o true Idle comparing idle).0
 
   compared : Compared region hd t.written t.fill t.different w.tail u.data·
-  compared = subst (λ (a : Loaded). Compared region a t.written t.fill t.different w.tail u.data·) active-is (seen region hd rs im w u k o true Idle comparing idle).1
+  compared = subst (λ (a : Result (Option Bank) Refusal). Compared region a t.written t.fill t.different w.tail u.data·) active-is (seen region hd rs im w u k o true Idle comparing idle).1
 
   -- so every byte was compared
   all-compared : u.data· ≡ compared.front
@@ -206,7 +205,7 @@ module _ (region : List ℕ) (hd : Loaded) (rs : List Source) (im : Image) (w : 
   key-is c = ap (λ (ss : List Source). key_length (routes_offset ss)) (records_is region hd w u o) ∙ ap key_length (routes-is region hd w u o c)
 
 -- with an active bank
-module _ (region : List ℕ) (b : Bank) (rs : List Source) (im : Image) (w : Writer) (u : Update) (k : Kept region (Found b) rs im) (o : Open region (Found b) w u) (m : may_ask w ≡ true) where
+module _ (region : List ℕ) (b : Bank) (rs : List Source) (im : Image) (w : Writer) (u : Update) (k : Kept region (Ok (Some b)) rs im) (o : Open region (Ok (Some b)) w u) (m : may_ask w ≡ true) where
   abbrev bank : List ℕ
   bank = bank_of region b.number
 
@@ -219,13 +218,13 @@ module _ (region : List ℕ) (b : Bank) (rs : List Source) (im : Image) (w : Wri
       (span-some b p, (span-length b p).1)
 
   abbrev front : List ℕ
-  front = (compared region (Found b) rs im w u k o m).front
+  front = (compared region (Ok (Some b)) rs im w u k o m).front
 
   front-is : u.data· ≡ front
-  front-is = all-compared region (Found b) rs im w u k o m
+  front-is = all-compared region (Ok (Some b)) rs im w u k o m
 
   front-count : length front ≡ w.contents.written
-  front-count = (compared region (Found b) rs im w u k o m).count
+  front-count = (compared region (Ok (Some b)) rs im w u k o m).count
 
   read : ℕ → List Source
   read n = Header.records_of b.version bank n
@@ -246,17 +245,17 @@ module _ (region : List ℕ) (b : Bank) (rs : List Source) (im : Image) (w : Wri
       let e1 = and_right d (l && (n && (y && s))) e in
       let e2 = and_right l (n && (y && s)) e1 in
       let e3 = and_right n (y && s) e2 in
-      let g = (compared region (Found b) rs im w u k o m).told.0 (not-true w.contents.different (and_left d (l && (n && (y && s))) e)) in
+      let g = (compared region (Ok (Some b)) rs im w u k o m).told.0 (not-true w.contents.different (and_left d (l && (n && (y && s))) e)) in
       let li = eqb-true w.contents.written b.length (and_left l (n && (y && s)) e1) in
       let ni = eqb-true w.tables.count b.count (and_left n (y && s) e2) in
       let yi = eqb-true (key_length (routes_offset w.sources)) b.key (and_left y s e3) in
-      let ci = length-records region (Found b) w u o in
+      let ci = length-records region (Ok (Some b)) w u o in
       record {
         data· = front-is ∙ sym g.same ∙ (λ i. data_of (k.image i) ((front-count ∙ li) i));
-        count = count-is region (Found b) rs im w u k o m ∙ ni;
-        key = key-is region (Found b) rs im w u k o m (omega (arith, ni, span.0)) ∙ yi;
+        count = count-is region (Ok (Some b)) rs im w u k o m ∙ ni;
+        key = key-is region (Ok (Some b)) rs im w u k o m (omega (arith, ni, span.0)) ∙ yi;
         records· =
-            ap (map dates_and_blocks) (records_is region (Found b) w u o)
+            ap (map dates_and_blocks) (records_is region (Ok (Some b)) w u o)
             ∙ each-means Eight Eight same_source dates_and_blocks source-means source-holds (records_for w) (read w.tables.count) (eight-proper (records_for w) o.tied.noted.proper)
             (eight-many b.version bank (source_size b.version) 48 w.tables.count) (ci ∙ sym (length-many (record_at b.version) (source_size b.version) bank 48 w.tables.count)) (and_right y s e3)
             ∙ ap (map dates_and_blocks) (read_is ni);
@@ -269,7 +268,7 @@ module _ (region : List ℕ) (b : Bank) (rs : List Source) (im : Image) (w : Wri
       let dl : length (data_of bank b.length) ≡ b.length = length-take-le b.length (drop sector_size bank) (omega (arith, span.1, bk, length-drop sector_size bank)) in
       let di : u.data· ≡ data_of bank b.length = q.data· ∙ ap (λ (l : List ℕ). data_of l b.length) (sym k.image) in
       let fl : length front ≡ b.length = ap length (sym front-is ∙ di) ∙ dl in
-      let ni : w.tables.count ≡ b.count = sym (count-is region (Found b) rs im w u k o m) ∙ q.count in
+      let ni : w.tables.count ≡ b.count = sym (count-is region (Ok (Some b)) rs im w u k o m) ∙ q.count in
       let g : Begins region b front = record { fits = omega (arith, fl); same = ap (data_of bank) fl ∙ sym di ∙ front-is } in
       let d = not w.contents.different in
       let l = eqb w.contents.written b.length in
@@ -277,53 +276,53 @@ module _ (region : List ℕ) (b : Bank) (rs : List Source) (im : Image) (w : Wri
       let y = eqb (key_length (routes_offset w.sources)) b.key in
       let s = same_each same_source (records_for w) (read w.tables.count) in
       let si = each_holds Eight Eight same_source dates_and_blocks source-means source-holds (records_for w) (read w.tables.count)
-      (ap (map dates_and_blocks) (sym (records_is region (Found b) w u o)) ∙ q.records· ∙ ap (map dates_and_blocks) (sym (read_is ni))) in
-      both d (l && (n && (y && s))) (ap not ((compared region (Found b) rs im w u k o m).told.1 g))
+      (ap (map dates_and_blocks) (sym (records_is region (Ok (Some b)) w u o)) ∙ q.records· ∙ ap (map dates_and_blocks) (sym (read_is ni))) in
+      both d (l && (n && (y && s))) (ap not ((compared region (Ok (Some b)) rs im w u k o m).told.1 g))
       (both l (n && (y && s)) (eq-eqb w.contents.written b.length (sym front-count ∙ fl))
       (both n (y && s) (eq-eqb w.tables.count b.count ni)
-      (both y s (eq-eqb (key_length (routes_offset w.sources)) b.key (sym (key-is region (Found b) rs im w u k o m (omega (arith, ni, span.0))) ∙ q.key)) si)))
+      (both y s (eq-eqb (key_length (routes_offset w.sources)) b.key (sym (key-is region (Ok (Some b)) rs im w u k o m (omega (arith, ni, span.0))) ∙ q.key)) si)))
 
 -- ---- with an active bank or without
 
-means : (region : List ℕ) (hd : Loaded) (rs : List Source) (im : Image) (w : Writer) (u : Update) → Kept region hd rs im → Open region hd w u → may_ask w ≡ true
-    → (is_unchanged region w hd ≡ true → EqualsActive (some u) hd im.bank rs) × (EqualsActive (some u) hd im.bank rs → is_unchanged region w hd ≡ true)
+means : (region : List ℕ) (hd : Result (Option Bank) Refusal) (rs : List Source) (im : Image) (w : Writer) (u : Update) → Kept region hd rs im → Open region hd w u → may_ask w ≡ true
+    → (is_unchanged region w hd ≡ true → EqualsActive (Some u) hd im.bank rs) × (EqualsActive (Some u) hd im.bank rs → is_unchanged region w hd ≡ true)
 unfolding is_unchanged
-means region (Found b) rs im w u k o m = (yes region b rs im w u k o m, same_of region b rs im w u k o m)
-means region Nothing rs im w u k o m = (λ e. false≢true e, λ q. absurd q)
-means region (NotRead r) rs im w u k o m = (λ e. false≢true e, λ q. absurd q)
+means region (Ok (Some b)) rs im w u k o m = (yes region b rs im w u k o m, same_of region b rs im w u k o m)
+means region (Ok None) rs im w u k o m = (λ e. false≢true e, λ q. absurd q)
+means region (Err r) rs im w u k o m = (λ e. false≢true e, λ q. absurd q)
 
 -- ---- the answer
 
-abbrev is_same : Answer → Bool
-is_same Same = true
-is_same Different = false
-is_same Done = false
-is_same (Appended n) = false
-is_same NoneDue = false
-is_same (Refused r) = false
+abbrev is_same : Result Answer Refusal → Bool
+is_same (Ok Same) = true
+is_same (Ok Different) = false
+is_same (Ok Done) = false
+is_same (Ok (Appended n)) = false
+is_same (Ok NoneDue) = false
+is_same (Err r) = false
 
-abbrev is_different : Answer → Bool
-is_different Different = true
-is_different Same = false
-is_different Done = false
-is_different (Appended n) = false
-is_different NoneDue = false
-is_different (Refused r) = false
+abbrev is_different : Result Answer Refusal → Bool
+is_different (Ok Different) = true
+is_different (Ok Same) = false
+is_different (Ok Done) = false
+is_different (Ok (Appended n)) = false
+is_different (Ok NoneDue) = false
+is_different (Err r) = false
 
-abbrev answer_for : Writer → Bool → Bool → Answer
-answer_for w a c = (pick a (record { answer = pick c Same Different; writer = w }) (stays w Turn)).answer
+abbrev answer_for : Writer → Bool → Bool → Result Answer Refusal
+answer_for w a c = (pick a (record { answer = pick c (Ok Same) (Ok Different); writer = w }) (stays w Turn)).answer
 
-answer-same : (w : Writer) (a c : Bool) → answer_for w a c ≡ Same → (a ≡ true) × (c ≡ true)
+answer-same : (w : Writer) (a c : Bool) → answer_for w a c ≡ Ok Same → (a ≡ true) × (c ≡ true)
 answer-same w true true e = (refl, refl)
 answer-same w true false e = absurd (false≢true (ap is_same e))
 answer-same w false c e = absurd (false≢true (ap is_same e))
 
-answer-different : (w : Writer) (a c : Bool) → answer_for w a c ≡ Different → (a ≡ true) × (c ≡ false)
+answer-different : (w : Writer) (a c : Bool) → answer_for w a c ≡ Ok Different → (a ≡ true) × (c ≡ false)
 answer-different w true true e = absurd (false≢true (ap is_different e))
 answer-different w true false e = (refl, refl)
 answer-different w false c e = absurd (false≢true (ap is_different e))
 
-answer-asked : (w : Writer) (a c : Bool) → a ≡ true → (answer_for w a c ≡ Same) ⊎ (answer_for w a c ≡ Different)
+answer-asked : (w : Writer) (a c : Bool) → a ≡ true → (answer_for w a c ≡ Ok Same) ⊎ (answer_for w a c ≡ Ok Different)
 answer-asked w true true e = inl refl
 answer-asked w true false e = inr refl
 answer-asked w false c e = absurd (false≢true e)
@@ -332,8 +331,8 @@ answer-is : (region : List ℕ) (w : Writer) → length region ≡ region_size �
 unfolding unchanged_step
 answer-is region w l = rw (eq-eqb (length region) region_size l)
 
-module _ (region : List ℕ) (hd : Loaded) (rs : List Source) (im : Image) (w : Writer) (u : Update) (k : Kept region hd rs im) (o : Open region hd w u) where
-  abbrev answer : Answer
+module _ (region : List ℕ) (hd : Result (Option Bank) Refusal) (rs : List Source) (im : Image) (w : Writer) (u : Update) (k : Kept region hd rs im) (o : Open region hd w u) where
+  abbrev answer : Result Answer Refusal
   answer = (unchanged_step region w).answer
 
   abbrev result : Bool
@@ -342,8 +341,8 @@ module _ (region : List ℕ) (hd : Loaded) (rs : List Source) (im : Image) (w : 
   result-is : may_ask w ≡ true → result ≡ is_unchanged region w hd
   result-is m = ap (is_unchanged region w) (active-is region hd rs im w u k o m)
 
-  may_at : may_ask w ≡ true → (answer ≡ Same) ⊎ (answer ≡ Different)
-  may_at m = subst (λ (x : Answer). (x ≡ Same) ⊎ (x ≡ Different)) (sym (answer-is region w k.size)) (answer-asked w (may_ask w) result m)
+  may_at : may_ask w ≡ true → (answer ≡ Ok Same) ⊎ (answer ≡ Ok Different)
+  may_at m = subst (λ (x : Result Answer Refusal). (x ≡ Ok Same) ⊎ (x ≡ Ok Different)) (sym (answer-is region w k.size)) (answer-asked w (may_ask w) result m)
 
   -- in comparing mode a state with nothing due is idle
   is-idle-at : (st : Stage) → stage_ok w.beginning.comparing w.contents st ≡ true → w.beginning.comparing ≡ true → is_due w.contents ≡ false → is_idle st ≡ true
@@ -352,11 +351,11 @@ module _ (region : List ℕ) (hd : Loaded) (rs : List Source) (im : Image) (w : 
   is-idle-at HeaderWritten s c d = true-false w.beginning.comparing c (headed-end w.beginning.comparing w.contents s).writing
   is-idle-at Committed s c d = true-false w.beginning.comparing c (committed-end w.beginning.comparing w.contents s).writing
 
-  asked-at : w.beginning.comparing ≡ true → w.contents.closed ≡ true → is_due w.contents ≡ false → (answer ≡ Same) ⊎ (answer ≡ Different)
+  asked-at : w.beginning.comparing ≡ true → w.contents.closed ≡ true → is_due w.contents ≡ false → (answer ≡ Ok Same) ⊎ (answer ≡ Ok Different)
   asked-at c e d = may_at (rw (o.tied.range, c, e, is-idle-at w.stage (ranged w o.tied.range).stage c d))
 
   -- otherwise it is refused
-  turn_at : may_ask w ≡ false → answer ≡ Refused Turn
+  turn_at : may_ask w ≡ false → answer ≡ Err Turn
   turn_at m = answer-is region w k.size ∙ ap (λ (a : Bool). answer_for w a result) m
 
   not-idle-at : (st : Stage) → stage_ok w.beginning.comparing w.contents st ≡ true → is_due w.contents ≡ true → is_idle st ≡ false
@@ -365,30 +364,30 @@ module _ (region : List ℕ) (hd : Loaded) (rs : List Source) (im : Image) (w : 
   not-idle-at HeaderWritten s d = refl
   not-idle-at Committed s d = refl
 
-  writing-at : w.beginning.comparing ≡ false → answer ≡ Refused Turn
+  writing-at : w.beginning.comparing ≡ false → answer ≡ Err Turn
   writing-at e = turn_at (rw (o.tied.range, e))
 
-  before_at : w.contents.closed ≡ false → answer ≡ Refused Turn
+  before_at : w.contents.closed ≡ false → answer ≡ Err Turn
   before_at e = turn_at (rw (o.tied.range, e) (and-false w.beginning.comparing))
 
-  due-at : is_due w.contents ≡ true → answer ≡ Refused Turn
+  due-at : is_due w.contents ≡ true → answer ≡ Err Turn
   due-at d =
       turn_at (rw (o.tied.range, not-idle-at w.stage (ranged w o.tied.range).stage d, and-false w.contents.closed) (and-false w.beginning.comparing))
 
-  yes-at : answer ≡ Same → EqualsActive (some u) hd im.bank rs
+  yes-at : answer ≡ Ok Same → EqualsActive (Some u) hd im.bank rs
   yes-at e =
       let p = answer-same w (may_ask w) result (sym (answer-is region w k.size) ∙ e) in
       (means region hd rs im w u k o p.0).0 (sym (result-is p.0) ∙ p.1)
 
-  no-at : answer ≡ Different → EqualsActive (some u) hd im.bank rs → ⊥
+  no-at : answer ≡ Ok Different → EqualsActive (Some u) hd im.bank rs → ⊥
   no-at e q =
       let p = answer-different w (may_ask w) result (sym (answer-is region w k.size) ∙ e) in
       false≢true (sym p.1 ∙ result-is p.0 ∙ (means region hd rs im w u k o p.0).1 q)
 
-at : (region : List ℕ) (hd : Loaded) (rs : List Source) (im : Image) (s : Option Writer) (v : Option Update) (w : Writer) → Kept region hd rs im → State region hd s v → s ≡ some w → UnchangedAt (mk region s hd rs v im) w
-at region hd rs im none v w k o e = absurd (false≢true (ap is_state e))
-at region hd rs im (some x) none w k o e = absurd o
-at region hd rs im (some x) (some u) w k o e =
+at : (region : List ℕ) (hd : Result (Option Bank) Refusal) (rs : List Source) (im : Image) (s : Option Writer) (v : Option Update) (w : Writer) → Kept region hd rs im → State region hd s v → s ≡ Some w → UnchangedAt (mk region s hd rs v im) w
+at region hd rs im None v w k o e = absurd (false≢true (ap is_state e))
+at region hd rs im (Some x) None w k o e = absurd o
+at region hd rs im (Some x) (Some u) w k o e =
     let q = subst (λ (y : Writer). Open region hd y u) (ap (state_or w) e) o in
     record {
       writing = writing-at region hd rs im w u k q;

@@ -3,7 +3,6 @@
 -- one can follow another. What load gives afterwards follows by demand 3, the answer of `unchanged` by its theorem.
 use mathlib.Core.Path.{◌≡◌, refl, sym, ap, ◌∙◌, subst}
 use mathlib.Core.Bool.{Bool, true, false}
-use mathlib.Core.Option.{none, some}
 use mathlib.Core.List.{List, [], ◌∷◌, ◌++◌, map}
 use mathlib.Core.Logic.{◌⊎◌, inl, inr}
 use Prim.Native.Nat.{ℕ, ◌<◌}
@@ -34,8 +33,6 @@ use Rattle.header.specs.Types.{Bytes}
 use Rattle.header.specs.WriteHeader.{is_fit, header_bytes, blank_word, commit_bytes}
 use Rattle.region.specs.Region.{region_size, sector_size}
 use Rattle.region.specs.Region as Region
-use Rattle.bank.specs.declared.Loaded.{Loaded}
-use Rattle.bank.specs.declared.Loaded.TheVariants.{Found}
 use Rattle.bank.specs.Bank.{loaded}
 use Rattle.flash.specs.Flash.{Op, erase, write, torn, applied, performed}
 use Rattle.flash.proofs.Laws.{length-performed}
@@ -44,12 +41,10 @@ use Rattle.writer.specs.declared.Stage.{Stage}
 use Rattle.writer.specs.declared.Stage.TheVariants.{Idle, Due, HeaderWritten, Committed}
 use Rattle.writer.specs.declared.Contents.{Contents}
 use Rattle.writer.specs.declared.Tables.{Tables}
-use Rattle.writer.specs.declared.Answer.{Answer}
 use Rattle.writer.specs.declared.Answer.TheVariants.{Done, Same, Different}
 use Rattle.writer.specs.declared.Writer.{Writer}
 use Rattle.writer.specs.State.{is_due, first_due, stage_of, target, begun_in, active_ok, contents_ok, tables_ok, operation_ok, stage_ok, in_range, tail_size, next_generation, did}
 use Rattle.lower.specs.Lower.{started, with_source, source_step, with_table, table_step, with_bytes, with_end, end_step, with_closed, close_step, emptied, with_block, past_end}
-use Rattle.commit.specs.declared.Stamp.TheVariants.{Given}
 use Rattle.commit.specs.Commit.{checked_time, bank_for, records_for, commit_step, commit_ops, word_step, word_ops}
 use Rattle.commit.specs.Unchanged.{unchanged_step}
 use Rattle.due.specs.Due.{padded, due_ops, differs, operated, due_step}
@@ -71,9 +66,13 @@ use Rattle.powerloss.proofs.Uppers.{inv-all, inv-found, demand3}
 use Rattle.powerloss.proofs.Unchanged.{exactly}
 use Rattle.powerloss.proofs.Computed.{proper, bytes_of, next-append, typed-append, blank-is, word-is}
 use Rattle.powerloss.proofs.ShortRuns.{Outcome, outcome, after, ends, no_call, quiet-call, idle-due, idle-dues, chunk, short, first-flush, Still, call-bytes, only-bytes, only-call, upper-outcome}
+use Rattle.std.specs.Prelude.{Ok, Some, Result, Option, None}
+use Rattle.refusal.specs.declared.Refusal.{Refusal}
+use Rattle.header.specs.declared.Bank.{Bank}
+use Rattle.writer.specs.declared.Answer.{Answer}
 
 -- a state of this update
-abbrev st : Loaded → Bool → Stage → Contents → Tables → List Source → List ℕ → Writer
+abbrev st : Result (Option Bank) Refusal → Bool → Stage → Contents → Tables → List Source → List ℕ → Writer
 st hd comparing g t b ss tail = record { stage = g; beginning = record { active = hd; comparing = comparing; now = now }; contents = t; tables = b; sources = ss; tail = tail }
 
 abbrev tk : ℕ → ℕ → ℕ → Bool → Bool → Contents
@@ -112,14 +111,14 @@ row_is z e = rw e (unfold special in refl)
 abbrev Does : Upper → List ℕ → Writer → Outcome → Type 0
 Does c region w o = (upper_step region w c ≡ did o.writer) × (upper_region region w c ≡ o.region) × (upper_ops region w c ≡ o.ops)
 
-module _ (hd : Loaded) (ok : active_ok hd ≡ true) (comparing : Bool) (region : List ℕ) (l : length region ≡ region_size) (ss : List Source) (tail : List ℕ) (a b : ℕ) where
+module _ (hd : Result (Option Bank) Refusal) (ok : active_ok hd ≡ true) (comparing : Bool) (region : List ℕ) (l : length region ≡ region_size) (ss : List Source) (tail : List ℕ) (a b : ℕ) where
   abbrev s1 : Writer
   s1 = st hd comparing Idle (tk 0 1 a false false) (tb 0 8 0 b 0) ss tail
 
   abbrev s1' : Writer
   s1' = st hd comparing Idle (tk 0 1 a false false) (tb 1 8 0 b 0) (set ss 0 (emptied the_source)) tail
 
-  source_fits : refusal_of region s1 (source_with_dates the_source) ≡ none
+  source_fits : refusal_of region s1 (source_with_dates the_source) ≡ None
   unfolding refusal_of in_range contents_ok tables_ok stage_ok is_due
   source_fits = rw (eq-eqb (length region) region_size l, ok, dates-are) refl
 
@@ -143,7 +142,7 @@ module _ (hd : Loaded) (ok : active_ok hd ≡ true) (comparing : Bool) (region :
   abbrev s2' : Writer
   s2' = st hd comparing Idle (tk 0 9 a false false) (tb 1 0 9 0 1) ss tail
 
-  table_fits : refusal_of region s2 (table_with_names 0) ≡ none
+  table_fits : refusal_of region s2 (table_with_names 0) ≡ None
   unfolding refusal_of begun_in in_range contents_ok tables_ok stage_ok is_due
   table_fits = rw (eq-eqb (length region) region_size l, ok, names-are) refl
 
@@ -173,7 +172,7 @@ module _ (hd : Loaded) (ok : active_ok hd ≡ true) (comparing : Bool) (region :
     unfolding appended_bytes
     row-bytes = row_is z e
 
-    row_fits : refusal_of region s3 (row (values z) lengths) ≡ none
+    row_fits : refusal_of region s3 (row (values z) lengths) ≡ None
     unfolding refusal_of columns_of columns in_range contents_ok tables_ok stage_ok is_due
     row_fits = rw (eq-eqb (length region) region_size l, ok, row_is z e, row-bytes) refl
 
@@ -189,7 +188,7 @@ module _ (hd : Loaded) (ok : active_ok hd ≡ true) (comparing : Bool) (region :
   abbrev s5 : Writer
   s5 = st hd comparing Idle (tk 0 53 a false false) (tb 1 8 9 b 1) (set ss 0 (with_block (get_or ss 0 past_end) 0 (record { offset = 9; length = 44; crc = b }))) tail
 
-  end_fits : refusal_of region s4 table_end ≡ none
+  end_fits : refusal_of region s4 table_end ≡ None
   unfolding refusal_of appended_bytes in_range contents_ok tables_ok stage_ok is_due
   end_fits = rw (eq-eqb (length region) region_size l, ok) refl
 
@@ -209,7 +208,7 @@ module _ (hd : Loaded) (ok : active_ok hd ≡ true) (comparing : Bool) (region :
   abbrev s7 : Writer
   s7 = st hd comparing (Due (first_due comparing (tk 0 53 a false true))) (tk 0 53 a false true) (tb 1 8 9 b 1) ss tail
 
-  close-fits : refusal_of region s6 closing ≡ none
+  close-fits : refusal_of region s6 closing ≡ None
   unfolding refusal_of appended_bytes in_range contents_ok tables_ok stage_ok is_due
   close-fits = rw (eq-eqb (length region) region_size l, ok) refl
 
@@ -225,7 +224,7 @@ module _ (hd : Loaded) (ok : active_ok hd ≡ true) (comparing : Bool) (region :
 abbrev closing_ops : List ℕ → List Op
 closing_ops tail = erase 0 ∷ erase sector_size ∷ write sector_size (padded (take 53 tail)) ∷ []
 
-module _ (hd : Loaded) (ok : active_ok hd ≡ true) (ss : List Source) (tail : List ℕ) (a b : ℕ) (region : List ℕ) (l : length region ≡ region_size) where
+module _ (hd : Result (Option Bank) Refusal) (ok : active_ok hd ≡ true) (ss : List Source) (tail : List ℕ) (a b : ℕ) (region : List ℕ) (l : length region ≡ region_size) where
   abbrev due_erase : Writer
   due_erase = st hd false (Due (Erase 0)) (tk 0 53 a false true) (tb 1 8 9 b 1) ss tail
 
@@ -237,7 +236,7 @@ module _ (hd : Loaded) (ok : active_ok hd ≡ true) (ss : List Source) (tail : L
   closing-does = first-flush _ 53 a false true _ ss tail region [] erase-fit ∙ ap (after (closing_ops tail)) (no_call _ _)
 
 -- comparing
-module _ (hd : Loaded) (ok : active_ok hd ≡ true) (ss : List Source) (tail : List ℕ) (a b : ℕ) (region : List ℕ) (l : length region ≡ region_size) where
+module _ (hd : Result (Option Bank) Refusal) (ok : active_ok hd ≡ true) (ss : List Source) (tail : List ℕ) (a b : ℕ) (region : List ℕ) (l : length region ≡ region_size) where
   abbrev compared_all : Writer
   compared_all = st hd true Idle (tk 53 0 a (differs region hd (tk 0 53 a false true) tail) true) (tb 1 8 9 b 1) ss tail
 
@@ -257,7 +256,7 @@ module _ (hd : Loaded) (ok : active_ok hd ≡ true) (ss : List Source) (tail : L
 
 -- ---- the beginning and commit's two calls
 
-abbrev first : Loaded → Bool → Writer
+abbrev first : Result (Option Bank) Refusal → Bool → Writer
 first hd comparing = st hd comparing Idle (tk 0 0 0 false false) (tb 0 8 0 0 0) (fill no_source max_sources) (fill 0 tail_size)
 
 abbrev tail1 : List ℕ
@@ -266,11 +265,11 @@ tail1 = sets (fill 0 tail_size) 0 key
 abbrev crc1 : ℕ
 crc1 = crc32 0 key
 
-abbrev begun1 : Loaded → Bool → Writer
+abbrev begun1 : Result (Option Bank) Refusal → Bool → Writer
 begun1 hd comparing = st hd comparing Idle (tk 0 1 crc1 false false) (tb 0 8 0 crc1 0) (fill no_source max_sources) tail1
 
-module _ (hd : Loaded) (ok : active_ok hd ≡ true) (comparing : Bool) (region : List ℕ) (l : length region ≡ region_size) (e : loaded region ≡ hd) where
-  begin-fits : begin_refusal region [] [] [] ≡ none
+module _ (hd : Result (Option Bank) Refusal) (ok : active_ok hd ≡ true) (comparing : Bool) (region : List ℕ) (l : length region ≡ region_size) (e : loaded region ≡ hd) where
+  begin-fits : begin_refusal region [] [] [] ≡ None
   unfolding begin_refusal Key.fit Key.every
   begin-fits = rw (eq-eqb (length region) region_size l) refl
 
@@ -309,7 +308,7 @@ tail-full : padded (take 256 (sets (fill 0 tail_size) 0 (255 ∷ key_first))) �
 unfolding padded fill
 tail-full = refl
 
-module _ (hd : Loaded) (ok : active_ok hd ≡ true) (region : List ℕ) (l : length region ≡ region_size) (e : loaded region ≡ hd) where
+module _ (hd : Result (Option Bank) Refusal) (ok : active_ok hd ≡ true) (region : List ℕ) (l : length region ≡ region_size) (e : loaded region ≡ hd) where
   abbrev full_in : Stage → Writer
   full_in g = st hd false g (tk 0 256 (crc32 0 (255 ∷ key_first)) false false) (tb 0 8 0 (crc32 0 (255 ∷ key_first)) 0) (fill no_source max_sources) (sets (fill 0 tail_size) 0 (255 ∷ key_first))
 
@@ -349,7 +348,7 @@ module _ (hd : Loaded) (ok : active_ok hd ≡ true) (region : List ℕ) (l : len
       ∙ ap (after full_ops) (short region' full_after 65 key_rest f refl after_none (omega arith) (omega arith)))
       ∙ (λ i. erase 0 ∷ erase sector_size ∷ write sector_size (tail-full i) ∷ [])
 
-  key_fits : begin_refusal region identity [] [] ≡ none
+  key_fits : begin_refusal region identity [] [] ≡ None
   unfolding begin_refusal Key.fit Key.every
   key_fits = rw (eq-eqb (length region) region_size l, length-fill {A = ℕ} 65 300) refl
 
@@ -364,21 +363,21 @@ sources1 = set (fill no_source max_sources) 0 (emptied the_source)
 abbrev sources2 : ℕ → List Source
 sources2 b = set sources1 0 (with_block (get_or sources1 0 past_end) 0 (record { offset = 9; length = 44; crc = b }))
 
-abbrev committing : Loaded → List ℕ → ℕ → ℕ → Stage → Writer
+abbrev committing : Result (Option Bank) Refusal → List ℕ → ℕ → ℕ → Stage → Writer
 committing hd tail a b g = st hd false g (tk 53 0 a false true) (tb 1 8 9 b 1) (sources2 b) tail
 
-abbrev header_op : Loaded → List ℕ → ℕ → ℕ → ℤ → Op
-header_op hd tail a b stamp = write 0 (header_bytes (bank_for (committing hd tail a b Idle) (Given stamp)) (records_for (committing hd tail a b Idle)) blank_word)
+abbrev header_op : Result (Option Bank) Refusal → List ℕ → ℕ → ℕ → ℤ → Op
+header_op hd tail a b stamp = write 0 (header_bytes (bank_for (committing hd tail a b Idle) (Some stamp)) (records_for (committing hd tail a b Idle)) blank_word)
 
-module _ (hd : Loaded) (tail : List ℕ) (a b : ℕ) (stamp : ℤ) (g : le_z (pos 0) (checked_time (Given stamp) now) ≡ true) where
+module _ (hd : Result (Option Bank) Refusal) (tail : List ℕ) (a b : ℕ) (stamp : ℤ) (g : le_z (pos 0) (checked_time (Some stamp) now) ≡ true) where
   -- refusal 13 isn't met
-  fit : is_fit (bank_for (committing hd tail a b Idle) (Given stamp)) (records_for (committing hd tail a b Idle)) ≡ true
+  fit : is_fit (bank_for (committing hd tail a b Idle) (Some stamp)) (records_for (committing hd tail a b Idle)) ≡ true
   unfolding is_fit judge span_ok source_ok each bank_for fill no_source valid_date is_date month_days leap
   fit = rw g refl
 
   module _ (ok : active_ok hd ≡ true) (region : List ℕ) (l : length region ≡ region_size) where
-    does-commit : (lower_step region (committing hd tail a b Idle) (commit (Given stamp) true) ≡ did (committing hd tail a b HeaderWritten))
-        × (lower_ops region (committing hd tail a b Idle) (commit (Given stamp) true) ≡ header_op hd tail a b stamp ∷ [])
+    does-commit : (lower_step region (committing hd tail a b Idle) (commit (Some stamp) true) ≡ did (committing hd tail a b HeaderWritten))
+        × (lower_ops region (committing hd tail a b Idle) (commit (Some stamp) true) ≡ header_op hd tail a b stamp ∷ [])
     unfolding lower_step lower_ops commit_step commit_ops in_range contents_ok tables_ok stage_ok is_due
     does-commit = rw (eq-eqb (length region) region_size l, ok, fit) (refl, refl)
 
@@ -392,24 +391,24 @@ module _ (hd : Loaded) (tail : List ℕ) (a b : ℕ) (stamp : ℤ) (g : le_z (po
 abbrev progress : Run → List Op → List Event → Run × List Op
 progress r ops es = (next_all r es, ops_after r ops es)
 
-abbrev upd : Loaded → List ℕ → List Note → ℤ → Update
+abbrev upd : Result (Option Bank) Refusal → List ℕ → List Note → ℤ → Update
 upd hd xs ns checked = record { number = target hd; generation = next_generation hd; now = now; data· = xs; notes = ns; checked = checked }
 
-abbrev run_at : Loaded → List Source → Image → List ℕ → Writer → Update → Run
-run_at hd rs im region w u = mk region (some w) hd rs (some u) im
+abbrev run_at : Result (Option Bank) Refusal → List Source → Image → List ℕ → Writer → Update → Run
+run_at hd rs im region w u = mk region (Some w) hd rs (Some u) im
 
-module _ (hd : Loaded) (rs : List Source) (im : Image) (region : List ℕ) (g : Stage) (comparing : Bool) (t : Contents) (b : Tables) (ss : List Source) (tail : List ℕ) (u : Update) (ops : List Op) (es : List Event) where
+module _ (hd : Result (Option Bank) Refusal) (rs : List Source) (im : Image) (region : List ℕ) (g : Stage) (comparing : Bool) (t : Contents) (b : Tables) (ss : List Source) (tail : List ℕ) (u : Update) (ops : List Op) (es : List Event) where
   abbrev here : Writer
   here = st hd comparing g t b ss tail
 
-  called : (c : Upper) (o : Outcome) (v : Update) → Does c region here o → upper_after c Done u ≡ v
+  called : (c : Upper) (o : Outcome) (v : Update) → Does c region here o → upper_after c (Ok Done) u ≡ v
       → progress (run_at hd rs im region here u) ops (upper c ∷ es) ≡ progress (run_at hd rs im o.region o.writer v) (ops ++ o.ops) es
   unfolding next_all ops_after next since on_upper after_upper
   called c o v d e = rw (d.0, d.1, d.2, e)
 
   -- commit's first call
-  headed : (stamp : ℤ) (w : Writer) (o : List Op) → (lower_step region here (commit (Given stamp) true) ≡ did w) × (lower_ops region here (commit (Given stamp) true) ≡ o)
-      → progress (run_at hd rs im region here u) ops (call (commit (Given stamp) true) ∷ es) ≡ progress (run_at hd rs im (performed (target hd) o region) w (checks (checked_time (Given stamp) u.now) u)) (ops ++ o) es
+  headed : (stamp : ℤ) (w : Writer) (o : List Op) → (lower_step region here (commit (Some stamp) true) ≡ did w) × (lower_ops region here (commit (Some stamp) true) ≡ o)
+      → progress (run_at hd rs im region here u) ops (call (commit (Some stamp) true) ∷ es) ≡ progress (run_at hd rs im (performed (target hd) o region) w (checks (checked_time (Some stamp) u.now) u)) (ops ++ o) es
   unfolding next_all ops_after next since on_call after_lower committed image_after update_after
   headed stamp w o d = rw (d.0, d.1)
 
@@ -418,7 +417,7 @@ unfolding next_all
 no-event r = refl
 
 -- what each call appends and notes
-after-upper : (c : Upper) (u : Update) (xs : List ℕ) → appended_bytes c ≡ xs → upper_after c Done u ≡ with_appended xs (upper_noted c u)
+after-upper : (c : Upper) (u : Update) (xs : List ℕ) → appended_bytes c ≡ xs → upper_after c (Ok Done) u ≡ with_appended xs (upper_noted c u)
 unfolding upper_after
 after-upper c u xs e = ap (λ (x : List ℕ). with_appended x (upper_noted c u)) e
 
@@ -458,11 +457,11 @@ tail_all z = sets tail3 46 (row_text z)
 abbrev data_with : ℕ → List ℕ
 data_with z = key ++ (dates ++ (names ++ row_text z))
 
-abbrev at_end : Loaded → Bool → ℕ → Writer
+abbrev at_end : Result (Option Bank) Refusal → Bool → ℕ → Writer
 at_end hd comparing z = st hd comparing Idle (tk 0 53 (crc_all z) false false) (tb 1 8 9 (crc_routes z) 1) (sources2 (crc_routes z)) (tail_all z)
 
 -- from a run whose history holds what load gives
-module _ (hd : Loaded) (ok : active_ok hd ≡ true) (r : Run) (e : loaded r.region ≡ hd) (f : r.history.held ≡ hd) (l : length r.region ≡ region_size) where
+module _ (hd : Result (Option Bank) Refusal) (ok : active_ok hd ≡ true) (r : Run) (e : loaded r.region ≡ hd) (f : r.history.held ≡ hd) (l : length r.region ≡ region_size) where
   abbrev from : List ℕ → Writer → Update → Run
   from region w u = run_at hd r.history.records r.image region w u
 
@@ -514,7 +513,7 @@ module _ (hd : Loaded) (ok : active_ok hd ≡ true) (r : Run) (e : loaded r.regi
       ∙ no-event _
 
   -- the whole update
-  module _ (stamp : ℤ) (g : le_z (pos 0) (checked_time (Given stamp) now) ≡ true) where
+  module _ (stamp : ℤ) (g : le_z (pos 0) (checked_time (Some stamp) now) ≡ true) where
     abbrev z7 : ℕ
     z7 = 55
 
@@ -528,7 +527,7 @@ module _ (hd : Loaded) (ok : active_ok hd ≡ true) (r : Run) (e : loaded r.regi
     l4 = length-performed (target hd) (header_written ∷ []) (region3 z7) (target_fits hd) (l3 z7)
 
     abbrev checked_update : Update
-    checked_update = upd hd (data_with z7) notes (checked_time (Given stamp) now)
+    checked_update = upd hd (data_with z7) notes (checked_time (Some stamp) now)
 
     abbrev ops4 : List Op
     ops4 = closing_ops (tail_all z7) ++ (header_written ∷ [])
@@ -538,7 +537,7 @@ module _ (hd : Loaded) (ok : active_ok hd ≡ true) (r : Run) (e : loaded r.regi
     to_word ops =
         let rs = r.history.records in
         let im = r.image in
-        to_end false z7 (unfold special in refl) ops (upper closing ∷ call (commit (Given stamp) true) ∷ call word ∷ [])
+        to_end false z7 (unfold special in refl) ops (upper closing ∷ call (commit (Some stamp) true) ∷ call word ∷ [])
         ∙ called hd rs im r.region Idle false _ _ _ _ (upd hd (data_with z7) notes now) [] _ closing _ (upd hd (data_with z7) notes now) (does-closing z7) (after-upper _ _ [] (unfold appended_bytes in refl))
         ∙ headed hd rs im (region3 z7) Idle false _ _ _ _ (upd hd (data_with z7) notes now) (closing_ops (tail_all z7)) _ stamp _ _ (does-commit hd (tail_all z7) (crc_all z7) (crc_routes z7) stamp g ok (region3 z7) (l3 z7))
 
@@ -551,8 +550,8 @@ module _ (hd : Loaded) (ok : active_ok hd ≡ true) (r : Run) (e : loaded r.regi
 
     abbrev done : Run
     done =
-        mk region5 (some (committing hd (tail_all z7) (crc_all z7) (crc_routes z7) Committed)) (Found (bank_of checked_update)) (records_of checked_update) (some checked_update)
-        (record { bank = Region.bank_of region5 (target hd); given = some (data_with z7) })
+        mk region5 (Some (committing hd (tail_all z7) (crc_all z7) (crc_routes z7) Committed)) (Ok (Some (bank_of checked_update))) (records_of checked_update) (Some checked_update)
+        (record { bank = Region.bank_of region5 (target hd); given = Some (data_with z7) })
 
     by_word : progress (from region4 (committing hd (tail_all z7) (crc_all z7) (crc_routes z7) HeaderWritten) checked_update) ops4 (call word ∷ []) ≡ (done, ops4 ++ (word_op ∷ []))
     unfolding next_all ops_after next since on_call after_lower committed image_after update_after
@@ -561,7 +560,7 @@ module _ (hd : Loaded) (ok : active_ok hd ≡ true) (r : Run) (e : loaded r.regi
     whole : (ops : List Op) → progress r ops (update_at stamp) ≡ (done, ops4 ++ (word_op ∷ []))
     whole ops = to_word ops ∙ by_word
 
-    noted-bank : bank_of checked_update ≡ updated (checked_time (Given stamp) now) hd
+    noted-bank : bank_of checked_update ≡ updated (checked_time (Some stamp) now) hd
     unfolding bank_of records_after block_between fill
     noted-bank = refl
 
@@ -569,13 +568,13 @@ module _ (hd : Loaded) (ok : active_ok hd ≡ true) (r : Run) (e : loaded r.regi
     unfolding records_after block_between fill
     noted-records = refl
 
-    after-held : (next_all r (update_at stamp)).history.held ≡ Found (updated (checked_time (Given stamp) now) hd)
-    after-held = ap (λ (x : Run × List Op). x.0.history.held) (whole []) ∙ ap Found noted-bank
+    after-held : (next_all r (update_at stamp)).history.held ≡ Ok (Some (updated (checked_time (Some stamp) now) hd))
+    after-held = ap (λ (x : Run × List Op). x.0.history.held) (whole []) ∙ ap (λ (b : Bank). Ok (Some b)) noted-bank
 
     after-records : (next_all r (update_at stamp)).history.records ≡ written ∷ []
     after-records = ap (λ (x : Run × List Op). x.0.history.records) (whole []) ∙ noted-records
 
-    after-given : (next_all r (update_at stamp)).image.given ≡ some data·
+    after-given : (next_all r (update_at stamp)).image.given ≡ Some data·
     after-given = ap (λ (x : Run × List Op). x.0.image.given) (whole [])
 
     after-ops : ops_after r [] (update_at stamp) ≡ ops4 ++ (word_op ∷ [])
@@ -663,10 +662,10 @@ module _ (region : List ℕ) (l : length region ≡ region_size) where
   hd-ok : active_ok (loaded region) ≡ true
   hd-ok = active-ok region (loaded region) l refl
 
-module _ (stamp checked : ℤ) (g : le_z (pos 0) (checked_time (Given stamp) now) ≡ true) (c : checked_time (Given stamp) now ≡ checked) (s : SFits w64 stamp) where
-  gives-held : (region : List ℕ) → length region ≡ region_size → (next_all (found region) (update_at stamp)).history.held ≡ Found (updated checked (loaded region))
+module _ (stamp checked : ℤ) (g : le_z (pos 0) (checked_time (Some stamp) now) ≡ true) (c : checked_time (Some stamp) now ≡ checked) (s : SFits w64 stamp) where
+  gives-held : (region : List ℕ) → length region ≡ region_size → (next_all (found region) (update_at stamp)).history.held ≡ Ok (Some (updated checked (loaded region)))
   unfolding found
-  gives-held region l = after-held (loaded region) (hd-ok region l) (found region) refl refl l stamp g ∙ ap (λ (x : ℤ). Found (updated x (loaded region))) c
+  gives-held region l = after-held (loaded region) (hd-ok region l) (found region) refl refl l stamp g ∙ ap (λ (x : ℤ). Ok (Some (updated x (loaded region)))) c
 
   gives : Gives stamp checked
   unfolding found
@@ -707,7 +706,7 @@ data-op : padded (take 53 (tail_all 55)) ≡ data· ++ (255 ∷ 255 ∷ 255 ∷ 
 unfolding padded fill
 data-op = refl
 
-header-op : (hd : Loaded) → header_op hd (tail_all 55) (crc_all 55) (crc_routes 55) later ≡ write 0 (header_bytes (updated later hd) (written ∷ []) (255 ∷ 255 ∷ 255 ∷ 255 ∷ []))
+header-op : (hd : Result (Option Bank) Refusal) → header_op hd (tail_all 55) (crc_all 55) (crc_routes 55) later ≡ write 0 (header_bytes (updated later hd) (written ∷ []) (255 ∷ 255 ∷ 255 ∷ 255 ∷ []))
 unfolding bank_for fill
 header-op hd = rw (crc-data, crc-routes, blank-is) refl
 
@@ -722,8 +721,8 @@ module _ (region : List ℕ) (l : length region ≡ region_size) (y : Bytes regi
   abbrev one : Run
   one = next_all (found region) (update_at later)
 
-  abbrev new_held : Loaded
-  new_held = Found (updated later (loaded region))
+  abbrev new_held : Result (Option Bank) Refusal
+  new_held = Ok (Some (updated later (loaded region)))
 
   one_size : length one.region ≡ region_size
   one_size = (inv-all (update_at later) (found region) (typed later later-fits) (inv-found region l y)).kept.size
@@ -741,7 +740,7 @@ module _ (region : List ℕ) (l : length region ≡ region_size) (y : Bytes regi
 
 -- on any run whose history holds what load gives, so on the region found and after the whole update
 abbrev Held : List Event → Type 0
-Held es = (hd : Loaded) → active_ok hd ≡ true → (r : Run) → loaded r.region ≡ hd → r.history.held ≡ hd → length r.region ≡ region_size → (next_all r es).history.held ≡ hd
+Held es = (hd : Result (Option Bank) Refusal) → active_ok hd ≡ true → (r : Run) → loaded r.region ≡ hd → r.history.held ≡ hd → length r.region ≡ region_size → (next_all r es).history.held ≡ hd
 
 held_first : (es : List Event) → Held es → (region : List ℕ) → length region ≡ region_size → (next_all (found region) es).history.held ≡ loaded region
 unfolding found
@@ -779,7 +778,7 @@ module _ (region : List ℕ) (l : length region ≡ region_size) (y : Bytes regi
   abbrev r1 : Run
   r1 = one region l y
 
-  abbrev hd1 : Loaded
+  abbrev hd1 : Result (Option Bank) Refusal
   hd1 = new_held region l y
 
   abbrev asking : Writer
@@ -807,9 +806,9 @@ module _ (region : List ℕ) (l : length region ≡ region_size) (y : Bytes regi
   unfolding is_due
   none-due = refl
 
-  answer-is : (x : Answer) → (unchanged_step r1.region asking).answer ≡ x → answer_on (compared region (values z)).region (compared region (values z)).state unchanged ≡ some x
+  answer-is : (x : Result Answer Refusal) → (unchanged_step r1.region asking).answer ≡ x → answer_on (compared region (values z)).region (compared region (values z)).state unchanged ≡ Some x
   unfolding lower_step
-  answer-is x e = ap (λ (r : Run). answer_on r.region r.state unchanged) reached-is ∙ ap some e
+  answer-is x e = ap (λ (r : Run). answer_on r.region r.state unchanged) reached-is ∙ ap Some e
 
   -- the first update's data are in the bank
   given_is : Region.data_of r1.image.bank 53 ≡ data·
@@ -834,14 +833,14 @@ module _ (region : List ℕ) (l : length region ≡ region_size) (y : Bytes regi
   equal-only : IsEqual reached → z ≡ 55
   equal-only h = ap (λ (d : List ℕ). get_or d 49 0) (h.data· ∙ given_is)
 
-  abbrev Asked : Answer → Type 0
+  abbrev Asked : Result Answer Refusal → Type 0
   Asked x = (unchanged_step r1.region asking).answer ≡ x
 
-  same_if : z ≡ 55 → Asked Same ⊎ Asked Different → Asked Same
+  same_if : z ≡ 55 → Asked (Ok Same) ⊎ Asked (Ok Different) → Asked (Ok Same)
   same_if e (inl x) = x
   same_if e (inr x) = absurd (theorem.no x (equal_if e))
 
-  different-if : (z ≡ 55 → ⊥) → Asked Same ⊎ Asked Different → Asked Different
+  different-if : (z ≡ 55 → ⊥) → Asked (Ok Same) ⊎ Asked (Ok Different) → Asked (Ok Different)
   different-if n (inl x) = absurd (n (equal-only (theorem.yes x)))
   different-if n (inr x) = x
 
@@ -856,9 +855,9 @@ plain56 = refl
 pub same_row : SameRow
 same_row region l y =
     let h : 55 < 256 = omega arith in
-    answer-is region l y 55 plain55 h Same (same_if region l y 55 plain55 h refl ((theorem region l y 55 plain55 h).asked refl refl (none-due region l y 55 plain55 h)))
+    answer-is region l y 55 plain55 h (Ok Same) (same_if region l y 55 plain55 h refl ((theorem region l y 55 plain55 h).asked refl refl (none-due region l y 55 plain55 h)))
 
 pub other_row : OtherRow
 other_row region l y =
     let h : 56 < 256 = omega arith in
-    answer-is region l y 56 plain56 h Different (different-if region l y 56 plain56 h (λ e. omega arith) ((theorem region l y 56 plain56 h).asked refl refl (none-due region l y 56 plain56 h)))
+    answer-is region l y 56 plain56 h (Ok Different) (different-if region l y 56 plain56 h (λ e. omega arith) ((theorem region l y 56 plain56 h).asked refl refl (none-due region l y 56 plain56 h)))

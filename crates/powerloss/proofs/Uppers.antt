@@ -2,7 +2,6 @@
 -- lower calls that appends all of its bytes, so the history's note of the call and those of its run agree.
 use mathlib.Core.Path.{◌≡◌, refl, sym, ap, ◌∙◌, subst}
 use mathlib.Core.Bool.{Bool, true, false, not}
-use mathlib.Core.Option.{Option, none, some}
 use mathlib.Core.List.{List, [], ◌∷◌, ◌++◌}
 use Prim.Native.Nat.{ℕ, suc, ◌+◌, ◌*◌, ◌^◌, ◌≤◌, ◌<◌}
 use native.Mathlib.Omega.{arith}
@@ -18,8 +17,6 @@ use Rattle.record.specs.declared.Source.{Source}
 use Rattle.region.specs.Region.{region_size, capacity, bank_of, bank_size}
 use Rattle.base.proofs.Bools.{and_left, and_right}
 use Rattle.header.specs.Types.{Bytes, Proper}
-use Rattle.bank.specs.declared.Loaded.{Loaded}
-use Rattle.bank.specs.declared.Loaded.TheVariants.{Found, Nothing, Refused as NotRead}
 use Rattle.bank.specs.Bank.{loaded, generation}
 use Rattle.flash.specs.Flash.{performed}
 use Rattle.writer.specs.declared.Answer.TheVariants.{Done}
@@ -46,6 +43,8 @@ use Rattle.powerloss.proofs.Runs.{ran_update, AllPlain, Ran, ran}
 use Rattle.powerloss.proofs.Answers.{region_three, writer_three, may-append, Accepted, accepted-by, open_of, fits-of, key_fits}
 use Rattle.powerloss.proofs.Appends.{Now, Three, three, dues-update, appends-update, dues-appends}
 use Rattle.header.specs.Header.{max_sources}
+use Rattle.std.specs.Prelude.{Ok, Err, Some, None, Result, Option}
+use Rattle.header.specs.declared.Bank.{Bank}
 
 pub bytes-appended : (c : Upper) → UpperTyped c → Bytes (appended_bytes c)
 unfolding appended_bytes
@@ -82,7 +81,7 @@ plain-run c p =
     plain-append dues (lower_of c ++ (dues ++ appends (appended_bytes c))) plain-dues
     (plain-append (lower_of c) (dues ++ appends (appended_bytes c)) (plain-lower c p) (plain-append dues (appends (appended_bytes c)) plain-dues (plain-appends (appended_bytes c) (bytes-appended c p))))
 
-module _ (hd : Loaded) (rs : List Source) (im : Image) (region : List ℕ) (w : Writer) (u : Update) (h : Now hd rs im region w u) where
+module _ (hd : Result (Option Bank) Refusal) (rs : List Source) (im : Image) (region : List ℕ) (w : Writer) (u : Update) (h : Now hd rs im region w u) where
   -- one call that is answered and does no operation
   source-update : (s : Source) (cs : List Lower) → did (with_source w s) ≡ source_step w s → ran_update region w (source s ∷ cs) u ≡ ran_update region (with_source w s) cs (notes_of (source_note s) u)
   unfolding ran_update lower_ops lower_step performed update_after
@@ -139,7 +138,7 @@ module _ (hd : Loaded) (rs : List Source) (im : Image) (region : List ℕ) (w : 
 
 -- ---- the run of an accepted call appends all of its bytes and has the call's own note
 
-module _ (hd : Loaded) (rs : List Source) (im : Image) (region : List ℕ) (w : Writer) (u : Update) (h : Now hd rs im region w u) where
+module _ (hd : Result (Option Bank) Refusal) (rs : List Source) (im : Image) (region : List ℕ) (w : Writer) (u : Update) (h : Now hd rs im region w u) where
   t3 : Three hd rs im region w u
   t3 = three hd rs im region w u h
 
@@ -181,52 +180,52 @@ module _ (hd : Loaded) (rs : List Source) (im : Image) (region : List ℕ) (w : 
 
 -- ---- upper events
 
-module _ (region : List ℕ) (hd : Loaded) (rs : List Source) (im : Image) (w : Writer) (u : Update) (k : Kept region hd rs im) (o : Open region hd w u) where
+module _ (region : List ℕ) (hd : Result (Option Bank) Refusal) (rs : List Source) (im : Image) (w : Writer) (u : Update) (k : Kept region hd rs im) (o : Open region hd w u) where
   upper_by : (c : Upper) → UpperTyped c → (x : Option Refusal) → refusal_of region w c ≡ x
       → Inv (record {
         region = ran_region region w (run_if x (run_of c));
-        state = some (answered x (ran_writer region w (run_if x (run_of c)))).writer;
-        history = after_upper c (answered x (ran_writer region w (run_if x (run_of c)))).answer (record { held = hd; records = rs; open· = some u }) (some u);
+        state = Some (answered x (ran_writer region w (run_if x (run_of c)))).writer;
+        history = after_upper c (answered x (ran_writer region w (run_if x (run_of c)))).answer (record { held = hd; records = rs; open· = Some u }) (Some u);
         image = im;
       })
   unfolding after_upper upper_after
-  upper_by c p none e =
+  upper_by c p None e =
       let z = ran (run_of c) region hd rs im w u (plain-run c p) k o in
       record {
         kept = z.whole;
         open· =
             subst (Open (ran_region region w (run_of c)) hd (ran_writer region w (run_of c))) (run-update hd rs im region w u (record { kept = k; open· = o }) c p (accepted-by region w c e)) z.open·;
       }
-  upper_by c p (some r) e = unfold ran_region in (unfold ran_writer in (record { kept = k; open· = o }))
+  upper_by c p (Some r) e = unfold ran_region in (unfold ran_writer in (record { kept = k; open· = o }))
 
-  upper-inv : (c : Upper) → UpperTyped c → Inv (on_upper c (mk region (some w) hd rs (some u) im) (some w))
+  upper-inv : (c : Upper) → UpperTyped c → Inv (on_upper c (mk region (Some w) hd rs (Some u) im) (Some w))
   unfolding on_upper upper_region upper_step upper_run
   upper-inv c p = upper_by c p (refusal_of region w c) refl
 
   upper-cut-by : (c : Upper) (i j : ℕ) → UpperTyped c → (x : Option Refusal) → Kept (cut_at (target w.beginning.active) i j (ran_ops region w (run_if x (run_of c))) region) hd rs im
-  upper-cut-by c i j p none = (ran (run_of c) region hd rs im w u (plain-run c p) k o).cut i j
-  upper-cut-by c i j p (some r) = (ran [] region hd rs im w u tt k o).cut i j
+  upper-cut-by c i j p None = (ran (run_of c) region hd rs im w u (plain-run c p) k o).cut i j
+  upper-cut-by c i j p (Some r) = (ran [] region hd rs im w u tt k o).cut i j
 
-  upper-cut-inv : (c : Upper) (i j : ℕ) → UpperTyped c → Inv (on_upper_cut c i j (mk region (some w) hd rs (some u) im) (some w))
+  upper-cut-inv : (c : Upper) (i j : ℕ) → UpperTyped c → Inv (on_upper_cut c i j (mk region (Some w) hd rs (Some u) im) (Some w))
   unfolding on_upper_cut upper_ops upper_run
   upper-cut-inv c i j p = record { kept = upper-cut-by c i j p (refusal_of region w c); open· = tt }
 
-inv-upper : (c : Upper) (region : List ℕ) (s : Option Writer) (hd : Loaded) (rs : List Source) (v : Option Update) (im : Image) → UpperTyped c → Inv (mk region s hd rs v im) → Inv (on_upper c (mk region s hd rs v im) s)
-inv-upper c region none hd rs v im p h = unfold on_upper in h
-inv-upper c region (some w) hd rs none im p h = absurd h.open·
-inv-upper c region (some w) hd rs (some u) im p h = upper-inv region hd rs im w u h.kept h.open· c p
+inv-upper : (c : Upper) (region : List ℕ) (s : Option Writer) (hd : Result (Option Bank) Refusal) (rs : List Source) (v : Option Update) (im : Image) → UpperTyped c → Inv (mk region s hd rs v im) → Inv (on_upper c (mk region s hd rs v im) s)
+inv-upper c region None hd rs v im p h = unfold on_upper in h
+inv-upper c region (Some w) hd rs None im p h = absurd h.open·
+inv-upper c region (Some w) hd rs (Some u) im p h = upper-inv region hd rs im w u h.kept h.open· c p
 
-inv-upper-cut : (c : Upper) (i j : ℕ) (region : List ℕ) (s : Option Writer) (hd : Loaded) (rs : List Source) (v : Option Update) (im : Image) → UpperTyped c → Inv (mk region s hd rs v im) → Inv (on_upper_cut c i j (mk region s hd rs v im) s)
-inv-upper-cut c i j region none hd rs v im p h = unfold on_upper_cut in h
-inv-upper-cut c i j region (some w) hd rs none im p h = absurd h.open·
-inv-upper-cut c i j region (some w) hd rs (some u) im p h = upper-cut-inv region hd rs im w u h.kept h.open· c i j p
+inv-upper-cut : (c : Upper) (i j : ℕ) (region : List ℕ) (s : Option Writer) (hd : Result (Option Bank) Refusal) (rs : List Source) (v : Option Update) (im : Image) → UpperTyped c → Inv (mk region s hd rs v im) → Inv (on_upper_cut c i j (mk region s hd rs v im) s)
+inv-upper-cut c i j region None hd rs v im p h = unfold on_upper_cut in h
+inv-upper-cut c i j region (Some w) hd rs None im p h = absurd h.open·
+inv-upper-cut c i j region (Some w) hd rs (Some u) im p h = upper-cut-inv region hd rs im w u h.kept h.open· c i j p
 
 -- ---- a beginning with a key
 
-pub done-by : (region : List ℕ) (hd : Loaded) → length region ≡ region_size → loaded region ≡ hd → answer_of hd ≡ Done
-done-by region (Found b) l e = refl
-done-by region Nothing l e = refl
-done-by region (NotRead r) l e = absurd (load_read region r l e)
+pub done-by : (region : List ℕ) (hd : Result (Option Bank) Refusal) → length region ≡ region_size → loaded region ≡ hd → answer_of hd ≡ Ok Done
+done-by region (Ok (Some b)) l e = refl
+done-by region (Ok None) l e = refl
+done-by region (Err r) l e = absurd (load_read region r l e)
 
 module _ (comparing : Bool) (now : ℤ) (identity texts lengths : List ℕ) (f : SFits w64 now) (bi : Bytes identity) (bt : Bytes texts) where
   key : List ℕ
@@ -236,14 +235,14 @@ module _ (comparing : Bool) (now : ℤ) (identity texts lengths : List ℕ) (f :
   unfolding key
   bytes-of-key = bytes-key identity texts lengths bi bt
 
-  module _ (region : List ℕ) (hd : Loaded) (rs : List Source) (im : Image) (k : Kept region hd rs im) where
+  module _ (region : List ℕ) (hd : Result (Option Bank) Refusal) (rs : List Source) (im : Image) (k : Kept region hd rs im) where
     first-open : Open region hd (started hd comparing now) (opened hd now)
     first-open = subst (Open region hd (started hd comparing now)) (with_appended-nil (opened hd now)) (begun-open region hd rs im comparing now f k (done-by region hd k.size k.loads))
 
     key-run : Ran (appends key) region hd rs im (started hd comparing now) (opened hd now)
     key-run = ran (appends key) region hd rs im (started hd comparing now) (opened hd now) (plain-appends key bytes-of-key) k first-open
 
-    key-update : begin_refusal region identity texts lengths ≡ none → ran_update region (started hd comparing now) (appends key) (opened hd now) ≡ with_appended key (opened hd now)
+    key-update : begin_refusal region identity texts lengths ≡ None → ran_update region (started hd comparing now) (appends key) (opened hd now) ≡ with_appended key (opened hd now)
     unfolding started is_due key
     key-update e = appends-update hd rs im key region (started hd comparing now) (opened hd now) (record { kept = k; open· = first-open }) refl refl (omega (arith, (key_fits region identity texts lengths e).1)) bytes-of-key
 
@@ -255,23 +254,23 @@ module _ (comparing : Bool) (now : ℤ) (identity texts lengths : List ℕ) (f :
           image = im;
         })
     unfolding after_begin
-    key-by s v o none e =
+    key-by s v o None e =
         record {
           kept = key-run.whole;
           open· = subst (Open (ran_region region (started hd comparing now) (appends key)) hd (ran_writer region (started hd comparing now) (appends key))) (key-update e) key-run.open·;
         }
-    key-by s v o (some r) e = unfold ran_region in (record { kept = k; open· = o })
+    key-by s v o (Some r) e = unfold ran_region in (record { kept = k; open· = o })
 
     key-cut-by : (i j : ℕ) (x : Option Refusal) → Kept (cut_at (target (started hd comparing now).beginning.active) i j (ran_ops region (started hd comparing now) (run_if x (appends key))) region) hd rs im
-    key-cut-by i j none = key-run.cut i j
-    key-cut-by i j (some r) = (ran [] region hd rs im (started hd comparing now) (opened hd now) tt k first-open).cut i j
+    key-cut-by i j None = key-run.cut i j
+    key-cut-by i j (Some r) = (ran [] region hd rs im (started hd comparing now) (opened hd now) tt k first-open).cut i j
 
-  inv-key : (region : List ℕ) (s : Option Writer) (hd : Loaded) (rs : List Source) (v : Option Update) (im : Image) → Inv (mk region s hd rs v im)
+  inv-key : (region : List ℕ) (s : Option Writer) (hd : Result (Option Bank) Refusal) (rs : List Source) (v : Option Update) (im : Image) → Inv (mk region s hd rs v im)
       → Inv (next (mk region s hd rs v im) (begin_key comparing now identity texts lengths))
   unfolding next begin_step begin_region begin_run key
   inv-key region s hd rs v im h = rw h.kept.loads (key-by region hd rs im h.kept s v h.open· (begin_refusal region identity texts lengths) refl)
 
-  inv-key-cut : (i j : ℕ) (region : List ℕ) (s : Option Writer) (hd : Loaded) (rs : List Source) (v : Option Update) (im : Image) → Inv (mk region s hd rs v im)
+  inv-key-cut : (i j : ℕ) (region : List ℕ) (s : Option Writer) (hd : Result (Option Bank) Refusal) (rs : List Source) (v : Option Update) (im : Image) → Inv (mk region s hd rs v im)
       → Inv (next (mk region s hd rs v im) (begin_key_cut comparing now identity texts lengths i j))
   unfolding next begin_ops begin_run key
   inv-key-cut i j region s hd rs v im h =
@@ -297,15 +296,15 @@ inv-all [] r p h = h
 inv-all (e ∷ es) r p h = inv-all es (next r e) p.1 (inv-next r e p.0 h)
 
 -- at the start
-small_by : (region : List ℕ) (hd : Loaded) → length region ≡ region_size → Bytes region → loaded region ≡ hd → Small hd
+small_by : (region : List ℕ) (hd : Result (Option Bank) Refusal) → length region ≡ region_size → Bytes region → loaded region ≡ hd → Small hd
 unfolding generation bank_of
-small_by region (Found b) l y e =
+small_by region (Ok (Some b)) l y e =
     let o = load-own region b l e in
     let n = b.number in
     subst (λ (x : ℕ). x < 2 ^ 32) (sym (valid-generation region n b l o.number o.valid))
     (word_lt (take bank_size (drop (n * bank_size) region)) 8 (bytes_take bank_size (drop (n * bank_size) region) (bytes_drop (n * bank_size) region y)))
-small_by region Nothing l y e = tt
-small_by region (NotRead r) l y e = tt
+small_by region (Ok None) l y e = tt
+small_by region (Err r) l y e = tt
 
 pub inv-found : (region : List ℕ) → length region ≡ region_size → Bytes region → Inv (found region)
 unfolding found

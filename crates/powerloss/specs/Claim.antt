@@ -4,13 +4,10 @@
 --   G's records are those that the history noted;
 --   G's 491,520 bytes are as found or as the commit word left them;
 --   and its data are the bytes that the update appended, in order.
-use Rattle.std.specs.Prelude.{◌≡◌, Bool, true, false, List, [], ◌∷◌, ◌++◌, map, ◌⊎◌, ℕ, ◌+◌, ◌≤◌, ◌<◌, leb, ℤ, length, take}
-use Rattle.std.proofs.Math.Option.{Option, none, some}
+use Rattle.std.specs.Prelude.{◌≡◌, Bool, true, false, List, [], ◌∷◌, ◌++◌, map, ◌⊎◌, ℕ, ◌+◌, ◌≤◌, ◌<◌, leb, ℤ, length, take, Ok, Err, Some, None, Result, Option}
 use Rattle.std.specs.Int.{w64}
 use Rattle.std.proofs.Common.{SFits}
 use Rattle.base.specs.Number.{pick}
-use Rattle.bank.specs.declared.Loaded.{Loaded}
-use Rattle.bank.specs.declared.Loaded.TheVariants.{Found, Nothing, Refused as NotRead}
 use Rattle.bank.specs.Bank.{loaded}
 use Rattle.region.specs.Region.{region_size, last_bank, data_of}
 use Rattle.record.specs.declared.Block.{Block}
@@ -19,10 +16,8 @@ use Rattle.header.specs.declared.Bank.{Bank}
 use Rattle.header.specs.Types.{Bytes, Proper}
 use Rattle.flash.specs.Flash.{Op, size, torn, applied, performed}
 use Rattle.writer.specs.declared.Writer.{Writer}
-use Rattle.writer.specs.declared.Answer.TheVariants.{Same, Different, Refused}
+use Rattle.writer.specs.declared.Answer.TheVariants.{Same, Different}
 use Rattle.writer.specs.State.{target, key_length, in_range, is_due}
-use Rattle.commit.specs.declared.Stamp.{Stamp}
-use Rattle.commit.specs.declared.Stamp.TheVariants.{Given, Missing}
 use Rattle.commit.specs.Commit.{routes_offset}
 use Rattle.commit.specs.Unchanged.{unchanged_step}
 use Rattle.refusal.specs.declared.Refusal.TheVariants.{Turn}
@@ -30,12 +25,13 @@ use Rattle.run.specs.Run.{Lower, source, table, bytes, end, close, due, unchange
 use Rattle.upper.specs.Upper.{Upper, source_with_dates, table_with_names, row, table_end, closing, upper_ops, begin_ops}
 use Rattle.powerloss.specs.History.{Update, records_of}
 use Rattle.powerloss.specs.Machine.{cut_at, done_at, Event, begin, begin_cut, call, cut, begin_key, begin_key_cut, upper, upper_cut, Run, bank_in, records_in, found, next, next_all}
+use Rattle.refusal.specs.declared.Refusal.{Refusal}
 
 -- What the types of the region and the arguments say: bytes are below 256, a record's fields have their widths, times have 64 bits.
 -- Nothing else is required.
-abbrev pub StampTyped : Stamp → Type 0
-StampTyped (Given t) = SFits w64 t
-StampTyped Missing = Unit {0}
+abbrev pub StampTyped : Option ℤ → Type 0
+StampTyped (Some t) = SFits w64 t
+StampTyped None = Unit {0}
 
 abbrev pub LowerTyped : Lower → Type 0
 LowerTyped (source s) = Proper s
@@ -71,8 +67,8 @@ AllTyped (e ∷ es) = Typed e × AllTyped es
 
 -- the bank's data are these bytes, where any are given
 abbrev pub Holds : List ℕ → Option (List ℕ) → Type 0
-Holds bank none = Unit {0}
-Holds bank (some xs) = data_of bank (length xs) ≡ xs
+Holds bank None = Unit {0}
+Holds bank (Some xs) = data_of bank (length xs) ≡ xs
 
 -- what holds of the board and the history
 pub record Survives (r : Run) : Type 0 where
@@ -89,15 +85,15 @@ Demand3 = (region : List ℕ) (events : List Event) → length region ≡ region
 -- (proofs/States.antt: reached)
 abbrev pub Reached : Type 0
 Reached =
-    (region : List ℕ) (events : List Event) → length region ≡ region_size → Bytes region → AllTyped events → (w : Writer) → (next_all (found region) events).state ≡ some w → in_range w ≡ true
+    (region : List ℕ) (events : List Event) → length region ≡ region_size → Bytes region → AllTyped events → (w : Writer) → (next_all (found region) events).state ≡ Some w → in_range w ≡ true
 
 -- The list has E5's cuts: of a call whose operations are `before`, then `op`, then `rest`, those before may be done whole, of op the first
 -- j bytes, whatever j is, and the rest not at all. This holds of every call of both layers and of the beginning with a key. If j is
 -- op's size or more, op is whole and nothing else is done; it counts as done once all its bytes are. (proofs/Cuts.antt: torn-calls)
 pub record Torn : Type 0 where
-  pub lower : (r : Run) (w : Writer) (c : Lower) (before rest : List Op) (op : Op) (j : ℕ) → r.state ≡ some w → lower_ops r.region w c ≡ before ++ (op ∷ rest)
+  pub lower : (r : Run) (w : Writer) (c : Lower) (before rest : List Op) (op : Op) (j : ℕ) → r.state ≡ Some w → lower_ops r.region w c ≡ before ++ (op ∷ rest)
       → (next r (cut c (length before) j)).region ≡ torn (target w.beginning.active) j op (performed (target w.beginning.active) before r.region)
-  pub upper : (r : Run) (w : Writer) (c : Upper) (before rest : List Op) (op : Op) (j : ℕ) → r.state ≡ some w → upper_ops r.region w c ≡ before ++ (op ∷ rest)
+  pub upper : (r : Run) (w : Writer) (c : Upper) (before rest : List Op) (op : Op) (j : ℕ) → r.state ≡ Some w → upper_ops r.region w c ≡ before ++ (op ∷ rest)
       → (next r (upper_cut c (length before) j)).region ≡ torn (target w.beginning.active) j op (performed (target w.beginning.active) before r.region)
   pub beginning : (r : Run) (comparing : Bool) (now : ℤ) (identity texts lengths : List ℕ) (before rest : List Op) (op : Op) (j : ℕ)
       → begin_ops r.region comparing now identity texts lengths ≡ before ++ (op ∷ rest)
@@ -114,8 +110,8 @@ pub record EveryTyped : Type 0 where
   pub table· : (t : ℕ) → Typed (call (table t)) × Typed (upper (table_with_names t))
   pub bytes· : (xs : List ℕ) → Bytes xs → Typed (call (bytes xs))
   pub row· : (texts lengths : List ℕ) → Bytes texts → Typed (upper (row texts lengths))
-  pub stamped : (stamp : ℤ) (current : Bool) → SFits w64 stamp → Typed (call (commit (Given stamp) current))
-  pub unstamped : (current : Bool) → Typed (call (commit Missing current))
+  pub stamped : (stamp : ℤ) (current : Bool) → SFits w64 stamp → Typed (call (commit (Some stamp) current))
+  pub unstamped : (current : Bool) → Typed (call (commit None current))
   pub lower : Typed (call end) × Typed (call close) × Typed (call due) × Typed (call unchanged) × Typed (call word)
   pub upper· : Typed (upper table_end) × Typed (upper closing)
   pub none· : AllTyped []
@@ -129,11 +125,11 @@ pub record CutTyped : Type 0 where
 
 -- "A cut drops the update": no state and no open update are left (proofs/Cuts.antt: dropped).
 abbrev pub NoneOpen : Run → Type 0
-NoneOpen r = (r.state ≡ none) × (r.history.open· ≡ none)
+NoneOpen r = (r.state ≡ None) × (r.history.open· ≡ None)
 
 pub record Dropped : Type 0 where
-  pub lower : (r : Run) (w : Writer) (c : Lower) (k j : ℕ) → r.state ≡ some w → NoneOpen (next r (cut c k j))
-  pub upper : (r : Run) (w : Writer) (c : Upper) (k j : ℕ) → r.state ≡ some w → NoneOpen (next r (upper_cut c k j))
+  pub lower : (r : Run) (w : Writer) (c : Lower) (k j : ℕ) → r.state ≡ Some w → NoneOpen (next r (cut c k j))
+  pub upper : (r : Run) (w : Writer) (c : Upper) (k j : ℕ) → r.state ≡ Some w → NoneOpen (next r (upper_cut c k j))
   pub lower_beginning : (r : Run) (comparing : Bool) (now : ℤ) → NoneOpen (next r (begin_cut comparing now))
   pub beginning : (r : Run) (comparing : Bool) (now : ℤ) (identity texts lengths : List ℕ) (k j : ℕ) → NoneOpen (next r (begin_key_cut comparing now identity texts lengths k j))
 
@@ -162,11 +158,11 @@ pub record Equals (u : Update) (b : Bank) (bank : List ℕ) (records : List Sour
   pub records· : map dates_and_blocks (records_of u) ≡ map dates_and_blocks records
 
 -- an update is open, there is an active bank, and they are equal
-abbrev pub EqualsActive : Option Update → Loaded → List ℕ → List Source → Type 0
-EqualsActive (some u) (Found b) bank records = Equals u b bank records
-EqualsActive (some u) Nothing bank records = ⊥
-EqualsActive (some u) (NotRead r) bank records = ⊥
-EqualsActive none held bank records = ⊥
+abbrev pub EqualsActive : Option Update → Result (Option Bank) Refusal → List ℕ → List Source → Type 0
+EqualsActive (Some u) (Ok (Some b)) bank records = Equals u b bank records
+EqualsActive (Some u) (Ok None) bank records = ⊥
+EqualsActive (Some u) (Err r) bank records = ⊥
+EqualsActive None held bank records = ⊥
 
 abbrev pub IsEqual : Run → Type 0
 IsEqual r = EqualsActive r.history.open· r.history.held r.image.bank r.history.records
@@ -174,17 +170,17 @@ IsEqual r = EqualsActive r.history.open· r.history.held r.image.bank r.history.
 -- It "meets 11 in writing mode, before closing, or while a call is due"; otherwise it answers yes or no; yes only if they are equal, and no
 -- only if they aren't (proofs/Unchanged.antt: exactly).
 pub record UnchangedAt (r : Run) (w : Writer) : Type 0 where
-  pub writing : w.beginning.comparing ≡ false → (unchanged_step r.region w).answer ≡ Refused Turn
-  pub before : w.contents.closed ≡ false → (unchanged_step r.region w).answer ≡ Refused Turn
-  pub while_due : is_due w.contents ≡ true → (unchanged_step r.region w).answer ≡ Refused Turn
+  pub writing : w.beginning.comparing ≡ false → (unchanged_step r.region w).answer ≡ Err Turn
+  pub before : w.contents.closed ≡ false → (unchanged_step r.region w).answer ≡ Err Turn
+  pub while_due : is_due w.contents ≡ true → (unchanged_step r.region w).answer ≡ Err Turn
   pub asked : w.beginning.comparing ≡ true → w.contents.closed ≡ true → is_due w.contents ≡ false
-      → ((unchanged_step r.region w).answer ≡ Same) ⊎ ((unchanged_step r.region w).answer ≡ Different)
-  pub yes : (unchanged_step r.region w).answer ≡ Same → IsEqual r
-  pub no : (unchanged_step r.region w).answer ≡ Different → IsEqual r → ⊥
+      → ((unchanged_step r.region w).answer ≡ Ok Same) ⊎ ((unchanged_step r.region w).answer ≡ Ok Different)
+  pub yes : (unchanged_step r.region w).answer ≡ Ok Same → IsEqual r
+  pub no : (unchanged_step r.region w).answer ≡ Ok Different → IsEqual r → ⊥
 
 abbrev pub Unchanged : Type 0
 Unchanged =
-    (region : List ℕ) (events : List Event) → length region ≡ region_size → Bytes region → AllTyped events → (w : Writer) → (next_all (found region) events).state ≡ some w
+    (region : List ℕ) (events : List Event) → length region ≡ region_size → Bytes region → AllTyped events → (w : Writer) → (next_all (found region) events).state ≡ Some w
     → UnchangedAt (next_all (found region) events) w
 
 -- all of them: what `demand3_holds` promises

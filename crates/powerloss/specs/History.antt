@@ -1,21 +1,19 @@
 -- "The book of demand 3": a history of the calls, made of their arguments, their answers and how many operations each cut call did. It
 -- reads no writer's state and no flash.
-use Rattle.std.specs.Prelude.{Bool, true, false, List, [], ◌∷◌, ◌++◌, ℕ, zero, suc, ◌-◌, ℤ, length, take, drop, set, get_or}
-use Rattle.std.proofs.Math.Option.{Option, none, some}
+use Rattle.std.specs.Prelude.{Bool, true, false, List, [], ◌∷◌, ◌++◌, ℕ, zero, suc, ◌-◌, ℤ, length, take, drop, set, get_or, Ok, Err, Some, Result, None, Option}
 use Rattle.leaf.specs.Crc.{crc32}
 use Rattle.record.specs.declared.Block.{Block}
 use Rattle.record.specs.declared.Source.{Source}
 use Rattle.header.specs.declared.Bank.{Bank}
-use Rattle.bank.specs.declared.Loaded.{Loaded}
-use Rattle.bank.specs.declared.Loaded.TheVariants.{Found}
-use Rattle.writer.specs.declared.Answer.{Answer}
-use Rattle.writer.specs.declared.Answer.TheVariants.{Done, Appended, NoneDue, Same, Different, Refused}
+use Rattle.writer.specs.declared.Answer.TheVariants.{Done, Appended, NoneDue, Same, Different}
 use Rattle.writer.specs.State.{target, next_generation, key_length}
 use Rattle.lower.specs.Lower.{emptied, past_end, with_block}
 use Rattle.commit.specs.Commit.{checked_time, routes_offset}
 use Rattle.run.specs.Run.{Lower, source, table, bytes, end, close, due, unchanged, commit, word}
 use Rattle.upper.specs.Upper.{Upper, source_with_dates, table_with_names, row, table_end, closing, appended_bytes}
 use Rattle.record.specs.Record.{current_version}
+use Rattle.refusal.specs.declared.Refusal.{Refusal}
+use Rattle.writer.specs.declared.Answer.{Answer}
 
 -- "Source, table and table end calls note their arguments and the count of bytes before any of their own."
 pub data Note : Type 0 where
@@ -34,7 +32,7 @@ pub record Update : Type 0 where
 
 -- G, with its records up to the count, and the open update, if any
 pub record History : Type 0 where
-  pub held : Loaded
+  pub held : Result (Option Bank) Refusal
   pub records : List Source
   pub open· : Option Update
 
@@ -57,7 +55,7 @@ abbrev pub records_of : Update → List Source
 records_of u = records_after u.data· [] 0 0 u.notes
 
 -- "Beginning opens one without bytes: the bank that isn't G's, G's generation plus one, wrapping; 0 and 0 if G is none."
-unfoldable pub opened : Loaded → ℤ → Update
+unfoldable pub opened : Result (Option Bank) Refusal → ℤ → Update
 opened held now = record { number = target held; generation = next_generation held; now = now; data· = []; notes = []; checked = now }
 
 -- "G is this update's bank, with its number, generation, checked time, key length, source count, records up to that count, length and
@@ -109,13 +107,13 @@ appended_some (commit stamp current) n u = u
 appended_some word n u = u
 
 -- "Refused calls .. change nothing."
-unfoldable pub update_after : Lower → Answer → Update → Update
-update_after c Done u = noted c u
-update_after c (Appended n) u = appended_some c n u
-update_after c NoneDue u = u
-update_after c Same u = u
-update_after c Different u = u
-update_after c (Refused r) u = u
+unfoldable pub update_after : Lower → Result Answer Refusal → Update → Update
+update_after c (Ok Done) u = noted c u
+update_after c (Ok (Appended n)) u = appended_some c n u
+update_after c (Ok NoneDue) u = u
+update_after c (Ok Same) u = u
+update_after c (Ok Different) u = u
+update_after c (Err r) u = u
 
 -- "Second, answered without refusal or cut with its write done: the commit word is written and G is this update's bank."
 abbrev pub is_word : Lower → Bool
@@ -129,13 +127,13 @@ is_word due = false
 is_word unchanged = false
 is_word (commit stamp current) = false
 
-abbrev pub is_done : Answer → Bool
-is_done Done = true
-is_done (Appended n) = false
-is_done NoneDue = false
-is_done Same = false
-is_done Different = false
-is_done (Refused r) = false
+abbrev pub is_done : Result Answer Refusal → Bool
+is_done (Ok Done) = true
+is_done (Ok (Appended n)) = false
+is_done (Ok NoneDue) = false
+is_done (Ok Same) = false
+is_done (Ok Different) = false
+is_done (Err r) = false
 
 -- whether a cut call did an operation whole, by how many it did
 abbrev pub any_done : ℕ → Bool
@@ -143,7 +141,7 @@ any_done zero = false
 any_done (suc did) = true
 
 unfoldable pub committed : Bool → Bool → Update → History → History
-committed true true u h = record { held = Found (bank_of u); records = records_of u; open· = h.open· }
+committed true true u h = record { held = Ok (Some (bank_of u)); records = records_of u; open· = h.open· }
 committed true false u h = h
 committed false b u h = h
 
@@ -151,13 +149,13 @@ abbrev pub with_open : Option Update → History → History
 with_open v h = record { held = h.held; records = h.records; open· = v }
 
 -- a lower call, answered, or cut after it did some operations (`did` is their number; not the cut's k): "A cut drops the update."
-unfoldable pub after_lower : Lower → Answer → History → Option Update → History
-after_lower c a h none = h
-after_lower c a h (some u) = with_open (some (update_after c a u)) (committed (is_word c) (is_done a) u h)
+unfoldable pub after_lower : Lower → Result Answer Refusal → History → Option Update → History
+after_lower c a h None = h
+after_lower c a h (Some u) = with_open (Some (update_after c a u)) (committed (is_word c) (is_done a) u h)
 
 unfoldable pub after_lower_cut : Lower → ℕ → History → Option Update → History
-after_lower_cut c did h none = with_open none h
-after_lower_cut c did h (some u) = with_open none (committed (is_word c) (any_done did) u h)
+after_lower_cut c did h None = with_open None h
+after_lower_cut c did h (Some u) = with_open None (committed (is_word c) (any_done did) u h)
 
 -- "Upper calls take all of theirs: key, dates, names line, row."
 abbrev pub upper_noted : Upper → Update → Update
@@ -167,23 +165,23 @@ upper_noted (row texts lengths) u = u
 upper_noted table_end u = notes_of (end_note (length u.data·)) u
 upper_noted closing u = u
 
-unfoldable pub upper_after : Upper → Answer → Update → Update
-upper_after c Done u = with_appended (appended_bytes c) (upper_noted c u)
-upper_after c (Appended n) u = u
-upper_after c NoneDue u = u
-upper_after c Same u = u
-upper_after c Different u = u
-upper_after c (Refused r) u = u
+unfoldable pub upper_after : Upper → Result Answer Refusal → Update → Update
+upper_after c (Ok Done) u = with_appended (appended_bytes c) (upper_noted c u)
+upper_after c (Ok (Appended n)) u = u
+upper_after c (Ok NoneDue) u = u
+upper_after c (Ok Same) u = u
+upper_after c (Ok Different) u = u
+upper_after c (Err r) u = u
 
-unfoldable pub after_upper : Upper → Answer → History → Option Update → History
-after_upper c a h none = h
-after_upper c a h (some u) = with_open (some (upper_after c a u)) h
+unfoldable pub after_upper : Upper → Result Answer Refusal → History → Option Update → History
+after_upper c a h None = h
+after_upper c a h (Some u) = with_open (Some (upper_after c a u)) h
 
 -- an answered beginning opens an update; a refused one leaves what is open
-unfoldable pub after_begin : ℤ → List ℕ → Answer → History → History
-after_begin now key Done h = with_open (some (with_appended key (opened h.held now))) h
-after_begin now key (Appended n) h = h
-after_begin now key NoneDue h = h
-after_begin now key Same h = h
-after_begin now key Different h = h
-after_begin now key (Refused r) h = h
+unfoldable pub after_begin : ℤ → List ℕ → Result Answer Refusal → History → History
+after_begin now key (Ok Done) h = with_open (Some (with_appended key (opened h.held now))) h
+after_begin now key (Ok (Appended n)) h = h
+after_begin now key (Ok NoneDue) h = h
+after_begin now key (Ok Same) h = h
+after_begin now key (Ok Different) h = h
+after_begin now key (Err r) h = h

@@ -1,7 +1,7 @@
 -- Worked instances of DEMAND 3, on every region of 983,040 bytes, whatever load finds there: a small update, all its calls answered; the
 -- same list with its last call, the commit word's, cut before its write, inside it and after it; one that is cut inside its first
 -- operation; and two updates, the second cut.
-use Rattle.std.specs.Prelude.{◌≡◌, true, false, List, [], ◌∷◌, ◌++◌, map, ℕ, ◌*◌, pos, length, drop}
+use Rattle.std.specs.Prelude.{◌≡◌, true, false, List, [], ◌∷◌, ◌++◌, map, ℕ, ◌*◌, pos, length, drop, Ok, Some, None, Result, Option}
 use Rattle.leaf.specs.Crc.{crc32}
 use Rattle.record.specs.declared.Source.{Source}
 use Rattle.record.specs.Record.{no_block, table_words, stamp_size, id_size, validator_size, current_version}
@@ -10,17 +10,15 @@ use Rattle.header.specs.declared.Bank.{Bank}
 use Rattle.region.specs.Region.{region_size, bank_of, data_of, sector_size, erased_byte}
 use Rattle.header.specs.WriteHeader.{header_bytes, commit_bytes}
 use Rattle.header.specs.Types.{Bytes}
-use Rattle.bank.specs.declared.Loaded.{Loaded}
-use Rattle.bank.specs.declared.Loaded.TheVariants.{Found, Nothing}
 use Rattle.bank.specs.Bank.{loaded}
 use Rattle.flash.specs.Flash.{erase, write, torn, with_bank}
 use Rattle.writer.specs.State.{target, next_generation}
 use Rattle.lower.specs.Lower.{begun, emptied, with_block}
-use Rattle.commit.specs.declared.Stamp.TheVariants.{Missing}
 use Rattle.run.specs.Run.{Lower, source, table, bytes, end, close, due, commit, word, ran_ops}
 use Rattle.powerloss.specs.Machine.{Event, begin, call, cut, found, next_all}
 use Rattle.header.specs.Header.{commit_offset}
 use Rattle.base.specs.Table.{max_tables}
+use Rattle.refusal.specs.declared.Refusal.{Refusal}
 
 -- the key: one byte
 abbrev pub key : List ℕ
@@ -68,7 +66,7 @@ calls_to_closing =
 
 -- the calls before the commit word's
 abbrev pub calls_before : List Lower
-calls_before = calls_to_closing ++ (due ∷ due ∷ due ∷ commit Missing true ∷ [])
+calls_before = calls_to_closing ++ (due ∷ due ∷ due ∷ commit None true ∷ [])
 
 -- the list: a beginning in writing mode at time 0, those calls, and a last event
 unfoldable pub update_with : Event → List Event
@@ -76,7 +74,7 @@ update_with last = begin false (pos 0) ∷ (map call calls_before ++ (last ∷ [
 
 -- the bank of that update, over what load found: the bank that isn't the found one's, the generation after it (0 and 0 if none was found),
 -- twelve data bytes and their CRC, one source, a key of one byte, checked at 0
-abbrev pub updated : Loaded → Bank
+abbrev pub updated : Result (Option Bank) Refusal → Bank
 updated l =
     record {
       number = target l;
@@ -90,14 +88,14 @@ updated l =
     }
 
 -- what load gives afterwards: the update's bank, or what was there before
-abbrev pub the_new : Loaded → Loaded
-the_new l = Found (updated l)
+abbrev pub the_new : Result (Option Bank) Refusal → Result (Option Bank) Refusal
+the_new l = Ok (Some (updated l))
 
-abbrev pub the_old : Loaded → Loaded
+abbrev pub the_old : Result (Option Bank) Refusal → Result (Option Bank) Refusal
 the_old l = l
 
 -- after the list with this last event, G is `held` of what load found at first
-abbrev pub Gives : Event → (Loaded → Loaded) → Type 0
+abbrev pub Gives : Event → ((Result (Option Bank) Refusal) → Result (Option Bank) Refusal) → Type 0
 Gives last held = (region : List ℕ) → length region ≡ region_size → (next_all (found region) (update_with last)).history.held ≡ held (loaded region)
 
 -- the whole update commits
@@ -140,7 +138,7 @@ CutInTheErase =
     × ((next_all (found region) erase_cut).history.held ≡ loaded region)
 
 -- load answers G, by DEMAND 3
-abbrev pub Loads : Event → (Loaded → Loaded) → Type 0
+abbrev pub Loads : Event → ((Result (Option Bank) Refusal) → Result (Option Bank) Refusal) → Type 0
 Loads last held = (region : List ℕ) → length region ≡ region_size → Bytes region → loaded (next_all (found region) (update_with last)).region ≡ held (loaded region)
 
 abbrev pub WholeUpdateLoads : Type 0
@@ -174,7 +172,7 @@ CutAtTheWordsEndData = Data (cut word 0 4)
 
 -- E5: "A user at the stop must still get the last committed timetable, also when the cut falls in the header erase or after one, two or
 -- three bytes of the commit word." After the whole update and then other events, load gives the first update's bank, or the second's.
-abbrev pub AfterOne : List Event → (Loaded → Loaded) → Type 0
+abbrev pub AfterOne : List Event → ((Result (Option Bank) Refusal) → Result (Option Bank) Refusal) → Type 0
 AfterOne events held =
     (region : List ℕ) → length region ≡ region_size → Bytes region → loaded (next_all (found region) (update_with (call word) ++ events)).region ≡ held (the_new (loaded region))
 
@@ -204,20 +202,20 @@ FiveOperations =
 
 -- Load finds no bank on an erased region.
 abbrev pub ErasedHasNone : Type 0
-ErasedHasNone = loaded (fill erased_byte region_size) ≡ Nothing
+ErasedHasNone = loaded (fill erased_byte region_size) ≡ Ok None
 
 -- On it load gives bank 0 of generation 0 after the whole update; none after a cut before the commit word or after three of its bytes; the
 -- bank with all four bytes written, whether the cut counts as inside that write (k = 0, j = 4) or as after it (k = 1, j = 0).
-abbrev pub on_erased : Event → Loaded
+abbrev pub on_erased : Event → Result (Option Bank) Refusal
 on_erased last = loaded (next_all (found (fill erased_byte region_size)) (update_with last)).region
 
 abbrev pub ErasedUpdate : Type 0
 ErasedUpdate =
-    (on_erased (call word) ≡ Found (updated Nothing))
-    × (on_erased (cut word 0 0) ≡ Nothing)
-    × (on_erased (cut word 0 3) ≡ Nothing)
-    × (on_erased (cut word 0 4) ≡ Found (updated Nothing))
-    × (on_erased (cut word 1 0) ≡ Found (updated Nothing))
+    (on_erased (call word) ≡ Ok (Some (updated (Ok None))))
+    × (on_erased (cut word 0 0) ≡ Ok None)
+    × (on_erased (cut word 0 3) ≡ Ok None)
+    × (on_erased (cut word 0 4) ≡ Ok (Some (updated (Ok None))))
+    × (on_erased (cut word 1 0) ≡ Ok (Some (updated (Ok None))))
 
 -- all of them: what `instances_hold` promises
 pub record Instances : Type 0 where

@@ -1,15 +1,13 @@
 -- When an operation is due, and how many an update makes, on every state that a list of events of both layers reaches, refused calls and
 -- cuts included (specs/Machine.antt: `next_all`).
-use Rattle.std.specs.Prelude.{◌≡◌, true, false, List, [], ◌∷◌, ◌++◌, ℕ, ◌+◌, ◌/◌, ◌≤◌, ◌-◌, ℤ, length}
-use Rattle.std.proofs.Math.Option.{Option, none, some}
+use Rattle.std.specs.Prelude.{◌≡◌, true, false, List, [], ◌∷◌, ◌++◌, ℕ, ◌+◌, ◌/◌, ◌≤◌, ◌-◌, ℤ, length, Ok, Err, Result, Some, None, Option}
 use Rattle.std.specs.Int.{w64}
 use Rattle.std.proofs.Common.{SFits}
 use Rattle.region.specs.Region.{region_size, capacity, sector_size}
 use Rattle.header.specs.Types.{Bytes}
 use Rattle.flash.specs.Flash.{Op}
 use Rattle.writer.specs.declared.Stage.TheVariants.{Committed}
-use Rattle.writer.specs.declared.Answer.{Answer}
-use Rattle.writer.specs.declared.Answer.TheVariants.{Done, Appended, NoneDue, Same, Different, Refused}
+use Rattle.writer.specs.declared.Answer.TheVariants.{Done, Appended, NoneDue, Same, Different}
 use Rattle.writer.specs.declared.Writer.{Writer}
 use Rattle.writer.specs.State.{tail_size, position}
 use Rattle.lower.specs.Lower.{begun}
@@ -19,13 +17,15 @@ use Rattle.powerloss.specs.History.{Update}
 use Rattle.powerloss.specs.Machine.{Event, begin, begin_cut, call, cut, begin_key, begin_key_cut, upper, upper_cut, Run, found, next, next_all}
 use Rattle.powerloss.specs.Claim.{LowerTyped, AllTyped}
 use Rattle.powerloss.specs.Ranges.{Exactly}
+use Rattle.refusal.specs.declared.Refusal.{Refusal}
+use Rattle.writer.specs.declared.Answer.{Answer}
 
 -- ---- what is due
 
 -- of reached states (proofs/Exactly.antt: reached-exactly)
 abbrev pub DueExactly : Type 0
 DueExactly =
-    (region : List ℕ) (events : List Event) → length region ≡ region_size → Bytes region → AllTyped events → (w : Writer) → (next_all (found region) events).state ≡ some w
+    (region : List ℕ) (events : List Event) → length region ≡ region_size → Bytes region → AllTyped events → (w : Writer) → (next_all (found region) events).state ≡ Some w
     → Exactly (next_all (found region) events).region w
 
 -- ---- how many operations
@@ -46,21 +46,21 @@ abbrev pub operations_of : ℕ → ℕ
 operations_of n = 1 + sectors n + writes n + commit_writes
 
 -- the operations of the update since its beginning; a cut drops the update
-abbrev pub started_by : Answer → List Op → List Op → List Op
-started_by Done first old = first
-started_by (Appended n) first old = old
-started_by NoneDue first old = old
-started_by Same first old = old
-started_by Different first old = old
-started_by (Refused r) first old = old
+abbrev pub started_by : Result Answer Refusal → List Op → List Op → List Op
+started_by (Ok Done) first old = first
+started_by (Ok (Appended n)) first old = old
+started_by (Ok NoneDue) first old = old
+started_by (Ok Same) first old = old
+started_by (Ok Different) first old = old
+started_by (Err r) first old = old
 
 abbrev pub call_ops : List ℕ → Option Writer → Lower → List Op
-call_ops region none c = []
-call_ops region (some w) c = lower_ops region w c
+call_ops region None c = []
+call_ops region (Some w) c = lower_ops region w c
 
 abbrev pub upper_call_ops : List ℕ → Option Writer → Upper → List Op
-upper_call_ops region none c = []
-upper_call_ops region (some w) c = upper_ops region w c
+upper_call_ops region None c = []
+upper_call_ops region (Some w) c = upper_ops region w c
 
 unfoldable pub since : Run → Event → List Op → List Op
 since r (begin comparing now) ops = started_by (begun r.region comparing now).answer [] ops
@@ -86,14 +86,14 @@ pub record Counted (n ops : ℕ) : Type 0 where
 abbrev pub CommittedOperations : Type 0
 CommittedOperations =
     (region : List ℕ) (events : List Event) → length region ≡ region_size → Bytes region → AllTyped events → (w : Writer) (u : Update)
-    → (next_all (found region) events).state ≡ some w → (next_all (found region) events).history.open· ≡ some u → w.stage ≡ Committed
+    → (next_all (found region) events).state ≡ Some w → (next_all (found region) events).history.open· ≡ Some u → w.stage ≡ Committed
     → Counted (length u.data·) (length (ops_after (found region) [] events))
 
 -- "Comparing mode writes nothing"
 abbrev pub ComparingOperations : Type 0
 ComparingOperations =
     (region : List ℕ) (events : List Event) → length region ≡ region_size → Bytes region → AllTyped events → (w : Writer)
-    → (next_all (found region) events).state ≡ some w → w.beginning.comparing ≡ true → length (ops_after (found region) [] events) ≡ 0
+    → (next_all (found region) events).state ≡ Some w → w.beginning.comparing ≡ true → length (ops_after (found region) [] events) ≡ 0
 
 -- the same of a list of lower calls after a beginning in writing mode
 abbrev pub AllLower : List Lower → Type 0

@@ -1,8 +1,7 @@
 -- Worked instances of DEMAND 3 by upper calls, on every region of 983,040 bytes, whatever load finds there: an update of 53 data bytes,
 -- which is no multiple of 4, with a stamp after now and one before; cut beginnings; a cut closing; and comparing mode, with the same row
 -- and with another.
-use Rattle.std.specs.Prelude.{◌≡◌, Bool, true, false, List, [], ◌∷◌, ◌++◌, ℕ, ℤ, pos, length}
-use Rattle.std.proofs.Math.Option.{Option, none, some}
+use Rattle.std.specs.Prelude.{◌≡◌, Bool, true, false, List, [], ◌∷◌, ◌++◌, ℕ, ℤ, pos, length, Ok, Some, Result, None, Option}
 use Rattle.leaf.specs.Crc.{crc32}
 use Rattle.base.specs.Lists.{fill}
 use Rattle.row.specs.Columns.{route_id, route_short_name, route_type}
@@ -13,21 +12,19 @@ use Rattle.header.specs.declared.Bank.{Bank}
 use Rattle.header.specs.Header.{commit_offset, records_of}
 use Rattle.header.specs.WriteHeader.{header_bytes}
 use Rattle.header.specs.Types.{Bytes}
-use Rattle.bank.specs.declared.Loaded.{Loaded}
-use Rattle.bank.specs.declared.Loaded.TheVariants.{Found}
 use Rattle.bank.specs.Bank.{loaded}
 use Rattle.flash.specs.Flash.{Op, erase, write, torn, applied}
-use Rattle.writer.specs.declared.Answer.{Answer}
 use Rattle.writer.specs.declared.Answer.TheVariants.{Same, Different}
 use Rattle.writer.specs.declared.Writer.{Writer}
 use Rattle.writer.specs.State.{target, next_generation}
 use Rattle.lower.specs.Lower.{emptied, with_block}
-use Rattle.commit.specs.declared.Stamp.TheVariants.{Given}
 use Rattle.run.specs.Run.{Lower, unchanged, commit, word, lower_step}
 use Rattle.upper.specs.Upper.{source_with_dates, table_with_names, row, table_end, closing}
 use Rattle.powerloss.specs.Machine.{Event, call, begin_key, begin_key_cut, upper, upper_cut, Run, found, next_all}
 use Rattle.powerloss.specs.Operations.{ops_after}
 use Rattle.powerloss.specs.Instances.{dates, the_source, the_old}
+use Rattle.refusal.specs.declared.Refusal.{Refusal}
+use Rattle.writer.specs.declared.Answer.{Answer}
 
 -- the key without identity and picks: one byte, how many picks
 abbrev pub key : List ℕ
@@ -77,13 +74,13 @@ to_table_end comparing values =
 
 -- the whole update, committed with a stamp
 unfoldable pub update_at : ℤ → List Event
-update_at stamp = to_table_end false texts ++ (upper closing ∷ call (commit (Given stamp) true) ∷ call word ∷ [])
+update_at stamp = to_table_end false texts ++ (upper closing ∷ call (commit (Some stamp) true) ∷ call word ∷ [])
 
 -- ---- the whole update
 
 -- its bank, over what load found: the bank that isn't the found one's, the generation after it (0 and 0 if none was found), 53 data bytes
 -- and their CRC, one source, a key of one byte, checked at this time
-abbrev pub updated : ℤ → Loaded → Bank
+abbrev pub updated : ℤ → Result (Option Bank) Refusal → Bank
 updated checked l =
     record {
       number = target l;
@@ -103,8 +100,8 @@ written = with_block (emptied the_source) 0 (record { offset = 9; length = 44; c
 -- After the update with this stamp, G and load's answer are the update's bank, checked at this time, and that bank has its record and its
 -- data.
 pub record Gives (stamp checked : ℤ) : Type 0 where
-  pub held : (region : List ℕ) → length region ≡ region_size → (next_all (found region) (update_at stamp)).history.held ≡ Found (updated checked (loaded region))
-  pub loads : (region : List ℕ) → length region ≡ region_size → Bytes region → loaded (next_all (found region) (update_at stamp)).region ≡ Found (updated checked (loaded region))
+  pub held : (region : List ℕ) → length region ≡ region_size → (next_all (found region) (update_at stamp)).history.held ≡ Ok (Some (updated checked (loaded region)))
+  pub loads : (region : List ℕ) → length region ≡ region_size → Bytes region → loaded (next_all (found region) (update_at stamp)).region ≡ Ok (Some (updated checked (loaded region)))
   pub records : (region : List ℕ) → length region ≡ region_size → Bytes region
       → records_of current_version (bank_of (next_all (found region) (update_at stamp)).region (target (loaded region))) 1 ≡ written ∷ []
   pub bytes· : (region : List ℕ) → length region ≡ region_size → Bytes region → data_of (bank_of (next_all (found region) (update_at stamp)).region (target (loaded region))) 53 ≡ data·
@@ -131,12 +128,12 @@ FiveOperations =
 -- ---- cuts
 
 -- the update's bank, over what load found; `the_old` is what load found
-abbrev pub the_new : Loaded → Loaded
-the_new l = Found (updated later l)
+abbrev pub the_new : Result (Option Bank) Refusal → Result (Option Bank) Refusal
+the_new l = Ok (Some (updated later l))
 
 -- After these events G and load's answer are `held` of what load found at first. After the whole update and then these, load's answer is
 -- `held` of the update's bank.
-pub record After (events : List Event) (held : Loaded → Loaded) : Type 0 where
+pub record After (events : List Event) (held : Result (Option Bank) Refusal → Result (Option Bank) Refusal) : Type 0 where
   pub held· : (region : List ℕ) → length region ≡ region_size → (next_all (found region) events).history.held ≡ held (loaded region)
   pub loads : (region : List ℕ) → length region ≡ region_size → Bytes region → loaded (next_all (found region) events).region ≡ held (loaded region)
   pub after_one : (region : List ℕ) → length region ≡ region_size → Bytes region → loaded (next_all (found region) (update_at later ++ events)).region ≡ held (the_new (loaded region))
@@ -176,24 +173,24 @@ CutClosing = After closing_cut the_old × Leaves closing_cut (λ n region. torn 
 -- ---- comparing mode
 
 -- the answer of a lower call on the state that is reached, if there is one
-abbrev pub answer_on : List ℕ → Option Writer → Lower → Option Answer
-answer_on region none c = none
-answer_on region (some w) c = some (lower_step region w c).answer
+abbrev pub answer_on : List ℕ → Option Writer → Lower → Option (Result Answer Refusal)
+answer_on region None c = None
+answer_on region (Some w) c = Some (lower_step region w c).answer
 
 -- the whole update, then the calls in comparing mode with these values, up to closing
 abbrev pub compared : List ℕ → List ℕ → Run
 compared region values = next_all (found region) (update_at later ++ (to_table_end true values ++ (upper closing ∷ [])))
 
 -- `unchanged` answers this then
-abbrev pub Compares : List ℕ → Answer → Type 0
-Compares values answer = (region : List ℕ) → length region ≡ region_size → Bytes region → answer_on (compared region values).region (compared region values).state unchanged ≡ some answer
+abbrev pub Compares : List ℕ → Result Answer Refusal → Type 0
+Compares values answer = (region : List ℕ) → length region ≡ region_size → Bytes region → answer_on (compared region values).region (compared region values).state unchanged ≡ Some answer
 
 abbrev pub SameRow : Type 0
-SameRow = Compares texts Same
+SameRow = Compares texts (Ok Same)
 
 -- one byte of the row is another
 abbrev pub OtherRow : Type 0
-OtherRow = Compares other_texts Different
+OtherRow = Compares other_texts (Ok Different)
 
 -- all of them: what `upper_instances_hold` promises
 pub record UpperInstances : Type 0 where

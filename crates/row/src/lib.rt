@@ -23,13 +23,6 @@ use base::table::{LAST_TABLE, TABLES};
 use refusal::Refusal;
 use rfc4180::MAX_ROW;
 
-#[derive(Clone, Copy)]
-pub enum RowAnswer {
-    // The line is in the first n bytes.
-    Written(usize),
-    Refused(Refusal),
-}
-
 // How many bytes are copied or tested at once: a block, a word, half a word.
 const BLOCK: usize = 16;
 
@@ -64,7 +57,7 @@ pub fn column_count(table: u32) -> usize
 }
 
 // Copies a table's names line to out, if it fits; `all` has the names lines of all tables.
-fn put_line(all: &[u8], table: usize, out: &mut [u8]) -> RowAnswer
+fn put_line(all: &[u8], table: usize, out: &mut [u8]) -> Result<usize, Refusal>
     requires { (all.now ≡ all_lines) × (table < max_tables) }
     ensures { (result ≡ within (length out.old) (names_line table)) × (out.new ≡ after result (names_line table) out.old) }
 {
@@ -73,18 +66,18 @@ fn put_line(all: &[u8], table: usize, out: &mut [u8]) -> RowAnswer
     let to = starts[table + 1];
     let names = &all[from..to];
     if out.len() < names.len() {
-        return RowAnswer::Refused(Refusal::Small);
+        return Err(Refusal::Small);
     }
     copy(names, out, 0);
-    RowAnswer::Written(names.len())
+    Ok(names.len())
 }
 
 // Writes the names line of a table to out.
-pub fn names_line(table: u32, out: &mut [u8]) -> RowAnswer
+pub fn names_line(table: u32, out: &mut [u8]) -> Result<usize, Refusal>
     ensures { (result ≡ names_answer table (length out.old)) × (out.new ≡ after result (names_line table) out.old) }
 {
     if LAST_TABLE < table {
-        return RowAnswer::Refused(Refusal::Argument);
+        return Err(Refusal::Argument);
     }
     let all =
         b"route_id,route_short_name,route_type\nstop_id,stop_code,stop_name\nroute_id,service_id,trip_id,trip_headsign,direction_id\ntrip_id,stop_id,stop_sequence,arrival_time,departure_time,pickup_type,drop_off_type,stop_headsign\nservice_id,monday,tuesday,wednesday,thursday,friday,saturday,sunday,start_date,end_date\nservice_id,date,exception_type\nfeed_start_date,feed_end_date\nfrom_stop_id,to_stop_id,transfer_type,min_transfer_time,from_route_id,to_route_id,from_trip_id,to_trip_id\n";
@@ -92,26 +85,26 @@ pub fn names_line(table: u32, out: &mut [u8]) -> RowAnswer
 }
 
 // Writes the row of a table's values to out. The values are passed as joined texts and their lengths.
-pub fn row(table: u32, texts: &[u8], lengths: &[u32], out: &mut [u8]) -> RowAnswer
+pub fn row(table: u32, texts: &[u8], lengths: &[u32], out: &mut [u8]) -> Result<usize, Refusal>
     ensures { (result ≡ row_answer table texts.now lengths.now (length out.old)) × (out.new ≡ after result (row_of (passed_values texts.now lengths.now)) out.old) }
 {
     if LAST_TABLE < table {
-        return RowAnswer::Refused(Refusal::Argument);
+        return Err(Refusal::Argument);
     }
     if lengths.len() != column_count(table) {
-        return RowAnswer::Refused(Refusal::Row);
+        return Err(Refusal::Row);
     }
     if longest_fits(texts.len(), lengths.len(), out.len()) {
-        return RowAnswer::Written(put_row(texts, lengths, any_special(texts), out));
+        return Ok(put_row(texts, lengths, any_special(texts), out));
     }
     let size = row_size(texts, lengths);
     if MAX_ROW < size {
-        return RowAnswer::Refused(Refusal::Row);
+        return Err(Refusal::Row);
     }
     if out.len() < size {
-        return RowAnswer::Refused(Refusal::Small);
+        return Err(Refusal::Small);
     }
-    RowAnswer::Written(put_row(texts, lengths, true, out))
+    Ok(put_row(texts, lengths, true, out))
 }
 
 // What holds of the column names. The function does nothing: its contract is what is proved of the definitions

@@ -13,10 +13,11 @@ use Rattle.rfc4180.specs.Read as Csv
 use Rattle.rfc4180.proofs.Grammar.{sound, complete}
 use Rattle.refusal.specs.declared.Refusal.TheVariants.{Small, Row}
 use Rattle.rowread.specs.declared.exact.Scan.TheVariants.{Whole, Broken}
-use Rattle.rowread.specs.declared.ReadAnswer.{ReadAnswer}
-use Rattle.rowread.specs.declared.ReadAnswer.TheVariants.{Stored, End, Refused}
-use Rattle.rowread.specs.Stored.{part_at, row_at, values_of, values_at, joined, ends_of, found, read_answer, after}
+use Rattle.rowread.specs.Stored.{stored, part_at, row_at, values_of, values_at, joined, ends_of, found, read_answer, after}
 use Rattle.rowread.specs.Steps.{scan_from, scan_of, IsRow, Holds}
+use Rattle.std.specs.Prelude.{Ok, Err, Some, None, Result, Option}
+use Rattle.refusal.specs.declared.Refusal.{Refusal}
+use Rattle.rowread.specs.declared.Stored.{Stored}
 
 take_min : (n : ℕ) (l : List ℕ) → take (min n (length l)) l ≡ take n l
 take_min n l = go (dec_lt n (length l))
@@ -39,21 +40,21 @@ scan-inside width t next size q = go (Csv.values width t) q
     go (Csv.row vs r) i = let a : next ≡ length t - length r = cc in omega arith
 
 -- what the call promises: the answer, and both outputs
-pub record Answers (table : List ℕ) (width offset : ℕ) (out ends : List ℕ) (r : ReadAnswer) (o e : List ℕ) : Type 0 where
+pub record Answers (table : List ℕ) (width offset : ℕ) (out ends : List ℕ) (r : Result (Option Stored) Refusal) (o e : List ℕ) : Type 0 where
   pub is : r ≡ read_answer table width offset (length out) (length ends)
   pub bytes : o ≡ after r (joined (values_at table width offset)) out
   pub marks : e ≡ after r (ends_of 0 (values_at table width offset)) ends
 
 -- outputs that nothing was written to yet
-pub since : {table : List ℕ} {width offset : ℕ} {out ends o s p q : List ℕ} {r : ReadAnswer} → o ≡ out → s ≡ ends → Answers table width offset o s r p q → Answers table width offset out ends r p q
+pub since : {table : List ℕ} {width offset : ℕ} {out ends o s p q : List ℕ} {r : (Result (Option Stored) Refusal)} → o ≡ out → s ≡ ends → Answers table width offset o s r p q → Answers table width offset out ends r p q
 since e f a = rw (e, f) at a
 
 module _ (table : List ℕ) (width offset : ℕ) (out ends : List ℕ) where
-  pub read_past : length table < offset → Answers table width offset out ends (Refused Row) out ends
+  pub read_past : length table < offset → Answers table width offset out ends (Err Row) out ends
   unfolding read_answer
   read_past h = record { is = rw (lt-leb offset (length table) h); bytes = refl; marks = refl }
 
-  pub read-end : offset ≤ length table → offset ≡ length table → Answers table width offset out ends End out ends
+  pub read-end : offset ≤ length table → offset ≡ length table → Answers table width offset out ends (Ok None) out ends
   unfolding read_answer
   read-end h e = record { is = rw (le-leb offset (length table) h, eq-eqb offset (length table) e); bytes = refl; marks = refl }
 
@@ -62,11 +63,11 @@ module _ (table : List ℕ) (width offset : ℕ) (out ends : List ℕ) where
     unfolding read_answer
     inside = rw (le-leb offset (length table) h, ne_eqb offset (length table) e)
 
-    pub read-broken : Broken ≡ scan_of width (part_at table offset) → Answers table width offset out ends (Refused Row) out ends
+    pub read-broken : Broken ≡ scan_of width (part_at table offset) → Answers table width offset out ends (Err Row) out ends
     unfolding scan_of
     read-broken q = record { is = go (row_at table width offset) q ∙ sym inside; bytes = refl; marks = refl }
       where
-        go : (g : Csv.Row) → Broken ≡ scan_from (length (part_at table offset)) 0 g → Refused Row ≡ found offset (length (part_at table offset)) (length out) (length ends) g
+        go : (g : Csv.Row) → Broken ≡ scan_from (length (part_at table offset)) 0 g → Err Row ≡ found offset (length (part_at table offset)) (length out) (length ends) g
         go Csv.malformed i = refl
         go (Csv.row vs r) i = absurd (let z : ◌≡◌ {A = ℕ} 0 1 = cc in omega arith)
 
@@ -99,7 +100,7 @@ module _ (table : List ℕ) (width offset : ℕ) (out ends : List ℕ) where
       here : read_answer table width offset (length out) (length ends) ≡ found offset (length (part_at table offset)) (length out) (length ends) (Csv.row the_row.values the_row.rest)
       here = inside ∙ rw the_row.is
 
-      pub read_short : length out < size → Answers table width offset out ends (Refused Small) out ends
+      pub read_short : length out < size → Answers table width offset out ends (Err Small) out ends
       read_short l =
           let k : length out < length (joined the_row.values) = omega (arith, the_row.bytes) in
           record { is = sym (here ∙ rw (lt-leb (length (joined the_row.values)) (length out) k)); bytes = refl; marks = refl }
@@ -108,13 +109,13 @@ module _ (table : List ℕ) (width offset : ℕ) (out ends : List ℕ) where
         fits : length (joined the_row.values) ≤ length out
         fits = omega (arith, the_row.bytes)
 
-        pub read-few : length ends < width → Answers table width offset out ends (Refused Small) out ends
+        pub read-few : length ends < width → Answers table width offset out ends (Err Small) out ends
         read-few m =
             let k : length ends < length the_row.values = omega (arith, the_row.many) in
             record { is = sym (here ∙ rw (le-leb (length (joined the_row.values)) (length out) fits, lt-leb (length the_row.values) (length ends) k)); bytes = refl; marks = refl }
 
         pub read_whole : width ≤ length ends → (o s : List ℕ) → o ≡ sets out 0 (joined (values_at table width offset)) → s ≡ sets ends 0 (ends_of 0 (values_at table width offset))
-            → Answers table width offset out ends (Stored (offset + next) size) o s
+            → Answers table width offset out ends (stored (offset + next) size) o s
         read_whole m o s p w =
             let k : length the_row.values ≤ length ends = omega (arith, the_row.many) in
             let v : values_at table width offset ≡ the_row.values = ap values_of the_row.is in
@@ -127,7 +128,7 @@ module _ (table : List ℕ) (width offset : ℕ) (out ends : List ℕ) where
             }
 
     -- by a fast path
-    pub read-quick : {o s : List ℕ} {next size : ℕ} → Holds (part_at table offset) 0 0 0 width out ends o s next size → Answers table width offset out ends (Stored (offset + next) size) o s
+    pub read-quick : {o s : List ℕ} {next size : ℕ} → Holds (part_at table offset) 0 0 0 width out ends o s next size → Answers table width offset out ends (stored (offset + next) size) o s
     unfolding scan_of
     read-quick {o} {s} {next} {size} x =
         let t = part_at table offset in

@@ -17,10 +17,11 @@ use Rattle.rfc4180.proofs.Grammar.{writes, sound, complete, lone-cr}
 use Rattle.rfc4180.proofs.Frame.{frame, front-in-row, part-row}
 use Rattle.rfc4180.proofs.Sizes.{row-some, lone-some, not-longer}
 use Rattle.refusal.specs.declared.Refusal.TheVariants.{Small, Row}
-use Rattle.rowread.specs.declared.ReadAnswer.{ReadAnswer}
-use Rattle.rowread.specs.declared.ReadAnswer.TheVariants.{Stored, End, Refused}
-use Rattle.rowread.specs.Stored.{part_at, row_at, values_of, values_at, joined, found, read_answer}
+use Rattle.rowread.specs.Stored.{stored, part_at, row_at, values_of, values_at, joined, found, read_answer}
 use Rattle.rowread.specs.Claims.{Fits, ReadsWritten, table_of, Reads, at_end, onward, AllFit, ReadsTable, StoredIsARow, RowThere, ReadsRows, SmallOutputs, RefusesOthers, ReadsEnd, RowsOf, no_rows, row_first, ReadsAll, StoredLimits, RefusesLoneCr}
+use Rattle.std.specs.Prelude.{Ok, Err, Some, None, Result, Option}
+use Rattle.refusal.specs.declared.Refusal.{Refusal}
+use Rattle.rowread.specs.declared.Stored.{Stored}
 
 abbrev Text : Type 0
 Text = List ℕ
@@ -32,8 +33,8 @@ front-part p r h =
     ap (λ (n : ℕ). take n (p ++ r)) (sym e) ∙ take-append-add p r (max_row - length p)
 
 -- the answer where a row of these values is, `next` being the offset after it
-abbrev there : List Text → ℕ → ℕ → ℕ → ReadAnswer
-there vs capacity slots next = pick (leb (length (joined vs)) capacity) (pick (leb (length vs) slots) (Stored next (length (joined vs))) (Refused Small)) (Refused Small)
+abbrev there : List Text → ℕ → ℕ → ℕ → Result (Option Stored) Refusal
+there vs capacity slots next = pick (leb (length (joined vs)) capacity) (pick (leb (length vs) slots) (stored next (length (joined vs))) (Err Small)) (Err Small)
 
 -- the bytes p are a row, whatever follows them
 module _ (front back p : Text) (vs : List Text) (is_row : (s : Text) → Record (p ++ s) vs s) (short : length p ≤ max_row) where
@@ -85,7 +86,7 @@ reads-rows table rest vs width offset capacity slots r c m =
 pub small-outputs : SmallOutputs
 small-outputs table rest vs width offset capacity slots r n = (at_offset table rest vs width offset r capacity slots).0 ∙ go (leb (length (joined vs)) capacity) (leb (length vs) slots) refl refl
   where
-    go : (s t : Bool) → leb (length (joined vs)) capacity ≡ s → leb (length vs) slots ≡ t → pick s (pick t (Stored (offset + (length (drop offset table) - length rest)) (length (joined vs))) (Refused Small)) (Refused Small) ≡ Refused Small
+    go : (s t : Bool) → leb (length (joined vs)) capacity ≡ s → leb (length vs) slots ≡ t → pick {A = Result (Option Stored) Refusal} s (pick t (stored (offset + (length (drop offset table) - length rest)) (length (joined vs))) (Err Small)) (Err Small) ≡ Err Small
     go true true d e = absurd (n (leb-true (length (joined vs)) capacity d, omega (arith, leb-true (length vs) slots e, r.wide)))
     go true false d e = refl
     go false t d e = refl
@@ -96,7 +97,7 @@ pub reads_end : ReadsEnd
 unfolding read_answer
 reads_end table width capacity slots = rw (le-leb (length table) (length table) (omega arith), eq-eqb (length table) (length table) refl)
 
-at-the-end : (front : Text) (width capacity slots : ℕ) → read_answer (front ++ []) width (length front) capacity slots ≡ End
+at-the-end : (front : Text) (width capacity slots : ℕ) → read_answer (front ++ []) width (length front) capacity slots ≡ Ok None
 at-the-end front width capacity slots = rw (append-nil front) (reads_end front width capacity slots)
 
 moved : (t u : Text) (width capacity slots offset next : ℕ) (rows : List (List Text)) → t ≡ u → offset ≡ next → Reads t width capacity slots offset rows → Reads u width capacity slots next rows
@@ -148,11 +149,17 @@ reads-table width capacity slots (vs ∷ rows) f = reads_all (table_of (vs ∷ r
 
 -- ---- what is read is a row, and within the limits
 
-refused-not : {A : Type 0} (r : Rattle.refusal.specs.declared.Refusal.Refusal) (next size : ℕ) → Refused r ≡ Stored next size → A
+refused-not : {A : Type 0} (r : Refusal) (next size : ℕ) → Err r ≡ stored next size → A
 refused-not r next size e = absurd (let z : ◌≡◌ {A = ℕ} 0 1 = cc in omega arith)
 
-end-not : {A : Type 0} (next size : ℕ) → End ≡ Stored next size → A
+end-not : {A : Type 0} (next size : ℕ) → Ok None ≡ stored next size → A
 end-not next size e = absurd (let z : ◌≡◌ {A = ℕ} 0 1 = cc in omega arith)
+
+-- the offset after a row that was read
+abbrev next_in : Result (Option Stored) Refusal → ℕ
+next_in (Ok (Some s)) = s.next
+next_in (Ok None) = 0
+next_in (Err r) = 0
 
 -- a row was read: there is one, and `next` is the offset after it
 record ReadAt (table : Text) (width offset next : ℕ) : Type 0 where
@@ -162,21 +169,21 @@ record ReadAt (table : Text) (width offset next : ℕ) : Type 0 where
   to : next ≡ offset + (length (part_at table offset) - length rest)
 
 module _ (table : Text) (width offset capacity slots next size : ℕ) where
-  in-found : (g : Csv.Row) → row_at table width offset ≡ g → found offset (length (part_at table offset)) capacity slots g ≡ Stored next size → ReadAt table width offset next
+  in-found : (g : Csv.Row) → row_at table width offset ≡ g → found offset (length (part_at table offset)) capacity slots g ≡ stored next size → ReadAt table width offset next
   in-found Csv.malformed e q = refused-not Row next size q
   in-found (Csv.row vs r) e q = go (leb (length (joined vs)) capacity) (leb (length vs) slots) q
     where
-      go : (s t : Bool) → pick s (pick t (Stored (offset + (length (part_at table offset) - length r)) (length (joined vs))) (Refused Small)) (Refused Small) ≡ Stored next size → ReadAt table width offset next
-      go true true i = let n : next ≡ offset + (length (part_at table offset) - length r) = cc in record { values = vs; rest = r; is = e; to = n }
+      go : (s t : Bool) → pick {A = Result (Option Stored) Refusal} s (pick t (stored (offset + (length (part_at table offset) - length r)) (length (joined vs))) (Err Small)) (Err Small) ≡ stored next size → ReadAt table width offset next
+      go true true i = let n : next ≡ offset + (length (part_at table offset) - length r) = sym (ap next_in i) in record { values = vs; rest = r; is = e; to = n }
       go true false i = refused-not Small next size i
       go false t i = refused-not Small next size i
 
-  in-answer : (s t : Bool) → pick s (pick t End (found offset (length (part_at table offset)) capacity slots (row_at table width offset))) (Refused Row) ≡ Stored next size → ReadAt table width offset next
+  in-answer : (s t : Bool) → pick s (pick t (Ok None) (found offset (length (part_at table offset)) capacity slots (row_at table width offset))) (Err Row) ≡ stored next size → ReadAt table width offset next
   in-answer true true q = end-not next size q
   in-answer true false q = in-found (row_at table width offset) refl q
   in-answer false t q = refused-not Row next size q
 
-  read_at : read_answer table width offset capacity slots ≡ Stored next size → ReadAt table width offset next
+  read_at : read_answer table width offset capacity slots ≡ stored next size → ReadAt table width offset next
   unfolding read_answer
   read_at e = in-answer (leb offset (length table)) (eqb offset (length table)) e
 
@@ -214,7 +221,7 @@ pub refuses-others : RefusesOthers
 unfolding read_answer
 refuses-others table width offset capacity slots m n = rw (ne_eqb offset (length table) m, no-row table width offset (row_at table width offset) refl n) (go (leb offset (length table)))
   where
-    go : (t : Bool) → pick t (Refused Row) (Refused Row) ≡ Refused Row
+    go : (t : Bool) → pick {A = Result (Option Stored) Refusal} t (Err Row) (Err Row) ≡ Err Row
     go true = refl
     go false = refl
 

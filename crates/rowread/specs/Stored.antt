@@ -1,12 +1,12 @@
 -- The call that reads a stored row: a row of `width` values at an offset of a table.
-use Rattle.std.specs.Prelude.{ℕ, ◌+◌, ◌-◌, eqb, leb, List, [], ◌∷◌, ◌++◌, length, take, drop}
+use Rattle.std.specs.Prelude.{ℕ, ◌+◌, ◌-◌, eqb, leb, List, [], ◌∷◌, ◌++◌, length, take, drop, Ok, Err, Some, None, Result, Option}
 use Rattle.base.specs.Number.{pick}
 use Rattle.leaf.specs.Bytes.{written}
 use Rattle.rfc4180.specs.Csv.{max_row}
 use Rattle.rfc4180.specs.Read as Csv
 use Rattle.refusal.specs.declared.Refusal.TheVariants.{Small, Row}
-use Rattle.rowread.specs.declared.ReadAnswer.{ReadAnswer}
-use Rattle.rowread.specs.declared.ReadAnswer.TheVariants.{Stored, End, Refused}
+use Rattle.refusal.specs.declared.Refusal.{Refusal}
+use Rattle.rowread.specs.declared.Stored.{Stored}
 
 -- ---- the row
 
@@ -38,24 +38,28 @@ unfoldable pub ends_of : ℕ → List (List ℕ) → List ℕ
 ends_of from [] = []
 ends_of from (v ∷ vs) = (from + length v) ∷ ends_of (from + length v) vs
 
+-- the answer for a row that was read: the offset of the next row, and how many bytes the values have
+abbrev pub stored : ℕ → ℕ → Result (Option Stored) Refusal
+stored next size = Ok (Some (record { next = next; size = size }))
+
 -- a row read within n bytes from an offset on: 14 if it is malformed; then 9 if the values joined, or their ends, don't fit; else
 -- the offset after the row, and how many bytes the values have
-abbrev pub found : ℕ → ℕ → ℕ → ℕ → Csv.Row → ReadAnswer
-found offset n capacity slots Csv.malformed = Refused Row
+abbrev pub found : ℕ → ℕ → ℕ → ℕ → Csv.Row → Result (Option Stored) Refusal
+found offset n capacity slots Csv.malformed = Err Row
 found offset n capacity slots (Csv.row vs rest) =
     pick (leb (length (joined vs)) capacity)
-    (pick (leb (length vs) slots) (Stored (offset + (n - length rest)) (length (joined vs))) (Refused Small))
-    (Refused Small)
+    (pick (leb (length vs) slots) (stored (offset + (n - length rest)) (length (joined vs))) (Err Small))
+    (Err Small)
 
 -- the answer: 14 past the table's end; no row at its end; else what is found
-unfoldable pub read_answer : List ℕ → ℕ → ℕ → ℕ → ℕ → ReadAnswer
+unfoldable pub read_answer : List ℕ → ℕ → ℕ → ℕ → ℕ → Result (Option Stored) Refusal
 read_answer table width offset capacity slots =
     pick (leb offset (length table))
-    (pick (eqb offset (length table)) End (found offset (length (part_at table offset)) capacity slots (row_at table width offset)))
-    (Refused Row)
+    (pick (eqb offset (length table)) (Ok None) (found offset (length (part_at table offset)) capacity slots (row_at table width offset)))
+    (Err Row)
 
 -- a lent output after the call: if a row was read, `new` at its start and the rest unchanged; else all unchanged
-abbrev pub after : ReadAnswer → List ℕ → List ℕ → List ℕ
-after (Stored next size) new out = written out 0 new
-after End new out = out
-after (Refused r) new out = out
+abbrev pub after : Result (Option Stored) Refusal → List ℕ → List ℕ → List ℕ
+after (Ok (Some s)) new out = written out 0 new
+after (Ok None) new out = out
+after (Err r) new out = out

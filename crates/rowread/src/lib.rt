@@ -22,13 +22,11 @@ use base::slice::part;
 use refusal::Refusal;
 use rfc4180::MAX_ROW;
 
+// A row that was read: its values, joined, are in the first size bytes, and the next row starts at next.
 #[derive(Clone, Copy)]
-pub enum ReadAnswer {
-    // The values, joined, are in the first size bytes, and the next row starts at next.
-    Stored { next: usize, size: usize },
-    // The table's end: no row.
-    End,
-    Refused(Refusal),
+pub struct Stored {
+    pub next: usize,
+    pub size: usize,
 }
 
 // Reads the row of `width` values at an offset of a table: its values, joined, to out, and where each ends to ends.
@@ -38,38 +36,38 @@ pub fn read_row(
     offset: usize,
     out: &mut [u8],
     ends: &mut [usize],
-) -> ReadAnswer
+) -> Result<Option<Stored>, Refusal>
     ensures { (result ≡ read_answer table.now width offset (length out.old) (length ends.old)) × (out.new ≡ after result (joined (values_at table.now width offset)) out.old) × (ends.new ≡ after result (ends_of 0 (values_at table.now width offset)) ends.old) }
 {
     if table.len() < offset {
-        return ReadAnswer::Refused(Refusal::Row);
+        return Err(Refusal::Row);
     }
     if offset == table.len() {
-        return ReadAnswer::End;
+        return Ok(None);
     }
     let t = part(table, offset, MAX_ROW);
     let quick = fast_row(t, width, out, ends);
     if let Fast::Read { next, size } = quick {
-        return ReadAnswer::Stored {
+        return Ok(Some(Stored {
             next: offset + next,
             size,
-        };
+        }));
     }
     let scan = row(t, width, out, ends, false, true);
     let Scan::Whole { next, size } = scan else {
-        return ReadAnswer::Refused(Refusal::Row);
+        return Err(Refusal::Row);
     };
     if out.len() < size {
-        return ReadAnswer::Refused(Refusal::Small);
+        return Err(Refusal::Small);
     }
     if ends.len() < width {
-        return ReadAnswer::Refused(Refusal::Small);
+        return Err(Refusal::Small);
     }
     write_row(t, width, size, out, ends);
-    ReadAnswer::Stored {
+    Ok(Some(Stored {
         next: offset + next,
         size,
-    }
+    }))
 }
 
 // What holds of reading rows. The function does nothing: its contract is what is proved of the definitions

@@ -37,6 +37,7 @@ use Rattle.run.specs.PartsRun.{Ran, AfterAppend, count_of}
 use Rattle.flash.specs.Flash.{performed}
 use Rattle.run.proofs.Laws.{quiet, quiet-flush, quiet-dues-writer, quiet-dues-ran, then-writer, then-region, fed-all-writer, fed-all-region}
 use Rattle.region.specs.Region.{capacity}
+use Rattle.std.specs.Prelude.{Ok}
 
 pub is_false : (b : Bool) → not b ≡ true → b ≡ false
 is_false true e = absurd (false≢true e)
@@ -253,11 +254,11 @@ unfolding bytes_step appended
 counted w bs = go (may_append w) refl (leb (position w.contents + length bs) capacity) refl (is_due w.contents) refl
   where
     some : Step
-    some = record { answer = Appended (accepted w.contents (length bs)); writer = with_bytes w (take (accepted w.contents (length bs)) bs) }
+    some = record { answer = Ok (Appended (accepted w.contents (length bs))); writer = with_bytes w (take (accepted w.contents (length bs)) bs) }
 
     go : (m : Bool) → may_append w ≡ m → (l : Bool) → leb (position w.contents + length bs) capacity ≡ l → (d : Bool) → is_due w.contents ≡ d
-        → 1 ≤ count_of (pick m (pick l (pick d (record { answer = Appended 0; writer = w }) some) (stays w Full)) (stays w Turn)).answer
-        → (may_append w ≡ true) × (is_due w.contents ≡ false) × (position w.contents + length bs ≤ capacity) × (count_of (pick m (pick l (pick d (record { answer = Appended 0; writer = w }) some) (stays w Full)) (stays w Turn)).answer ≡ min (length bs) (tail_size - w.contents.fill))
+        → 1 ≤ count_of (pick m (pick l (pick d (record { answer = Ok (Appended 0); writer = w }) some) (stays w Full)) (stays w Turn)).answer
+        → (may_append w ≡ true) × (is_due w.contents ≡ false) × (position w.contents + length bs ≤ capacity) × (count_of (pick m (pick l (pick d (record { answer = Ok (Appended 0); writer = w }) some) (stays w Full)) (stays w Turn)).answer ≡ min (length bs) (tail_size - w.contents.fill))
     go true em true el false ed h = (em, ed, leb-true _ _ el, refl)
     go true em true el true ed h = absurd (omega (arith, h))
     go true em false el d ed h = absurd (omega (arith, h))
@@ -271,8 +272,8 @@ none-appended w bs = go (may_append w) (leb (position w.contents + length bs) ca
     n : ℕ
     n = accepted w.contents (length bs)
 
-    go : (m l d : Bool) → count_of (pick m (pick l (pick d (record { answer = Appended 0; writer = w }) (record { answer = Appended n; writer = with_bytes w (take n bs) })) (stays w Full)) (stays w Turn)).answer ≡ 0
-        → (pick m (pick l (pick d (record { answer = Appended 0; writer = w }) (record { answer = Appended n; writer = with_bytes w (take n bs) })) (stays w Full)) (stays w Turn)).writer.tail ≡ w.tail
+    go : (m l d : Bool) → count_of (pick m (pick l (pick d (record { answer = Ok (Appended 0); writer = w }) (record { answer = Ok (Appended n); writer = with_bytes w (take n bs) })) (stays w Full)) (stays w Turn)).answer ≡ 0
+        → (pick m (pick l (pick d (record { answer = Ok (Appended 0); writer = w }) (record { answer = Ok (Appended n); writer = with_bytes w (take n bs) })) (stays w Full)) (stays w Turn)).writer.tail ≡ w.tail
     go true true true e = refl
     go true true false e = ap (λ (k : ℕ). sets w.tail w.contents.fill (take k bs)) e
     go true false d e = refl

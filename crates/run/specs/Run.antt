@@ -1,5 +1,5 @@
 -- The lower layer's calls as one type, and runs of them.
-use Rattle.std.specs.Prelude.{Bool, List, [], ◌∷◌, ◌++◌, ℕ}
+use Rattle.std.specs.Prelude.{Bool, List, [], ◌∷◌, ◌++◌, ℕ, Option, ℤ}
 use Rattle.record.specs.declared.Source.{Source}
 use Rattle.flash.specs.Flash.{Op, performed}
 use Rattle.writer.specs.declared.Writer.{Writer}
@@ -7,7 +7,6 @@ use Rattle.writer.specs.declared.Step.{Step}
 use Rattle.writer.specs.State.{target}
 use Rattle.lower.specs.Lower.{source_step, table_step, bytes_step, end_step, close_step}
 use Rattle.due.specs.Due.{due_step, due_ops}
-use Rattle.commit.specs.declared.Stamp.{Stamp}
 use Rattle.commit.specs.Commit.{commit_step, commit_ops, word_step, word_ops}
 use Rattle.commit.specs.Unchanged.{unchanged_step}
 
@@ -20,7 +19,7 @@ pub data Lower : Type 0 where
   close : Lower
   due : Lower
   unchanged : Lower
-  commit : Stamp → Bool → Lower
+  commit : Option ℤ → Bool → Lower
   word : Lower
 
 -- its answer and the state after it, as the calls promise

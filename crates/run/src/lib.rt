@@ -11,6 +11,7 @@ ghost use Rattle.writer.specs.State.{tail_size};
 
 use due::due_parts;
 use lower::append::append_parts;
+use refusal::Refusal;
 use writer::{
     Answer, Beginning, Contents, Parts, Stage, TAIL_SIZE, TAIL_SIZE_32, Writer, parts_of, whole,
 };
@@ -94,16 +95,16 @@ fn append_one(
 }
 
 // How many bytes a call appended.
-fn count_of(a: Answer) -> usize
+fn count_of(a: Result<Answer, Refusal>) -> usize
     ensures { result ≡ PartsRun.count_of a }
 {
     match a {
-        Answer::Done => 0,
-        Answer::Appended(n) => n as usize,
-        Answer::NoneDue => 0,
-        Answer::Same => 0,
-        Answer::Different => 0,
-        Answer::Refused(_) => 0,
+        Ok(Answer::Done) => 0,
+        Ok(Answer::Appended(n)) => n as usize,
+        Ok(Answer::NoneDue) => 0,
+        Ok(Answer::Same) => 0,
+        Ok(Answer::Different) => 0,
+        Err(_) => 0,
     }
 }
 

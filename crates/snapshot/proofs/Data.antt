@@ -14,7 +14,6 @@ use Rattle.record.specs.declared.Source.{Source}
 use Rattle.record.specs.Record.{source_size, no_block}
 use Rattle.base.specs.Lists.{many, each}
 use Rattle.header.specs.declared.Bank.{Bank}
-use Rattle.header.specs.declared.Validated.TheVariants.{Good}
 use Rattle.region.specs.Region.{sector_size, bank_of, data_of}
 use Rattle.header.specs.Header.{record_at, dates_ok, updated_ok, block_ok, source_ok}
 use Rattle.base.proofs.Bools.{and_left, and_right}
@@ -25,6 +24,7 @@ use Rattle.snapshot.specs.Source.{source_in}
 use Rattle.snapshot.specs.Rows.{bytes_of}
 use Rattle.snapshot.specs.Claims.{InData}
 use Rattle.snapshot.proofs.RowsLaws.{its-number}
+use Rattle.std.specs.Prelude.{Ok}
 
 -- what holds of each element holds of one
 each-nth : {A : Type 0} (p : A → Bool) (f : List ℕ → ℕ → A) (step : ℕ) (l : List ℕ) (at n i : ℕ) → each p (many f step l at n) ≡ true → i < n → p (f l (at + i * step)) ≡ true
@@ -66,7 +66,7 @@ blocks-ok b s e =
     (and_right (dates_ok s) (leb s.present 255 && (updated_ok b.checked s.updated && each (block_ok b) s.tables)) e))
 
 -- the block of a table of a source below the count passes 6
-table-ok : (region : List ℕ) (n i t : ℕ) (b : Bank) → named region n ≡ Good b → i < b.count → block_ok b (get_or (source_in region b i).tables t no_block) ≡ true
+table-ok : (region : List ℕ) (n i t : ℕ) (b : Bank) → named region n ≡ Ok b → i < b.count → block_ok b (get_or (source_in region b i).tables t no_block) ≡ true
 unfolding source_in
 table-ok region n i t b e h =
     let p = passed n (bank_of region n) b (named-passes region n b e).header in

@@ -14,95 +14,91 @@ use Rattle.record.specs.declared.Block.{Block}
 use Rattle.record.specs.declared.Source.{Source}
 use Rattle.record.specs.Record.{no_block}
 use Rattle.header.specs.declared.Bank.{Bank}
-use Rattle.header.specs.declared.Validated.{Validated}
-use Rattle.header.specs.declared.Validated.TheVariants.{Good, Refused as Bad}
 use Rattle.region.specs.Region.{region_size, bank_of}
 use Rattle.header.specs.Header.{numbers_of}
 use Rattle.header.proofs.Laws.{passed}
 use Rattle.bank.specs.Bank.{named}
 use Rattle.bank.proofs.Sequence.{named-passes}
-use Rattle.snapshot.specs.declared.Outcome.TheVariants.{Done, Refused as NoSource}
 use Rattle.snapshot.specs.Source.{source_in, then_source, source_answer}
 use Rattle.snapshot.specs.Freshness.{named_if}
 use Rattle.row.specs.Columns.{column_count}
-use Rattle.rowread.specs.declared.ReadAnswer.TheVariants.{Refused}
 use Rattle.rowread.specs.Stored.{values_at, read_answer}
-use Rattle.snapshot.specs.declared.rows.BlockAnswer.TheVariants.{Found, Refused as NoBlock}
 use Rattle.snapshot.specs.Rows.{bytes_of, table_in, then_block, block_answer, then_row, bank_row_answer, then_values, values_in}
 use Rattle.base.specs.Table.{last_table}
+use Rattle.std.specs.Prelude.{Ok, Err, Result}
 
 -- a bank that is named has that number
-pub its-number : (region : List ℕ) (n : ℕ) (b : Bank) → named region n ≡ Good b → b.number ≡ n
+pub its-number : (region : List ℕ) (n : ℕ) (b : Bank) → named region n ≡ Ok b → b.number ≡ n
 unfolding numbers_of
 its-number region n b e = ap (λ (x : Bank). x.number) (passed n (bank_of region n) b (named-passes region n b e).header).numbers
 
 -- a source that was asked for and is there
 record There (region : List ℕ) (n i : ℕ) : Type 0 where
   bank : Bank
-  is-named : named region n ≡ Good bank
+  is-named : named region n ≡ Ok bank
   below : ltb i bank.count ≡ true
   is-source : (source_answer region n i).source ≡ source_in region bank i
 
 module _ (region : List ℕ) (n i : ℕ) where
-  there-by : (v : Validated) → named region n ≡ v → (then_source region i v).outcome ≡ Done → There region n i
+  there-by : (v : Result Bank Refusal) → named region n ≡ v → (then_source region i v).outcome ≡ Ok tt → There region n i
   unfolding source_answer
-  there-by (Bad r) e q = absurd (let z : ◌≡◌ {A = ℕ} 0 1 = cc in omega arith)
-  there-by (Good b) e q = go (ltb i b.count) refl q
+  there-by (Err r) e q = absurd (let z : ◌≡◌ {A = ℕ} 0 1 = cc in omega arith)
+  there-by (Ok b) e q = go (ltb i b.count) refl q
     where
-      go : (s : Bool) → ltb i b.count ≡ s → (then_source region i (Good b)).outcome ≡ Done → There region n i
-      go true h j = record { bank = b; is-named = e; below = h; is-source = ap (λ (x : Validated). (then_source region i x).source) e ∙ rw h }
+      go : (s : Bool) → ltb i b.count ≡ s → (then_source region i (Ok b)).outcome ≡ Ok tt → There region n i
+      go true h j = record { bank = b; is-named = e; below = h; is-source = ap (λ (x : Result Bank Refusal). (then_source region i x).source) e ∙ rw h }
       go false h j = absurd (let z : ◌≡◌ {A = ℕ} 0 1 = cc in omega arith)
 
-  there : (source_answer region n i).outcome ≡ Done → There region n i
+  there : (source_answer region n i).outcome ≡ Ok tt → There region n i
   unfolding source_answer
   there q = there-by (named region n) refl q
 
   module _ (t : ℕ) where
-    pub no-region : leb t last_table ≡ false → eqb (length region) region_size ≡ false → NoBlock Region ≡ block_answer region n i t
+    pub no-region : leb t last_table ≡ false → eqb (length region) region_size ≡ false → Err Region ≡ block_answer region n i t
     unfolding block_answer named_if
     no-region h e = rw (h, e)
 
-    pub no_table : leb t last_table ≡ false → eqb (length region) region_size ≡ true → NoBlock Argument ≡ block_answer region n i t
+    pub no_table : leb t last_table ≡ false → eqb (length region) region_size ≡ true → Err Argument ≡ block_answer region n i t
     unfolding block_answer named_if
     no_table h e = rw (h, e)
 
   module _ (t offset capacity slots : ℕ) where
-    named-too : leb t last_table ≡ true → (v : Validated) → named region n ≡ v → named_if (leb t last_table) region n ≡ v
+    named-too : leb t last_table ≡ true → (v : Result Bank Refusal) → named region n ≡ v → named_if (leb t last_table) region n ≡ v
     unfolding named_if
     named-too h v e = rw h e
 
-    pub is-answer : (b : Bank) → leb t last_table ≡ true → named region n ≡ Good b → ltb i b.count ≡ true
+    pub is-answer : (b : Bank) → leb t last_table ≡ true → named region n ≡ Ok b → ltb i b.count ≡ true
         → read_answer (table_in region b i t) (column_count t) offset capacity slots ≡ bank_row_answer region n i t offset capacity slots
     unfolding bank_row_answer
-    is-answer b h e l = sym (ap (then_row region i t offset capacity slots) (named-too h (Good b) e) ∙ rw l)
+    is-answer b h e l = sym (ap (then_row region i t offset capacity slots) (named-too h (Ok b) e) ∙ rw l)
 
-    pub is-values : (b : Bank) → leb t last_table ≡ true → named region n ≡ Good b → values_at (table_in region b i t) (column_count t) offset ≡ values_in region n i t offset
+    pub is-values : (b : Bank) → leb t last_table ≡ true → named region n ≡ Ok b → values_at (table_in region b i t) (column_count t) offset ≡ values_in region n i t offset
     unfolding values_in
-    is-values b h e = sym (ap (then_values region i t offset) (named-too h (Good b) e))
+    is-values b h e = sym (ap (then_values region i t offset) (named-too h (Ok b) e))
 
 -- the block that is found, and what `source` refuses
 module _ (region : List ℕ) (n i t : ℕ) (h : leb t last_table ≡ true) where
-  if-named : (v : Validated) → named region n ≡ v → named_if (leb t last_table) region n ≡ v
+  if-named : (v : Result Bank Refusal) → named region n ≡ v → named_if (leb t last_table) region n ≡ v
   unfolding named_if
   if-named v e = rw h e
 
-  pub is_block : (source_answer region n i).outcome ≡ Done → Found (get_or (source_answer region n i).source.tables t no_block) ≡ block_answer region n i t
+  pub is_block : (source_answer region n i).outcome ≡ Ok tt → Ok (get_or (source_answer region n i).source.tables t no_block) ≡ block_answer region n i t
   unfolding block_answer
   is_block q =
       let s = there region n i q in
-      ap (λ (x : Source). Found (get_or x.tables t no_block)) s.is-source ∙ sym (ap (then_block region i t) (if-named (Good s.bank) s.is-named) ∙ rw s.below)
+      ap (λ (x : Source). Ok (get_or x.tables t no_block)) s.is-source ∙ sym (ap (then_block region i t) (if-named (Ok s.bank) s.is-named) ∙ rw s.below)
 
-  pub refused : (r : Refusal) → (source_answer region n i).outcome ≡ NoSource r → NoBlock r ≡ block_answer region n i t
+  pub refused : (r : Refusal) → (source_answer region n i).outcome ≡ Err r → Err r ≡ block_answer region n i t
   unfolding source_answer block_answer
   refused r q = by (named region n) refl q
     where
-      by : (v : Validated) → named region n ≡ v → (then_source region i v).outcome ≡ NoSource r → NoBlock r ≡ then_block region i t (named_if (leb t last_table) region n)
-      by (Bad x) e j = let k : x ≡ r = cc in sym (ap (then_block region i t) (if-named (Bad x) e) ∙ ap NoBlock k)
-      by (Good b) e j = go (ltb i b.count) refl j
+      by : (v : Result Bank Refusal) → named region n ≡ v → (then_source region i v).outcome ≡ Err r → Err r ≡ then_block region i t (named_if (leb t last_table) region n)
+      by (Err x) e j = let k : x ≡ r = cc in sym (ap (then_block region i t) (if-named (Err x) e) ∙ ap Err k)
+      by (Ok b) e j = go (ltb i b.count) refl j
         where
-          go : (s : Bool) → ltb i b.count ≡ s → (then_source region i (Good b)).outcome ≡ NoSource r → NoBlock r ≡ then_block region i t (named_if (leb t last_table) region n)
+          go : (s : Bool) → ltb i b.count ≡ s → (then_source region i (Ok b)).outcome ≡ Err r → Err r ≡ then_block region i t (named_if (leb t last_table) region n)
           go true l m = absurd (let z : ◌≡◌ {A = ℕ} 0 1 = cc in omega arith)
-          go false l m = let k : NoSuchSource ≡ r = cc in sym (ap (then_block region i t) (if-named (Good b) e) ∙ rw l (ap NoBlock k))
+          go false l m = let k : NoSuchSource ≡ r = cc in sym (ap (then_block region i t) (if-named (Ok b) e) ∙ rw l (ap Err k))
 
 -- the row by its table's block: answer and values are those asked for
 pub record IsRow (region : List ℕ) (n i t offset capacity slots : ℕ) (stored : List ℕ) (width : ℕ) : Type 0 where
@@ -111,24 +107,24 @@ pub record IsRow (region : List ℕ) (n i t offset capacity slots : ℕ) (stored
 
 module _ (region : List ℕ) (n i t offset capacity slots : ℕ) where
   -- a bank that passes has the number asked for
-  named-number : (f : Bool) (b : Bank) → named_if f region n ≡ Good b → b.number ≡ n
+  named-number : (f : Bool) (b : Bank) → named_if f region n ≡ Ok b → b.number ≡ n
   unfolding named_if
   named-number true b e = its-number region n b e
   named-number false b e = by (eqb (length region) region_size) e
     where
-      by : (s : Bool) → pick s (Bad Argument) (Bad Region) ≡ Good b → b.number ≡ n
+      by : (s : Bool) → pick s (Err Argument) (Err Region) ≡ Ok b → b.number ≡ n
       by true k = absurd (let z : ◌≡◌ {A = ℕ} 0 1 = cc in omega arith)
       by false k = absurd (let z : ◌≡◌ {A = ℕ} 0 1 = cc in omega arith)
 
-  pub block_row : (k : Block) → block_answer region n i t ≡ Found k → IsRow region n i t offset capacity slots (bytes_of region n k) (column_count t)
+  pub block_row : (k : Block) → block_answer region n i t ≡ Ok k → IsRow region n i t offset capacity slots (bytes_of region n k) (column_count t)
   unfolding block_answer bank_row_answer values_in
   block_row k q = by (named_if (leb t last_table) region n) refl q
     where
-      by : (v : Validated) → named_if (leb t last_table) region n ≡ v → then_block region i t v ≡ Found k → IsRow region n i t offset capacity slots (bytes_of region n k) (column_count t)
-      by (Bad x) e j = absurd (let z : ◌≡◌ {A = ℕ} 0 1 = cc in omega arith)
-      by (Good b) e j = go (ltb i b.count) refl j
+      by : (v : Result Bank Refusal) → named_if (leb t last_table) region n ≡ v → then_block region i t v ≡ Ok k → IsRow region n i t offset capacity slots (bytes_of region n k) (column_count t)
+      by (Err x) e j = absurd (let z : ◌≡◌ {A = ℕ} 0 1 = cc in omega arith)
+      by (Ok b) e j = go (ltb i b.count) refl j
         where
-          go : (s : Bool) → ltb i b.count ≡ s → pick s (Found (get_or (source_in region b i).tables t no_block)) (NoBlock NoSuchSource) ≡ Found k → IsRow region n i t offset capacity slots (bytes_of region n k) (column_count t)
+          go : (s : Bool) → ltb i b.count ≡ s → pick s (Ok (get_or (source_in region b i).tables t no_block)) (Err NoSuchSource) ≡ Ok k → IsRow region n i t offset capacity slots (bytes_of region n k) (column_count t)
           go true l m =
               let g : get_or (source_in region b i).tables t no_block ≡ k = cc in
               let w : bytes_of region n k ≡ table_in region b i t = λ u. bytes_of region (sym (named-number (leb t last_table) b e) u) (sym g u) in
@@ -138,14 +134,14 @@ module _ (region : List ℕ) (n i t offset capacity slots : ℕ) where
               }
           go false l m = absurd (let z : ◌≡◌ {A = ℕ} 0 1 = cc in omega arith)
 
-  pub block_refused : (r : Refusal) → block_answer region n i t ≡ NoBlock r → Refused r ≡ bank_row_answer region n i t offset capacity slots
+  pub block_refused : (r : Refusal) → block_answer region n i t ≡ Err r → Err r ≡ bank_row_answer region n i t offset capacity slots
   unfolding block_answer bank_row_answer
   block_refused r q = by (named_if (leb t last_table) region n) q
     where
-      by : (v : Validated) → then_block region i t v ≡ NoBlock r → Refused r ≡ then_row region i t offset capacity slots v
-      by (Bad x) j = let k : x ≡ r = cc in ap Refused (sym k)
-      by (Good b) j = go (ltb i b.count) j
+      by : (v : Result Bank Refusal) → then_block region i t v ≡ Err r → Err r ≡ then_row region i t offset capacity slots v
+      by (Err x) j = let k : x ≡ r = cc in ap Err (sym k)
+      by (Ok b) j = go (ltb i b.count) j
         where
-          go : (s : Bool) → pick s (Found (get_or (source_in region b i).tables t no_block)) (NoBlock NoSuchSource) ≡ NoBlock r → Refused r ≡ pick s (read_answer (table_in region b i t) (column_count t) offset capacity slots) (Refused NoSuchSource)
+          go : (s : Bool) → pick s (Ok (get_or (source_in region b i).tables t no_block)) (Err NoSuchSource) ≡ Err r → Err r ≡ pick s (read_answer (table_in region b i t) (column_count t) offset capacity slots) (Err NoSuchSource)
           go true m = absurd (let z : ◌≡◌ {A = ℕ} 0 1 = cc in omega arith)
-          go false m = let k : NoSuchSource ≡ r = cc in ap Refused (sym k)
+          go false m = let k : NoSuchSource ≡ r = cc in ap Err (sym k)

@@ -6,7 +6,6 @@ use Prim.Native.Nat.{ℕ}
 use borrow.Author.Tests.{lt-ltb, le-leb}
 use lib.Dec.{leb, ltb}
 use Rattle.header.specs.declared.Bank.{Bank}
-use Rattle.header.specs.declared.Validated.TheVariants.{Good}
 use Rattle.bank.specs.Bank.{named}
 use Rattle.row.specs.Columns.{columns_of, column_count, names_line}
 use Rattle.row.proofs.Names.{names-are-a-row}
@@ -16,11 +15,12 @@ use Rattle.snapshot.specs.Rows.{table_in}
 use Rattle.snapshot.specs.Claims.{BankReads, at_end, onward, ReadsBank}
 use Rattle.snapshot.proofs.RowsLaws.{is-answer, is-values}
 use Rattle.base.specs.Table.{last_table}
+use Rattle.std.specs.Prelude.{Ok}
 
 abbrev Text : Type 0
 Text = List ℕ
 
-module _ (region : Text) (n i t capacity slots : ℕ) (b : Bank) (e : named region n ≡ Good b) (l : ltb i b.count ≡ true) (h : leb t last_table ≡ true) where
+module _ (region : Text) (n i t capacity slots : ℕ) (b : Bank) (e : named region n ≡ Ok b) (l : ltb i b.count ≡ true) (h : leb t last_table ≡ true) where
   -- what is read of the table's bytes is read of the bank
   from-table : (offset : ℕ) (rows : List (List Text)) → Reads (table_in region b i t) (column_count t) capacity slots offset rows → BankReads region n i t capacity slots offset rows
   from-table offset [] (end_of_table q) = at_end (sym (is-answer region n i t offset capacity slots b h e l) ∙ q)

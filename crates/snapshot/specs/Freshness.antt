@@ -1,5 +1,5 @@
 -- Freshness: `Bank::fresh`, with three dates and three wanted-day flags.
-use Rattle.std.specs.Prelude.{Bool, false, not, ◌&&◌, ◌||◌, List, [], ◌∷◌, ℕ, leb, eqb, ℤ, pos, negsuc, length}
+use Rattle.std.specs.Prelude.{Bool, false, not, ◌&&◌, ◌||◌, List, [], ◌∷◌, ℕ, leb, eqb, ℤ, pos, negsuc, length, Ok, Err, Result}
 use Rattle.std.specs.Int.Signed.{le_z}
 use Rattle.base.specs.Number.{pick, max_signed}
 use Rattle.leaf.specs.Date.{valid_date}
@@ -7,20 +7,17 @@ use Rattle.refusal.specs.declared.Refusal.TheVariants.{Region, Argument}
 use Rattle.record.specs.declared.Source.{Source}
 use Rattle.base.specs.Lists.{each}
 use Rattle.header.specs.declared.Bank.{Bank}
-use Rattle.header.specs.declared.Validated.{Validated}
-use Rattle.header.specs.declared.Validated.TheVariants.{Good, Refused as Bad}
 use Rattle.region.specs.Region.{region_size, bank_of}
 use Rattle.header.specs.Header.{records_of}
 use Rattle.bank.specs.Bank.{named}
 use Rattle.snapshot.specs.declared.freshness.Day.{Day}
 use Rattle.snapshot.specs.declared.freshness.Days.{Days}
 use Rattle.snapshot.specs.declared.freshness.Freshness.{Freshness}
-use Rattle.snapshot.specs.declared.freshness.FreshAnswer.{FreshAnswer}
-use Rattle.snapshot.specs.declared.freshness.FreshAnswer.TheVariants.{Fresh, Refused}
+use Rattle.refusal.specs.declared.Refusal.{Refusal}
 
 -- `fits` says whether a call's other arguments pass 2; they are tested with the bank's number: 1, 2, then 3 to 6
-unfoldable pub named_if : Bool → List ℕ → ℕ → Validated
-named_if fits region n = pick fits (named region n) (pick (eqb (length region) region_size) (Bad Argument) (Bad Region))
+unfoldable pub named_if : Bool → List ℕ → ℕ → Result Bank Refusal
+named_if fits region n = pick fits (named region n) (pick (eqb (length region) region_size) (Err Argument) (Err Region))
 
 -- the lowest signed value means unknown
 abbrev pub unknown : ℤ
@@ -81,13 +78,13 @@ freshness region b days now =
       updated = updated_at now (used (days_of days) (records_of b.version (bank_of region b.number) b.count));
     }
 
-abbrev pub then_fresh : List ℕ → Days → ℤ → Validated → FreshAnswer
-then_fresh region days now (Good b) = Fresh (freshness region b days now)
-then_fresh region days now (Bad r) = Refused r
+abbrev pub then_fresh : List ℕ → Days → ℤ → Result Bank Refusal → Result Freshness Refusal
+then_fresh region days now (Ok b) = Ok (freshness region b days now)
+then_fresh region days now (Err r) = Err r
 
 -- all three days are dates, those not wanted too
 abbrev pub is_day : Day → Bool
 is_day d = valid_date d.date
 
-unfoldable pub fresh_answer : List ℕ → ℕ → Days → ℤ → FreshAnswer
+unfoldable pub fresh_answer : List ℕ → ℕ → Days → ℤ → Result Freshness Refusal
 fresh_answer region n days now = then_fresh region days now (named_if (each is_day (days_of days)) region n)

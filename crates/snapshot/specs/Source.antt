@@ -1,5 +1,5 @@
 -- A source of a loaded bank.
-use Rattle.std.specs.Prelude.{List, ◌++◌, ℕ, ◌+◌, ◌*◌, ◌-◌, ltb}
+use Rattle.std.specs.Prelude.{List, ◌++◌, ℕ, ◌+◌, ◌*◌, ◌-◌, ltb, Ok, Err, Result}
 use Rattle.base.specs.Number.{pick}
 use Rattle.refusal.specs.declared.Refusal.{Refusal}
 use Rattle.refusal.specs.declared.Refusal.TheVariants.{Source as NoSuchSource}
@@ -7,12 +7,9 @@ use Rattle.record.specs.declared.Source.{Source}
 use Rattle.record.specs.Record.{source_size, no_source}
 use Rattle.base.specs.Lists.{fill}
 use Rattle.header.specs.declared.Bank.{Bank}
-use Rattle.header.specs.declared.Validated.{Validated}
-use Rattle.header.specs.declared.Validated.TheVariants.{Good, Refused as Bad}
 use Rattle.region.specs.Region.{bank_of}
 use Rattle.header.specs.Header.{record_at, records_of, records_offset, max_sources}
 use Rattle.bank.specs.Bank.{named}
-use Rattle.snapshot.specs.declared.Outcome.TheVariants.{Done, Refused}
 use Rattle.snapshot.specs.declared.source.SourceAnswer.{SourceAnswer}
 use Rattle.snapshot.specs.declared.source.Records.{Records}
 
@@ -21,11 +18,11 @@ unfoldable pub source_in : List ℕ → Bank → ℕ → Source
 source_in region b i = record_at b.version (bank_of region b.number) (records_offset + i * source_size b.version)
 
 abbrev pub refuse : Refusal → SourceAnswer
-refuse r = record { outcome = Refused r; source = no_source }
+refuse r = record { outcome = Err r; source = no_source }
 
-abbrev pub then_source : List ℕ → ℕ → Validated → SourceAnswer
-then_source region i (Good b) = pick (ltb i b.count) (record { outcome = Done; source = source_in region b i }) (refuse NoSuchSource)
-then_source region i (Bad r) = refuse r
+abbrev pub then_source : List ℕ → ℕ → Result Bank Refusal → SourceAnswer
+then_source region i (Ok b) = pick (ltb i b.count) (record { outcome = (Ok tt); source = source_in region b i }) (refuse NoSuchSource)
+then_source region i (Err r) = refuse r
 
 -- 1, 2, 3 to 6, and 6 at or past the count
 unfoldable pub source_answer : List ℕ → ℕ → ℕ → SourceAnswer
@@ -36,11 +33,11 @@ unfoldable pub sources_in : List ℕ → Bank → List Source
 sources_in region b = records_of b.version (bank_of region b.number) b.count ++ fill no_source (max_sources - b.count)
 
 abbrev pub refuse_all : Refusal → Records
-refuse_all r = record { outcome = Refused r; sources = fill no_source max_sources }
+refuse_all r = record { outcome = Err r; sources = fill no_source max_sources }
 
-abbrev pub then_sources : List ℕ → Validated → Records
-then_sources region (Good b) = record { outcome = Done; sources = sources_in region b }
-then_sources region (Bad r) = refuse_all r
+abbrev pub then_sources : List ℕ → Result Bank Refusal → Records
+then_sources region (Ok b) = record { outcome = (Ok tt); sources = sources_in region b }
+then_sources region (Err r) = refuse_all r
 
 -- 1, 2, 3 to 6
 unfoldable pub sources_answer : List ℕ → ℕ → Records

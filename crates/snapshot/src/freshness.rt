@@ -9,7 +9,7 @@ ghost use Rattle.snapshot.specs.Steps as Steps;
 
 use crate::header_if;
 use base::number::le;
-use header::{Bank, RECORDS_OFFSET, Validated, record_at};
+use header::{Bank, RECORDS_OFFSET, record_at};
 use leaf::date::valid_date;
 use record::{Source, source_size};
 use refusal::Refusal;
@@ -34,12 +34,6 @@ pub struct Days {
 pub struct Freshness {
     pub checked: i64,
     pub updated: i64,
-}
-
-#[derive(Clone, Copy)]
-pub enum FreshAnswer {
-    Fresh(Freshness),
-    Refused(Refusal),
 }
 
 // Of the sources used so far: whether there is one, whether each has a known time, and the oldest time.
@@ -192,16 +186,16 @@ fn are_days(d: Days) -> bool
 }
 
 // How fresh a bank is at time `at`, for three days.
-pub fn fresh(region: &[u8], number: u32, days: Days, at: i64) -> FreshAnswer
+pub fn fresh(region: &[u8], number: u32, days: Days, at: i64) -> Result<Freshness, Refusal>
     ensures { result ≡ Fresh.fresh_answer region.now number days at }
 {
     let fits = are_days(days);
     let h = header_if(fits, region, number);
     match h {
-        Validated::Good(b) => {
+        Ok(b) => {
             let f = fresh_in(region, b, days, at);
-            FreshAnswer::Fresh(f)
+            Ok(f)
         }
-        Validated::Refused(r) => FreshAnswer::Refused(r),
+        Err(r) => Err(r),
     }
 }

@@ -4,8 +4,9 @@ ghost use Rattle.snapshot.specs.KeyMatch as Keys;
 
 use crate::header_if;
 use base::slice::part;
-use header::{Bank, Validated};
-use key::{SameKey, picks_fit};
+use header::Bank;
+use key::picks_fit;
+use refusal::Refusal;
 use region::{SECTOR_SIZE, bank_of};
 
 // A bank's key: the first bytes of its data.
@@ -23,16 +24,16 @@ pub fn same_key(
     identity: &[u8],
     texts: &[u8],
     lengths: &[u32],
-) -> SameKey
+) -> Result<bool, Refusal>
     ensures { result ≡ Keys.key_match_answer region.now number identity.now texts.now lengths.now }
 {
     let fit = picks_fit(texts, lengths);
     let h = header_if(fit, region, number);
     match h {
-        Validated::Good(b) => {
+        Ok(b) => {
             let stored = key_in(region, b);
             key::same_key(stored, identity, texts, lengths)
         }
-        Validated::Refused(r) => SameKey::Refused(r),
+        Err(r) => Err(r),
     }
 }

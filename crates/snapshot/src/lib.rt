@@ -10,25 +10,19 @@ ghost use Rattle.std.specs.Prelude.{◌≡◌};
 ghost use Rattle.snapshot.specs.Freshness as Fresh;
 
 use bank::header;
-use header::Validated;
+use header::Bank;
 use refusal::Refusal;
 use region::REGION_SIZE;
 
-#[derive(Clone, Copy)]
-pub enum Outcome {
-    Done,
-    Refused(Refusal),
-}
-
 // Tests a bank as `bank::header` does; `fits` says whether the call's other arguments pass 2.
-fn header_if(fits: bool, region: &[u8], number: u32) -> Validated
+fn header_if(fits: bool, region: &[u8], number: u32) -> Result<Bank, Refusal>
     ensures { result ≡ Fresh.named_if fits region.now number }
 {
     if fits {
         return header(region, number);
     }
     if region.len() != REGION_SIZE {
-        return Validated::Refused(Refusal::Region);
+        return Err(Refusal::Region);
     }
-    Validated::Refused(Refusal::Argument)
+    Err(Refusal::Argument)
 }

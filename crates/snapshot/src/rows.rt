@@ -6,14 +6,13 @@ ghost use Rattle.rowread.specs.Stored.{joined, ends_of, after};
 ghost use Rattle.snapshot.specs.Rows.{bytes_of, block_answer, values_in, bank_row_answer};
 ghost use Rattle.base.specs.Table.{last_table};
 
-use crate::Outcome;
 use base::slice::part;
 use base::table::LAST_TABLE;
 use record::{Block, Source};
 use refusal::Refusal;
 use region::{REGION_SIZE, SECTOR_SIZE, bank_of};
 use row::column_count;
-use rowread::{ReadAnswer, read_row};
+use rowread::{Stored, read_row};
 
 // The block of a table.
 fn block_of(s: Source, table: u32) -> Block
@@ -34,32 +33,25 @@ pub fn bytes_of(region: &[u8], number: u32, b: Block) -> &[u8]
     part(l, at, b.length as usize)
 }
 
-// A table's block, or a refusal.
-#[derive(Clone, Copy)]
-pub enum BlockAnswer {
-    Found(Block),
-    Refused(Refusal),
-}
-
 // The block of a table of a bank's source.
-pub fn table_block(region: &[u8], number: u32, source: u32, table: u32) -> BlockAnswer
+pub fn table_block(region: &[u8], number: u32, source: u32, table: u32) -> Result<Block, Refusal>
     ensures { result ≡ block_answer region.now number source table }
 {
     if LAST_TABLE < table {
         if region.len() != REGION_SIZE {
-            return BlockAnswer::Refused(Refusal::Region);
+            return Err(Refusal::Region);
         }
-        return BlockAnswer::Refused(Refusal::Argument);
+        return Err(Refusal::Argument);
     }
     let a = crate::source::source(region, number, source);
     let o = a.outcome;
     match o {
-        Outcome::Done => {
+        Ok(()) => {
             let s = a.source;
             let b = block_of(s, table);
-            BlockAnswer::Found(b)
+            Ok(b)
         }
-        Outcome::Refused(r) => BlockAnswer::Refused(r),
+        Err(r) => Err(r),
     }
 }
 
@@ -72,17 +64,17 @@ pub fn bank_row(
     offset: usize,
     out: &mut [u8],
     ends: &mut [usize],
-) -> ReadAnswer
+) -> Result<Option<Stored>, Refusal>
     ensures { (result ≡ bank_row_answer region.now number source table offset (length out.old) (length ends.old)) × (out.new ≡ after result (joined (values_in region.now number source table offset)) out.old) × (ends.new ≡ after result (ends_of 0 (values_in region.now number source table offset)) ends.old) }
 {
     let a = table_block(region, number, source, table);
     match a {
-        BlockAnswer::Found(b) => {
+        Ok(b) => {
             let stored = bytes_of(region, number, b);
             let width = column_count(table);
             read_row(stored, width, offset, out, ends)
         }
-        BlockAnswer::Refused(r) => ReadAnswer::Refused(r),
+        Err(r) => Err(r),
     }
 }
 

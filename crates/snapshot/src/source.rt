@@ -5,9 +5,8 @@ ghost use Rattle.record.specs.Record.{no_source};
 ghost use Rattle.base.specs.Lists.{fill};
 ghost use Rattle.snapshot.specs.Source as Sources;
 
-use crate::Outcome;
 use bank::header;
-use header::{Bank, RECORDS_OFFSET, SOURCES, Validated, record_at};
+use header::{Bank, RECORDS_OFFSET, SOURCES, record_at};
 use record::{Source, no_source, source_size};
 use refusal::Refusal;
 use region::bank_of;
@@ -15,14 +14,14 @@ use region::bank_of;
 // A source; zeros on a refusal.
 #[derive(Clone, Copy)]
 pub struct SourceAnswer {
-    pub outcome: Outcome,
+    pub outcome: Result<(), Refusal>,
     pub source: Source,
 }
 
 // The sources below the count, and zeros after them; only zeros on a refusal.
 #[derive(Clone, Copy)]
 pub struct Records {
-    pub outcome: Outcome,
+    pub outcome: Result<(), Refusal>,
     pub sources: [Source; SOURCES],
 }
 
@@ -31,7 +30,7 @@ fn refuse(r: Refusal) -> SourceAnswer
 {
     let source = no_source();
     SourceAnswer {
-        outcome: Outcome::Refused(r),
+        outcome: Err(r),
         source,
     }
 }
@@ -50,17 +49,17 @@ pub fn source(region: &[u8], number: u32, i: u32) -> SourceAnswer
 {
     let h = header(region, number);
     match h {
-        Validated::Good(b) => {
+        Ok(b) => {
             if i < b.count {
                 let source = source_in(region, b, i);
                 return SourceAnswer {
-                    outcome: Outcome::Done,
+                    outcome: Ok(()),
                     source,
                 };
             }
             refuse(Refusal::Source)
         }
-        Validated::Refused(r) => refuse(r),
+        Err(r) => refuse(r),
     }
 }
 
@@ -70,7 +69,7 @@ fn refuse_all(r: Refusal) -> Records
     let z = no_source();
     let sources = [z; SOURCES];
     Records {
-        outcome: Outcome::Refused(r),
+        outcome: Err(r),
         sources,
     }
 }
@@ -98,14 +97,14 @@ pub fn sources(region: &[u8], number: u32) -> Records
 {
     let h = header(region, number);
     match h {
-        Validated::Good(b) => {
+        Ok(b) => {
             let l = bank_of(region, b.number);
             let sources = records_at(l, b.version, b.count as usize);
             Records {
-                outcome: Outcome::Done,
+                outcome: Ok(()),
                 sources,
             }
         }
-        Validated::Refused(r) => refuse_all(r),
+        Err(r) => refuse_all(r),
     }
 }

@@ -3,7 +3,6 @@
 use mathlib.Core.Path.{◌≡◌, refl, sym, ap, ◌∙◌}
 use mathlib.Core.Bool.{Bool, true, false, not, ◌&&◌, ◌||◌, false≢true}
 use mathlib.Core.List.{List, [], ◌∷◌, ◌++◌}
-use mathlib.Core.Option.{Option, none, some}
 use Prim.Native.Nat.{ℕ, zero, suc, ◌+◌, ◌*◌, ◌/◌, ◌%◌, ◌≤◌, ◌<◌}
 use native.Mathlib.Omega.{arith}
 use lib.Dec.{leb, ltb, eqb}
@@ -16,14 +15,10 @@ use Rattle.refusal.specs.declared.Refusal.{Refusal}
 use Rattle.refusal.specs.declared.Refusal.TheVariants.{Region, Argument, Identity, Small, Full, Turn, Row}
 use Rattle.leaf.specs.Bytes.{le32, written}
 use Rattle.leaf.proofs.Laws.{length-written}
-use Rattle.key.specs.declared.KeyAnswer.{KeyAnswer}
-use Rattle.key.specs.declared.KeyAnswer.TheVariants.{Written as KeyWritten, Refused as KeyRefused}
 use Rattle.key.specs.Picks as Picks
 use Rattle.key.specs.Layout.{prefix, key_of, every, sized, fit, key_answer, within as key_within, after as key_after, max_identity}
 use Rattle.key.proofs.Sizes.{entry-small, small, few}
 use Rattle.key.proofs.Answers.{key-length}
-use Rattle.row.specs.declared.RowAnswer.{RowAnswer}
-use Rattle.row.specs.declared.RowAnswer.TheVariants.{Written, Refused as RowRefused}
 use Rattle.row.specs.Columns.{column_count, columns_of, columns, line, names_line}
 use Rattle.rfc4180.specs.Write.{row_of}
 use Rattle.row.specs.Write.{within, after, passed_values, names_answer, row_answer}
@@ -31,10 +26,8 @@ use Rattle.record.specs.declared.Source.{Source}
 use Rattle.header.specs.Header.{max_sources}
 use Rattle.region.specs.Region.{region_size, capacity}
 use Rattle.base.proofs.Bools.{and_left, and_right, both_true}
-use Rattle.bank.specs.declared.Loaded.TheVariants.{Refused as NotRead}
 use Rattle.bank.specs.Bank.{loaded}
 use Rattle.flash.specs.Flash.{performed}
-use Rattle.writer.specs.declared.Answer.TheVariants.{Refused}
 use Rattle.writer.specs.declared.Writer.{Writer}
 use Rattle.writer.specs.declared.Step.{Step}
 use Rattle.writer.specs.State.{did, stays, is_done, position, is_open, in_range}
@@ -47,6 +40,7 @@ use Rattle.run.proofs.Laws.{appends-append, then-writer, then-region}
 use Rattle.rfc4180.specs.Csv.{max_row}
 use Rattle.base.specs.Table.{last_table}
 use Rattle.upper.specs.Sizes.{names_size, max_body}
+use Rattle.std.specs.Prelude.{Ok, Err, Result, Some, None, Option}
 
 -- what is due, then a lower call that does no operation, then other calls
 abbrev pub Still : Lower → Type 0
@@ -83,7 +77,7 @@ module _ (region : List ℕ) (w : Writer) (u : Upper) where
   abbrev Leaves : Step → List ℕ → Type 0
   Leaves s r = (s ≡ upper_step region w u) × (r ≡ upper_region region w u)
 
-  refused : (x : Refusal) → refusal_of region w u ≡ some x → Leaves (stays w x) region
+  refused : (x : Refusal) → refusal_of region w u ≡ Some x → Leaves (stays w x) region
   unfolding upper_step upper_region upper_run ran_writer ran_region
   refused x e = (
     sym (ap (λ (o : Option Refusal). answered o (ran_writer region w (run_if o (run_of u)))) e),
@@ -92,8 +86,8 @@ module _ (region : List ℕ) (w : Writer) (u : Upper) where
 
   left_by : (r : Option Refusal) (cs : List Lower) → let s = answered r (ran_writer region w (run_if r cs)) in is_done s.answer ≡ false → s.writer ≡ w
   unfolding ran_writer
-  left_by none cs e = absurd (false≢true (sym e))
-  left_by (some x) cs e = refl
+  left_by None cs e = absurd (false≢true (sym e))
+  left_by (Some x) cs e = refl
 
   -- a call that isn't done leaves the state
   pub upper-left : is_done (upper_step region w u).answer ≡ false → (upper_step region w u).writer ≡ w
@@ -121,7 +115,7 @@ module _ (region : List ℕ) (w : Writer) (u : Upper) where
     unfolding refusal_of
     upper-full e f g x = refused Full (rw (eq-eqb (length region) region_size h, e, f, g, x))
 
-    passed : argument_ok u ≡ true → order_ok w u ≡ true → row_ok w u ≡ true → all_fits w u ≡ true → refusal_of region w u ≡ none
+    passed : argument_ok u ≡ true → order_ok w u ≡ true → row_ok w u ≡ true → all_fits w u ≡ true → refusal_of region w u ≡ None
     unfolding refusal_of
     passed e f g x = rw (eq-eqb (length region) region_size h, e, f, g, x)
 
@@ -186,55 +180,55 @@ names-fit (suc (suc (suc (suc (suc (suc zero)))))) h = omega arith
 names-fit (suc (suc (suc (suc (suc (suc (suc zero))))))) h = omega arith
 names-fit (suc (suc (suc (suc (suc (suc (suc (suc n)))))))) h = absurd (omega arith)
 
-module _ (t : ℕ) (out o : List ℕ) (a : RowAnswer) (h : t ≤ last_table) (l : length out ≡ names_size) (e : a ≡ names_answer t (length out)) (k : o ≡ after a (names_line t) out) where
+module _ (t : ℕ) (out o : List ℕ) (a : Result ℕ Refusal) (h : t ≤ last_table) (l : length out ≡ names_size) (e : a ≡ names_answer t (length out)) (k : o ≡ after a (names_line t) out) where
   names-inside : length (names_line t) ≤ length out
   names-inside = omega (arith, names-fit t h)
 
-  names-answer : a ≡ Written (length (names_line t))
+  names-answer : a ≡ Ok (length (names_line t))
   unfolding names_answer within
   names-answer = e ∙ rw (le-leb t 7 h, le-leb (length (names_line t)) (length out) names-inside)
 
-  pub names-there : (n : ℕ) → a ≡ Written n → (n ≤ names_size) × (n ≡ length (names_line t)) × (take n o ≡ names_line t)
+  pub names-there : (n : ℕ) → a ≡ Ok n → (n ≤ names_size) × (n ≡ length (names_line t)) × (take n o ≡ names_line t)
   names-there n x =
       let m : n ≡ length (names_line t) = cc names-answer in (
         omega (arith, names-fit t h),
         m,
-        (λ i. take (m i) ((k ∙ ap (λ (b : RowAnswer). after b (names_line t) out) names-answer) i)) ∙ start_is (names_line t) out names-inside,
+        (λ i. take (m i) ((k ∙ ap (λ (b : Result ℕ Refusal). after b (names_line t) out) names-answer) i)) ∙ start_is (names_line t) out names-inside,
       )
 
-  pub names-never : (x : Refusal) → a ≡ RowRefused x → ⊥
+  pub names-never : (x : Refusal) → a ≡ Err x → ⊥
   names-never x f = let z : ◌≡◌ {A = ℕ} 0 1 = cc names-answer in omega arith
 
 -- ---- a row
 
 -- in a buffer for the longest row: it is written, or it is no row
-by_two : (p q : Bool) (m : ℕ) (x : Refusal) → pick p (pick q (pick q (Written m) (RowRefused Small)) (RowRefused Row)) (RowRefused Row) ≡ RowRefused x → (p && q) ≡ false
+by_two : (p q : Bool) (m : ℕ) (x : Refusal) → pick p (pick q (pick q (Ok m) (Err Small)) (Err Row)) (Err Row) ≡ Err x → (p && q) ≡ false
 by_two true true m x e = cc
 by_two true false m x e = refl
 by_two false q m x e = refl
 
 -- in any buffer: what is written is a row, and fits
-by_three : (p q r : Bool) (m n : ℕ) → pick p (pick q (pick r (Written m) (RowRefused Small)) (RowRefused Row)) (RowRefused Row) ≡ Written n → ((p && q) ≡ true) × (n ≡ m) × (r ≡ true)
+by_three : (p q r : Bool) (m n : ℕ) → pick p (pick q (pick r (Ok m) (Err Small)) (Err Row)) (Err Row) ≡ Ok n → ((p && q) ≡ true) × (n ≡ m) × (r ≡ true)
 by_three true true true m n e = (refl, cc, refl)
 by_three true true false m n e = (cc, cc, cc)
 by_three true false r m n e = (cc, cc, cc)
 by_three false q r m n e = (cc, cc, cc)
 
-module _ (t : ℕ) (texts lengths out o : List ℕ) (a : RowAnswer) (h : t ≤ last_table) (e : a ≡ row_answer t texts lengths (length out)) (k : o ≡ after a (row_of (passed_values texts lengths)) out) where
+module _ (t : ℕ) (texts lengths out o : List ℕ) (a : Result ℕ Refusal) (h : t ≤ last_table) (e : a ≡ row_answer t texts lengths (length out)) (k : o ≡ after a (row_of (passed_values texts lengths)) out) where
   abbrev row-size : ℕ
   row-size = length (row_of (passed_values texts lengths))
 
   abbrev row-ok : Bool
   row-ok = eqb (length lengths) (column_count t) && leb row-size max_row
 
-  row-answer : a ≡ pick (eqb (length lengths) (column_count t)) (pick (leb row-size max_row) (pick (leb row-size (length out)) (Written row-size) (RowRefused Small)) (RowRefused Row)) (RowRefused Row)
+  row-answer : a ≡ pick (eqb (length lengths) (column_count t)) (pick (leb row-size max_row) (pick (leb row-size (length out)) (Ok row-size) (Err Small)) (Err Row)) (Err Row)
   unfolding row_answer within
   row-answer = e ∙ rw (le-leb t 7 h)
 
-  pub row-not : length out ≡ max_row → (x : Refusal) → a ≡ RowRefused x → row-ok ≡ false
+  pub row-not : length out ≡ max_row → (x : Refusal) → a ≡ Err x → row-ok ≡ false
   row-not l x f = by_two (eqb (length lengths) (column_count t)) (leb row-size max_row) row-size x (sym (rw l at row-answer) ∙ f)
 
-  module _ (n : ℕ) (f : a ≡ Written n) where
+  module _ (n : ℕ) (f : a ≡ Ok n) where
     row-all : (row-ok ≡ true) × (n ≡ row-size) × (leb row-size (length out) ≡ true)
     row-all = by_three (eqb (length lengths) (column_count t)) (leb row-size max_row) (leb row-size (length out)) row-size n (sym row-answer ∙ f)
 
@@ -242,7 +236,7 @@ module _ (t : ℕ) (texts lengths out o : List ℕ) (a : RowAnswer) (h : t ≤ l
     row_written = (row-all.0, row-all.1)
 
     row_out : o ≡ written out 0 (row_of (passed_values texts lengths))
-    row_out = k ∙ ap (λ (b : RowAnswer). after b (row_of (passed_values texts lengths)) out) f
+    row_out = k ∙ ap (λ (b : Result ℕ Refusal). after b (row_of (passed_values texts lengths)) out) f
 
     pub row-length : n ≤ length o
     row-length = omega (arith, row-all.1, leb-true row-size (length out) row-all.2, ap length row_out, length-written out 0 (row_of (passed_values texts lengths)))
@@ -278,24 +272,24 @@ body-short b l h =
     let m = small (Picks.count l) (Picks.pick_at b l) (entry-small (Picks.text b l) (Picks.count l) t.1) in
     omega (arith, key-length [] (Picks.passed_picks b l), few (Picks.count l) (Picks.pick_at b l), m)
 
-key-true : (p : Bool) (m n : ℕ) → pick p (KeyWritten m) (KeyRefused Argument) ≡ KeyWritten n → (p ≡ true) × (n ≡ m)
+key-true : (p : Bool) (m n : ℕ) → pick p (Ok m) (Err Argument) ≡ Ok n → (p ≡ true) × (n ≡ m)
 key-true true m n e = (refl, cc)
 key-true false m n e = (cc, cc)
 
-key-false : (p : Bool) (m : ℕ) (x : Refusal) → pick p (KeyWritten m) (KeyRefused Argument) ≡ KeyRefused x → p ≡ false
+key-false : (p : Bool) (m : ℕ) (x : Refusal) → pick p (Ok m) (Err Argument) ≡ Err x → p ≡ false
 key-false true m x e = cc
 key-false false m x e = refl
 
-module _ (b l out o : List ℕ) (a : KeyAnswer) (h : length out ≡ max_body) (e : a ≡ key_answer [] b l (length out)) (k : o ≡ key_after a (key_of [] (Picks.passed_picks b l)) out) where
-  key-by : (p : Bool) → fit b l ≡ p → a ≡ pick p (KeyWritten (length (key_of [] (Picks.passed_picks b l)))) (KeyRefused Argument)
+module _ (b l out o : List ℕ) (a : Result ℕ Refusal) (h : length out ≡ max_body) (e : a ≡ key_answer [] b l (length out)) (k : o ≡ key_after a (key_of [] (Picks.passed_picks b l)) out) where
+  key-by : (p : Bool) → fit b l ≡ p → a ≡ pick p (Ok (length (key_of [] (Picks.passed_picks b l)))) (Err Argument)
   unfolding key_answer key_within
   key-by true f = e ∙ rw (f, le-leb (length (key_of [] (Picks.passed_picks b l))) (length out) (omega (arith, body-short b l f)))
   key-by false f = e ∙ rw f
 
-  pub key-not : (x : Refusal) → a ≡ KeyRefused x → fit b l ≡ false
+  pub key-not : (x : Refusal) → a ≡ Err x → fit b l ≡ false
   key-not x f = key-false (fit b l) (length (key_of [] (Picks.passed_picks b l))) x (sym (key-by (fit b l) refl) ∙ f)
 
-  module _ (n : ℕ) (f : a ≡ KeyWritten n) where
+  module _ (n : ℕ) (f : a ≡ Ok n) where
     key-both : (fit b l ≡ true) × (n ≡ length (key_of [] (Picks.passed_picks b l)))
     key-both = key-true (fit b l) (length (key_of [] (Picks.passed_picks b l))) n (sym (key-by (fit b l) refl) ∙ f)
 
@@ -303,7 +297,7 @@ module _ (b l out o : List ℕ) (a : KeyAnswer) (h : length out ≡ max_body) (e
     key-fit = key-both.0
 
     key-out : o ≡ written out 0 (key_of [] (Picks.passed_picks b l))
-    key-out = k ∙ ap (λ (x : KeyAnswer). key_after x (key_of [] (Picks.passed_picks b l)) out) f
+    key-out = k ∙ ap (λ (x : Result ℕ Refusal). key_after x (key_of [] (Picks.passed_picks b l)) out) f
 
     pub key-inside : n ≤ length o
     key-inside = omega (arith, key-both.1, body-short b l key-fit, ap length key-out, length-written out 0 (key_of [] (Picks.passed_picks b l)))
@@ -319,27 +313,27 @@ module _ (region : List ℕ) (comparing : Bool) (now : ℤ) (id b l : List ℕ) 
   abbrev first : Writer
   first = started (loaded region) comparing now
 
-  begin-refused : (x : Refusal) → begin_refusal region id b l ≡ some x → Begins (record { answer = Refused x; writer = started (NotRead x) comparing now }) region
+  begin-refused : (x : Refusal) → begin_refusal region id b l ≡ Some x → Begins (record { answer = Err x; writer = started (Err x) comparing now }) region
   unfolding begin_step begin_region begin_run ran_region
   begin-refused x e = (
     sym (ap (λ (o : Option Refusal). began_with o (ran_writer region first (run_if o (appends (key_bytes id b l)))) comparing now) e),
     sym (ap (λ (o : Option Refusal). ran_region region first (run_if o (appends (key_bytes id b l)))) e),
   )
 
-  pub begin-region : (length region ≡ region_size → ⊥) → Begins (record { answer = Refused Region; writer = started (NotRead Region) comparing now }) region
+  pub begin-region : (length region ≡ region_size → ⊥) → Begins (record { answer = Err Region; writer = started (Err Region) comparing now }) region
   unfolding begin_refusal
   begin-region h = begin-refused Region (rw (ne_eqb (length region) region_size h))
 
   module _ (h : length region ≡ region_size) where
-    pub begin-argument : fit b l ≡ false → Begins (record { answer = Refused Argument; writer = started (NotRead Argument) comparing now }) region
+    pub begin-argument : fit b l ≡ false → Begins (record { answer = Err Argument; writer = started (Err Argument) comparing now }) region
     unfolding begin_refusal
     begin-argument e = begin-refused Argument (rw (eq-eqb (length region) region_size h, e))
 
-    pub begin-identity : fit b l ≡ true → max_identity < length id → Begins (record { answer = Refused Identity; writer = started (NotRead Identity) comparing now }) region
+    pub begin-identity : fit b l ≡ true → max_identity < length id → Begins (record { answer = Err Identity; writer = started (Err Identity) comparing now }) region
     unfolding begin_refusal
     begin-identity e k = begin-refused Identity (rw (eq-eqb (length region) region_size h, e, lt-leb (length id) max_identity k))
 
-    begin-passed : fit b l ≡ true → length id ≤ max_identity → begin_refusal region id b l ≡ none
+    begin-passed : fit b l ≡ true → length id ≤ max_identity → begin_refusal region id b l ≡ None
     unfolding begin_refusal
     begin-passed e k = rw (eq-eqb (length region) region_size h, e, le-leb (length id) max_identity k)
 

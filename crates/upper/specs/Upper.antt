@@ -1,6 +1,5 @@
 -- The upper layer "tests that all fits before the first byte; each of its calls is a run of lower calls that ends with nothing due".
-use Rattle.std.specs.Prelude.{Bool, true, not, ◌&&◌, List, [], ◌∷◌, ◌++◌, ℕ, ◌+◌, leb, ltb, eqb, ℤ, length}
-use Rattle.std.proofs.Math.Option.{Option, none, some}
+use Rattle.std.specs.Prelude.{Bool, true, not, ◌&&◌, List, [], ◌∷◌, ◌++◌, ℕ, ◌+◌, leb, ltb, eqb, ℤ, length, Ok, Err, Some, None, Option}
 use Rattle.base.specs.Number.{pick}
 use Rattle.leaf.specs.Bytes.{le32}
 use Rattle.refusal.specs.declared.Refusal.{Refusal}
@@ -13,10 +12,9 @@ use Rattle.row.specs.Columns.{column_count, names_line}
 use Rattle.row.specs.Write.{passed_values}
 use Rattle.record.specs.declared.Source.{Source}
 use Rattle.region.specs.Region.{region_size, capacity}
-use Rattle.bank.specs.declared.Loaded.TheVariants.{Refused as NotRead}
 use Rattle.bank.specs.Bank.{loaded}
 use Rattle.flash.specs.Flash.{Op}
-use Rattle.writer.specs.declared.Answer.TheVariants.{Done, Refused}
+use Rattle.writer.specs.declared.Answer.TheVariants.{Done}
 use Rattle.writer.specs.declared.Writer.{Writer}
 use Rattle.writer.specs.declared.Step.{Step}
 use Rattle.writer.specs.State.{position, is_open, stays}
@@ -92,22 +90,22 @@ refusal_of region w u =
     pick (eqb (length region) region_size)
     (pick (argument_ok u)
     (pick (order_ok w u)
-    (pick (row_ok w u) (pick (all_fits w u) none (some Full)) (some Row))
-    (some Turn))
-    (some Argument))
-    (some Region)
+    (pick (row_ok w u) (pick (all_fits w u) None (Some Full)) (Some Row))
+    (Some Turn))
+    (Some Argument))
+    (Some Region)
 
 -- "A refused call's run is empty."
 abbrev pub run_if : Option Refusal → List Lower → List Lower
-run_if none cs = cs
-run_if (some r) cs = []
+run_if None cs = cs
+run_if (Some r) cs = []
 
 unfoldable pub upper_run : List ℕ → Writer → Upper → List Lower
 upper_run region w u = run_if (refusal_of region w u) (run_of u)
 
 abbrev pub answered : Option Refusal → Writer → Step
-answered none w = record { answer = Done; writer = w }
-answered (some r) w = stays w r
+answered None w = record { answer = (Ok Done); writer = w }
+answered (Some r) w = stays w r
 
 -- the answer and the state that the run ends with, the region that it leaves, its operations
 unfoldable pub upper_step : List ℕ → Writer → Upper → Step
@@ -123,8 +121,8 @@ upper_ops region w u = ran_ops region w (upper_run region w u)
 unfoldable pub begin_refusal : List ℕ → List ℕ → List ℕ → List ℕ → Option Refusal
 begin_refusal region identity texts lengths =
     pick (eqb (length region) region_size)
-    (pick (Key.fit texts lengths) (pick (leb (length identity) Key.max_identity) none (some Identity)) (some Argument))
-    (some Region)
+    (pick (Key.fit texts lengths) (pick (leb (length identity) Key.max_identity) None (Some Identity)) (Some Argument))
+    (Some Region)
 
 abbrev pub key_bytes : List ℕ → List ℕ → List ℕ → List ℕ
 key_bytes identity texts lengths = Key.key_of identity (Picks.passed_picks texts lengths)
@@ -134,8 +132,8 @@ begin_run region identity texts lengths = run_if (begin_refusal region identity 
 
 -- a refused beginning gives a state that every call refuses with 11
 abbrev pub began_with : Option Refusal → Writer → Bool → ℤ → Step
-began_with none w comparing now = record { answer = Done; writer = w }
-began_with (some r) w comparing now = record { answer = Refused r; writer = started (NotRead r) comparing now }
+began_with None w comparing now = record { answer = (Ok Done); writer = w }
+began_with (Some r) w comparing now = record { answer = Err r; writer = started (Err r) comparing now }
 
 unfoldable pub begin_step : List ℕ → Bool → ℤ → List ℕ → List ℕ → List ℕ → Step
 begin_step region comparing now identity texts lengths =

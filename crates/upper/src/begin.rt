@@ -1,8 +1,6 @@
 // The upper layer's begin, which appends the key, and its close.
-ghost use Rattle.std.specs.Prelude.{◌≡◌, ◌≤◌, ◌++◌, length, take};
+ghost use Rattle.std.specs.Prelude.{◌≡◌, ◌≤◌, ◌++◌, length, take, Err};
 ghost use Rattle.key.specs.Layout as Key;
-ghost use Rattle.bank.specs.declared.Loaded.TheVariants as Loadeds;
-ghost use Rattle.writer.specs.declared.Answer.TheVariants as Answers;
 ghost use Rattle.lower.specs.Lower as Lower;
 ghost use Rattle.run.specs.Run.{ran_writer, ran_region};
 ghost use Rattle.run.specs.Appends as Appends;
@@ -10,9 +8,8 @@ ghost use Rattle.upper.specs.Upper as Upper;
 ghost use Rattle.region.specs.Region.{region_size};
 
 use crate::MAX_BODY;
-use bank::Loaded;
 use base::number::BYTE_VALUES;
-use key::{IDENTITY_MARK, KeyAnswer, MAX_IDENTITY, PREFIX_SIZE};
+use key::{IDENTITY_MARK, MAX_IDENTITY, PREFIX_SIZE};
 use lower::begin::started;
 use lower::{is_open, may_append};
 use refusal::Refusal;
@@ -47,11 +44,11 @@ fn run_begin(w: Writer, region: &mut [u8], identity: &[u8], bytes: &[u8], n: usi
 
 // A refused beginning: every call refuses its state with 11.
 fn refuse(comparing: bool, at: i64, x: Refusal) -> Step
-    ensures { result ≡ record { answer = Answers.Refused x; writer = Lower.started (Loadeds.Refused x) comparing at } }
+    ensures { result ≡ record { answer = Err x; writer = Lower.started (Err x) comparing at } }
 {
-    let active = Loaded::Refused(x);
+    let active = Err(x);
     let writer = started(active, comparing, at);
-    let answer = Answer::Refused(x);
+    let answer = Err(x);
     Step { answer, writer }
 }
 
@@ -69,7 +66,7 @@ fn begin_in(
     let none = &identity[0..0];
     let mut out = [0u8; MAX_BODY];
     let a = key::key(none, texts, lengths, &mut out);
-    let KeyAnswer::Written(n) = a else {
+    let Ok(n) = a else {
         return refuse(comparing, at, Refusal::Argument);
     };
     if MAX_IDENTITY < identity.len() {

@@ -13,7 +13,6 @@ use lower::{is_open, may_append_parts};
 use refusal::Refusal;
 use region::REGION_SIZE;
 use rfc4180::MAX_ROW;
-use row::RowAnswer;
 use run::append_line_parts;
 use writer::{
     Beginning, Parts, PartsStep, Step, TAIL_SIZE, Writer, parts_did, parts_of, parts_stay,
@@ -51,7 +50,7 @@ fn long_row(
     let x = p.tables;
     let mut out = [0u8; MAX_ROW];
     let a = row::row(x.table, texts, lengths, &mut out);
-    let RowAnswer::Written(n) = a else {
+    let Ok(n) = a else {
         return parts_stay(p, Refusal::Row);
     };
     if !fits(p.contents, n) {
@@ -76,7 +75,7 @@ fn row_in(
     let x = p.tables;
     let mut out = [0u8; SHORT_ROW];
     let a = row::row(x.table, texts, lengths, &mut out);
-    let RowAnswer::Written(n) = a else {
+    let Ok(n) = a else {
         return long_row(b, p, tail, region, texts, lengths);
     };
     if !fits(p.contents, n) {

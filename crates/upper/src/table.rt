@@ -13,7 +13,6 @@ use base::table::LAST_TABLE;
 use lower::{may_append, may_begin, may_end};
 use refusal::Refusal;
 use region::REGION_SIZE;
-use row::RowAnswer;
 use run::{flush, flush_append};
 use writer::{Step, Writer, did, stays};
 
@@ -54,8 +53,8 @@ fn names(table: u32) -> Line
     let mut bytes = [0u8; NAMES_SIZE];
     let a = row::names_line(table, &mut bytes);
     match a {
-        RowAnswer::Written(n) => Line { n, bytes },
-        RowAnswer::Refused(_) => Line { n: 0, bytes },
+        Ok(n) => Line { n, bytes },
+        Err(_) => Line { n: 0, bytes },
     }
 }
 

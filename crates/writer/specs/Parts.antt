@@ -1,8 +1,8 @@
 -- The parts of a state that calls change at every step, the whole state again, and a step on the parts.
-use Rattle.std.specs.Prelude.{List, ℕ}
+use Rattle.std.specs.Prelude.{List, ℕ, Ok, Err}
 use Rattle.refusal.specs.declared.Refusal.{Refusal}
 use Rattle.record.specs.declared.Source.{Source}
-use Rattle.writer.specs.declared.Answer.TheVariants.{Done, Refused}
+use Rattle.writer.specs.declared.Answer.TheVariants.{Done}
 use Rattle.writer.specs.declared.Beginning.{Beginning}
 use Rattle.writer.specs.declared.Writer.{Writer}
 use Rattle.writer.specs.declared.Step.{Step}
@@ -20,7 +20,7 @@ step_with b s ss tail = record { answer = s.answer; writer = whole_of b s.parts 
 
 -- a call that is done, and one that is refused, which leaves the parts unchanged
 abbrev pub parts_did : Parts → PartsStep
-parts_did p = record { answer = Done; parts = p }
+parts_did p = record { answer = (Ok Done); parts = p }
 
 abbrev pub parts_stay : Parts → Refusal → PartsStep
-parts_stay p r = record { answer = Refused r; parts = p }
+parts_stay p r = record { answer = Err r; parts = p }

@@ -1,13 +1,11 @@
 -- The state of an update: what is due, and which states are within their ranges (11).
-use Rattle.std.specs.Prelude.{Bool, true, false, not, ◌&&◌, ◌||◌, ℕ, ◌+◌, ◌-◌, ◌/◌, ◌%◌, ◌^◌, leb, ltb, eqb}
+use Rattle.std.specs.Prelude.{Bool, true, false, not, ◌&&◌, ◌||◌, ℕ, ◌+◌, ◌-◌, ◌/◌, ◌%◌, ◌^◌, leb, ltb, eqb, Ok, Err, Some, None, Result, Option}
 use Rattle.base.specs.Number.{pick}
 use Rattle.leaf.specs.Generation.{next}
 use Rattle.refusal.specs.declared.Refusal.{Refusal}
 use Rattle.region.specs.Region.{capacity, sector_size, last_bank}
 use Rattle.record.specs.Record.{dates_size}
 use Rattle.header.specs.Header.{max_sources}
-use Rattle.bank.specs.declared.Loaded.{Loaded}
-use Rattle.bank.specs.declared.Loaded.TheVariants.{Found, Nothing, Refused as NotRead}
 use Rattle.writer.specs.declared.Operation.{Operation}
 use Rattle.writer.specs.declared.Operation.TheVariants.{Erase, Write, Compare}
 use Rattle.writer.specs.declared.Stage.{Stage}
@@ -15,10 +13,11 @@ use Rattle.writer.specs.declared.Stage.TheVariants.{Idle, Due, HeaderWritten, Co
 use Rattle.writer.specs.declared.Contents.{Contents}
 use Rattle.writer.specs.declared.Tables.{Tables}
 use Rattle.writer.specs.declared.Writer.{Writer}
-use Rattle.writer.specs.declared.Answer.{Answer}
-use Rattle.writer.specs.declared.Answer.TheVariants.{Done, Appended, NoneDue, Same, Different, Refused}
+use Rattle.writer.specs.declared.Answer.TheVariants.{Done, Appended, NoneDue, Same, Different}
 use Rattle.writer.specs.declared.Step.{Step}
 use Rattle.base.specs.Table.{max_tables, last_table}
+use Rattle.header.specs.declared.Bank.{Bank}
+use Rattle.writer.specs.declared.Answer.{Answer}
 
 -- the tail's capacity
 abbrev pub tail_size : ℕ
@@ -53,15 +52,15 @@ unfoldable pub stage_of : Bool → Contents → Stage
 stage_of comparing t = pick (is_due t) (Due (first_due comparing t)) Idle
 
 -- The bank that isn't the active one, and the generation after the active one's; 0 and 0 with no active bank.
-unfoldable pub target : Loaded → ℕ
-target (Found b) = last_bank - b.number
-target Nothing = 0
-target (NotRead r) = 0
+unfoldable pub target : Result (Option Bank) Refusal → ℕ
+target (Ok (Some b)) = last_bank - b.number
+target (Ok None) = 0
+target (Err r) = 0
 
-unfoldable pub next_generation : Loaded → ℕ
-next_generation (Found b) = next b.generation
-next_generation Nothing = 0
-next_generation (NotRead r) = 0
+unfoldable pub next_generation : Result (Option Bank) Refusal → ℕ
+next_generation (Ok (Some b)) = next b.generation
+next_generation (Ok None) = 0
+next_generation (Err r) = 0
 
 -- "The first source's Routes offset less 8 is the key length, or 0 if that offset is below 8."
 abbrev pub key_length : ℕ → ℕ
@@ -81,10 +80,10 @@ begun_in begun table = eqb (begun / 2 ^ table % 2) 1
 -- 11, by range
 
 -- the active bank's number is 0 or 1; the state of a refused beginning never passes
-unfoldable pub active_ok : Loaded → Bool
-active_ok (Found b) = leb b.number last_bank
-active_ok Nothing = true
-active_ok (NotRead r) = false
+unfoldable pub active_ok : Result (Option Bank) Refusal → Bool
+active_ok (Ok (Some b)) = leb b.number last_bank
+active_ok (Ok None) = true
+active_ok (Err r) = false
 
 -- a count of written bytes is a multiple of 256 until the last write
 abbrev pub aligned : Contents → Bool
@@ -117,17 +116,17 @@ stage_ok comparing t Committed = not comparing && (t.closed && eqb t.fill 0)
 unfoldable pub in_range : Writer → Bool
 in_range w = active_ok w.beginning.active && (contents_ok w.contents && (tables_ok (position w.contents) w.tables && stage_ok w.beginning.comparing w.contents w.stage))
 
-abbrev pub is_done : Answer → Bool
-is_done Done = true
-is_done (Appended n) = false
-is_done NoneDue = false
-is_done Same = false
-is_done Different = false
-is_done (Refused r) = false
+abbrev pub is_done : Result Answer Refusal → Bool
+is_done (Ok Done) = true
+is_done (Ok (Appended n)) = false
+is_done (Ok NoneDue) = false
+is_done (Ok Same) = false
+is_done (Ok Different) = false
+is_done (Err r) = false
 
 -- a call that is done, and one that is refused, which leaves the state unchanged
 abbrev pub did : Writer → Step
-did w = record { answer = Done; writer = w }
+did w = record { answer = (Ok Done); writer = w }
 
 abbrev pub stays : Writer → Refusal → Step
-stays w r = record { answer = Refused r; writer = w }
+stays w r = record { answer = Err r; writer = w }

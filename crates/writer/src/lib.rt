@@ -5,9 +5,8 @@ ghost use Rattle.std.specs.Prelude.{◌≡◌, ◌&&◌};
 ghost use Rattle.writer.specs.State as State;
 ghost use Rattle.writer.specs.Parts.{parts_of, whole_of, step_with, parts_did, parts_stay};
 
-use bank::Loaded;
 use base::table::{LAST_TABLE, TABLES};
-use header::{SOURCES, SOURCES_32};
+use header::{Bank, SOURCES, SOURCES_32};
 use record::Source;
 use refusal::Refusal;
 use region::{CAPACITY_64, LAST_BANK, SECTOR_SIZE_32};
@@ -38,7 +37,7 @@ pub enum Stage {
 // What the beginning fixes.
 #[derive(Clone, Copy)]
 pub struct Beginning {
-    pub active: Loaded,
+    pub active: Result<Option<Bank>, Refusal>,
     pub comparing: bool,
     pub now: i64,
 }
@@ -82,13 +81,12 @@ pub enum Answer {
     NoneDue,
     Same,
     Different,
-    Refused(Refusal),
 }
 
 // The answer, and the state after the call.
 #[derive(Clone, Copy)]
 pub struct Step {
-    pub answer: Answer,
+    pub answer: Result<Answer, Refusal>,
     pub writer: Writer,
 }
 
@@ -104,7 +102,7 @@ pub struct Parts {
 // The answer, and the parts after the call.
 #[derive(Clone, Copy)]
 pub struct PartsStep {
-    pub answer: Answer,
+    pub answer: Result<Answer, Refusal>,
     pub parts: Parts,
 }
 
@@ -155,23 +153,25 @@ pub fn stage_of(comparing: bool, t: Contents) -> Stage
 }
 
 // The bank that isn't the active one; 0 with no active bank.
-pub fn target(l: Loaded) -> u32
+#[tactic(auto, unfolding(crate::specs::State::target))]
+pub fn target(l: Result<Option<Bank>, Refusal>) -> u32
     ensures { result ≡ State.target l }
 {
     match l {
-        Loaded::Found(b) => { if b.number == 0 { LAST_BANK } else { 0 } }
-        Loaded::Nothing => 0,
-        Loaded::Refused(_) => 0,
+        Ok(Some(b)) => { if b.number == 0 { LAST_BANK } else { 0 } }
+        Ok(None) => 0,
+        Err(_) => 0,
     }
 }
 
-fn active_ok(l: Loaded) -> bool
+#[tactic(auto, unfolding(crate::specs::State::active_ok))]
+fn active_ok(l: Result<Option<Bank>, Refusal>) -> bool
     ensures { result ≡ State.active_ok l }
 {
     match l {
-        Loaded::Found(b) => b.number <= LAST_BANK,
-        Loaded::Nothing => true,
-        Loaded::Refused(_) => false,
+        Ok(Some(b)) => b.number <= LAST_BANK,
+        Ok(None) => true,
+        Err(_) => false,
     }
 }
 
@@ -247,16 +247,16 @@ pub fn in_range(w: Writer) -> bool
 }
 
 // Whether a call answered that it is done.
-pub fn is_done(a: Answer) -> bool
+pub fn is_done(a: Result<Answer, Refusal>) -> bool
     ensures { result ≡ State.is_done a }
 {
     match a {
-        Answer::Done => true,
-        Answer::Appended(_) => false,
-        Answer::NoneDue => false,
-        Answer::Same => false,
-        Answer::Different => false,
-        Answer::Refused(_) => false,
+        Ok(Answer::Done) => true,
+        Ok(Answer::Appended(_)) => false,
+        Ok(Answer::NoneDue) => false,
+        Ok(Answer::Same) => false,
+        Ok(Answer::Different) => false,
+        Err(_) => false,
     }
 }
 
@@ -265,7 +265,7 @@ pub fn did(w: Writer) -> Step
     ensures { result ≡ State.did w }
 {
     Step {
-        answer: Answer::Done,
+        answer: Ok(Answer::Done),
         writer: w,
     }
 }
@@ -275,7 +275,7 @@ pub fn stays(w: Writer, r: Refusal) -> Step
     ensures { result ≡ State.stays w r }
 {
     Step {
-        answer: Answer::Refused(r),
+        answer: Err(r),
         writer: w,
     }
 }
@@ -333,7 +333,7 @@ pub fn step_with(
 pub fn parts_did(p: Parts) -> PartsStep
     ensures { result ≡ parts_did p }
 {
-    let answer = Answer::Done;
+    let answer = Ok(Answer::Done);
     PartsStep { answer, parts: p }
 }
 
@@ -341,6 +341,6 @@ pub fn parts_did(p: Parts) -> PartsStep
 pub fn parts_stay(p: Parts, r: Refusal) -> PartsStep
     ensures { result ≡ parts_stay p r }
 {
-    let answer = Answer::Refused(r);
+    let answer = Err(r);
     PartsStep { answer, parts: p }
 }

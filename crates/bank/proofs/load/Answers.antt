@@ -21,11 +21,11 @@ pub returns-in_default : goal.returns-in_default
 returns-in_default c =
     let r = c.args.region.now in
     let e : validated r (first_tried r) ≡ _ = ap (validated r) (sym c.first_tried-first.ensures.0) ∙ sym c.validate.ensures ∙ c.in_default.is in
-    let g : validated r (1 - first_tried r) ≡ _ = ap (λ (k : ℕ). validated r (1 - k)) (sym c.first_tried-first.ensures.0) ∙ sym c.validate-in_default.ensures ∙ c.in-Good-validate.is in
+    let g : validated r (1 - first_tried r) ≡ _ = ap (λ (k : ℕ). validated r (1 - k)) (sym c.first_tried-first.ensures.0) ∙ sym c.validate-in_default.ensures ∙ c.in-Ok-validate.is in
     load-second r _ _ (eq-eqb _ _ c.if-region-ne-REGION_SIZE.false) e g
 
 pub returns : goal.returns
 returns c =
     let r = c.args.region.now in
-    let e : validated r (first_tried r) ≡ _ = ap (validated r) (sym c.first_tried-first.ensures.0) ∙ sym c.validate.ensures ∙ c.in-Good.is in
+    let e : validated r (first_tried r) ≡ _ = ap (validated r) (sym c.first_tried-first.ensures.0) ∙ sym c.validate.ensures ∙ c.in-Ok.is in
     load-first r _ (eq-eqb _ _ c.if-region-ne-REGION_SIZE.false) e

@@ -6,14 +6,14 @@ use mathlib.Core.Path.{sym, ◌∙◌}
 pub returns-then-data_ok : goal.returns-then-data_ok
 returns-then-data_ok c =
     let a = c.args in
-    data-good a.region.now a.number _ (sym c.header-h.ensures ∙ c.in-Good.is) (sym c.data_ok.ensures ∙ c.if-data_ok.true)
+    data-good a.region.now a.number _ (sym c.header-h.ensures ∙ c.in-Ok.is) (sym c.data_ok.ensures ∙ c.if-data_ok.true)
 
 pub returns-else-data_ok : goal.returns-else-data_ok
 returns-else-data_ok c =
     let a = c.args in
-    data-bad a.region.now a.number _ (sym c.header-h.ensures ∙ c.in-Good.is) (sym c.data_ok.ensures ∙ c.if-data_ok.false)
+    data-bad a.region.now a.number _ (sym c.header-h.ensures ∙ c.in-Ok.is) (sym c.data_ok.ensures ∙ c.if-data_ok.false)
 
-pub returns-in-Refused : goal.returns-in-Refused
-returns-in-Refused c =
+pub returns-in-Err : goal.returns-in-Err
+returns-in-Err c =
     let a = c.args in
-    header-bad a.region.now a.number _ (sym c.header-h.ensures ∙ c.in-Refused.is)
+    header-bad a.region.now a.number _ (sym c.header-h.ensures ∙ c.in-Err.is)

@@ -4,8 +4,8 @@ use Rattle.base.specs.Lists.{each}
 use Rattle.header.specs.Header.{numbers_of, records_of, span_ok, source_ok}
 use Rattle.header.proofs.header_of.Goals as goal
 use Rattle.header.proofs.Laws.{span-count, not-marked, not-sealed, not-spanned, bad-source, all-good}
-use Rattle.header.specs.declared.Validated.TheVariants.{Good}
 use mathlib.Core.Path.{sym, ap, ◌∙◌}
+use Rattle.std.specs.Prelude.{Ok, true, false}
 
 pub returns-then-not-is_marked : goal.returns-then-not-is_marked
 returns-then-not-is_marked c = not-marked c.args.number c.args.l.now (sym c.is_marked.ensures ∙ c.if-not-is_marked.true)
@@ -44,4 +44,4 @@ returns c =
     let spans = ap span_ok (sym c.numbers_of-b.ensures) ∙ sym c.span_ok.ensures ∙ c.if-not-span_ok.false in
     let good =
     ap (λ h. each (source_ok h) (records_of h.version l h.count)) (sym c.numbers_of-b.ensures) ∙ sym c.records_ok.ensures ∙ c.if-not-records_ok.false in
-    ap Good c.numbers_of-b.ensures ∙ all-good c.args.number l marks seals spans good
+    ap Ok c.numbers_of-b.ensures ∙ all-good c.args.number l marks seals spans good

@@ -7,16 +7,16 @@ use Rattle.key.proofs.Answers.{match-refused, is_same, is-other}
 pub returns-then-match_key : goal.returns-then-match_key
 returns-then-match_key c =
     let a = c.args in
-    let h = subst (Prepares _ _ _ _) c.in-Ready.is c.prepare-p.ensures in
+    let h = subst (Prepares _ _ _ _) c.in-Ok.is c.prepare-p.ensures in
     is_same a.stored.now a.identity.now a.texts.now a.lengths.now h.fits h.named (sym (rw h.picks at c.match_key.ensures) ∙ c.if-match_key.true)
 
 pub returns-else-match_key : goal.returns-else-match_key
 returns-else-match_key c =
     let a = c.args in
-    let h = subst (Prepares _ _ _ _) c.in-Ready.is c.prepare-p.ensures in
+    let h = subst (Prepares _ _ _ _) c.in-Ok.is c.prepare-p.ensures in
     is-other a.stored.now a.identity.now a.texts.now a.lengths.now h.fits h.named (sym (rw h.picks at c.match_key.ensures) ∙ c.if-match_key.false)
 
-pub returns-in-Refused : goal.returns-in-Refused
-returns-in-Refused c =
+pub returns-in-Err : goal.returns-in-Err
+returns-in-Err c =
     let a = c.args in
-    match-refused a.stored.now a.identity.now a.texts.now a.lengths.now _ (subst (Prepares _ _ _ _) c.in-Refused.is c.prepare-p.ensures)
+    match-refused a.stored.now a.identity.now a.texts.now a.lengths.now _ (subst (Prepares _ _ _ _) c.in-Err.is c.prepare-p.ensures)

@@ -3,12 +3,12 @@ use Rattle.bank.proofs.turns.check_start.Goals as goal
 use Rattle.bank.proofs.Cases.{start-good, start-bad}
 use mathlib.Core.Path.{sym, ◌∙◌}
 
-pub returns-in-Good : goal.returns-in-Good
-returns-in-Good c =
+pub returns-in-Ok : goal.returns-in-Ok
+returns-in-Ok c =
     let a = c.args in
-    c.stays.ensures ∙ start-good a.region.now a.number _ (sym c.header-h.ensures ∙ c.in-Good.is)
+    c.stays.ensures ∙ start-good a.region.now a.number _ (sym c.header-h.ensures ∙ c.in-Ok.is)
 
-pub returns-in-Refused : goal.returns-in-Refused
-returns-in-Refused c =
+pub returns-in-Err : goal.returns-in-Err
+returns-in-Err c =
     let a = c.args in
-    c.stays-in-Refused.ensures ∙ start-bad a.region.now a.number _ (sym c.header-h.ensures ∙ c.in-Refused.is)
+    c.stays-in-Err.ensures ∙ start-bad a.region.now a.number _ (sym c.header-h.ensures ∙ c.in-Err.is)

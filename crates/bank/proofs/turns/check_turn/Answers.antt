@@ -15,20 +15,20 @@ returns-then-not-s c =
     let a = c.args in
     c.stays-then-not-s.ensures ∙ turn-forged a.region.now a.s a.n (eq-eqb _ _ c.if-region-ne-REGION_SIZE.false) c.if-not-s.true
 
-pub returns-in-Good : goal.returns-in-Good
-returns-in-Good c =
+pub returns-in-Ok : goal.returns-in-Ok
+returns-in-Ok c =
     let a = c.args in
     let s = a.s in
     let r = a.region.now in
     c.on_bank.ensures
     ∙ turn-bank r s a.n _ (eq-eqb _ _ c.if-region-ne-REGION_SIZE.false) c.if-not-s.false
-    (ap (header_of s.bank) (sym c.bank_of-l.ensures) ∙ sym c.header_of-h.ensures ∙ c.in-Good.is)
+    (ap (header_of s.bank) (sym c.bank_of-l.ensures) ∙ sym c.header_of-h.ensures ∙ c.in-Ok.is)
 
-pub returns-in-Refused : goal.returns-in-Refused
-returns-in-Refused c =
+pub returns-in-Err : goal.returns-in-Err
+returns-in-Err c =
     let a = c.args in
     let s = a.s in
     let r = a.region.now in
-    c.stays-in-Refused.ensures
+    c.stays-in-Err.ensures
     ∙ turn-bad r s a.n _ (eq-eqb _ _ c.if-region-ne-REGION_SIZE.false) c.if-not-s.false
-    (ap (header_of s.bank) (sym c.bank_of-l.ensures) ∙ sym c.header_of-h.ensures ∙ c.in-Refused.is)
+    (ap (header_of s.bank) (sym c.bank_of-l.ensures) ∙ sym c.header_of-h.ensures ∙ c.in-Err.is)

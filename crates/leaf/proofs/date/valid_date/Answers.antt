@@ -5,14 +5,14 @@ use Rattle.leaf.proofs.date.valid_date.Goals as goal
 use Rattle.std.proofs.Common.{sym, ◌∙◌}
 use Rattle.leaf.proofs.Steps.{made-is, invalid-is}
 
-pub returns-in-Made : goal.returns-in-Made
+pub returns-in-Some : goal.returns-in-Some
 unfolding valid_date
-returns-in-Made c =
+returns-in-Some c =
     let n = c.args.d in
-    made-is (n / 10000) (n / 100 % 100) (n % 100) _ (sym c.new-made.ensures ∙ c.in-Made.is)
+    made-is (n / 10000) (n / 100 % 100) (n % 100) _ (sym c.new-made.ensures ∙ c.in-Some.is)
 
-pub returns-in-InvalidDate : goal.returns-in-InvalidDate
+pub returns-in-None : goal.returns-in-None
 unfolding valid_date
-returns-in-InvalidDate c =
+returns-in-None c =
     let n = c.args.d in
-    invalid-is (n / 10000) (n / 100 % 100) (n % 100) (sym c.new-made.ensures ∙ c.in-InvalidDate.is)
+    invalid-is (n / 10000) (n / 100 % 100) (n % 100) (sym c.new-made.ensures ∙ c.in-None.is)

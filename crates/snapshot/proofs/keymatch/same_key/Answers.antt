@@ -6,16 +6,16 @@ use Rattle.key.specs.Match.{match_answer}
 use Rattle.snapshot.proofs.Matches.{match-good, match-bad}
 use mathlib.Core.Path.{sym, ap, ◌∙◌}
 
-pub returns-in-Good : goal.returns-in-Good
-returns-in-Good c =
+pub returns-in-Ok : goal.returns-in-Ok
+returns-in-Ok c =
     let a = c.args in
-    let e = ap (λ t. named_if t a.region.now a.number) (sym c.picks_fit-fit.ensures) ∙ sym c.header_if-h.ensures ∙ c.in-Good.is in
+    let e = ap (λ t. named_if t a.region.now a.number) (sym c.picks_fit-fit.ensures) ∙ sym c.header_if-h.ensures ∙ c.in-Ok.is in
     c.same_key.ensures
     ∙ ap (λ (s : List ℕ). match_answer s a.identity.now a.texts.now a.lengths.now) c.key_in-stored.ensures
     ∙ match-good a.region.now a.number a.identity.now a.texts.now a.lengths.now _ e
 
-pub returns-in-Refused : goal.returns-in-Refused
-returns-in-Refused c =
+pub returns-in-Err : goal.returns-in-Err
+returns-in-Err c =
     let a = c.args in
-    let e = ap (λ t. named_if t a.region.now a.number) (sym c.picks_fit-fit.ensures) ∙ sym c.header_if-h.ensures ∙ c.in-Refused.is in
+    let e = ap (λ t. named_if t a.region.now a.number) (sym c.picks_fit-fit.ensures) ∙ sym c.header_if-h.ensures ∙ c.in-Err.is in
     match-bad a.region.now a.number a.identity.now a.texts.now a.lengths.now _ e

@@ -6,20 +6,20 @@ use mathlib.Core.Path.{refl, sym, ap, ◌∙◌}
 use Rattle.rowread.specs.Stored.{read_answer, values_at}
 use Rattle.snapshot.proofs.RowsLaws.{block_row, block_refused}
 
-pub returns-in-Found : goal.returns-in-Found
-returns-in-Found c =
+pub returns-in-Ok : goal.returns-in-Ok
+returns-in-Ok c =
     let q = c.read_row in
     let w = c.column_count-width.ensures in
     let e = c.bytes_of-stored.ensures in
     let a = c.args in
-    let l = block_row a.region.now a.number a.source a.table a.offset (length a.out.now) (length a.ends.now) _ (sym c.table_block-a.ensures ∙ c.in-Found.is) in
+    let l = block_row a.region.now a.number a.source a.table a.offset (length a.out.now) (length a.ends.now) _ (sym c.table_block-a.ensures ∙ c.in-Ok.is) in
     let v = (λ j. values_at (e j) (w j) a.offset) ∙ l.values in (
       q.ensures.0 ∙ (λ j. read_answer (e j) (w j) a.offset (length a.out.now) (length a.ends.now)) ∙ l.answer,
       q.ensures.1 ∙ ap (λ (vs : List (List ℕ)). after q.result (joined vs) a.out.now) v,
       q.ensures.2 ∙ ap (λ (vs : List (List ℕ)). after q.result (ends_of 0 vs) a.ends.now) v,
     )
 
-pub returns-in-Refused : goal.returns-in-Refused
-returns-in-Refused c =
+pub returns-in-Err : goal.returns-in-Err
+returns-in-Err c =
     let a = c.args in
-    (block_refused a.region.now a.number a.source a.table a.offset (length a.out.now) (length a.ends.now) _ (sym c.table_block-a.ensures ∙ c.in-Refused.is), refl, refl)
+    (block_refused a.region.now a.number a.source a.table a.offset (length a.out.now) (length a.ends.now) _ (sym c.table_block-a.ensures ∙ c.in-Err.is), refl, refl)

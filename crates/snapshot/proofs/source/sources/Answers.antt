@@ -7,14 +7,14 @@ use Rattle.snapshot.proofs.Laws.{few, named-fits, sources-done, sources-bad}
 pub records_at-sources-requires : goal.records_at-sources-requires
 records_at-sources-requires c =
     let a = c.args in
-    few true a.region.now a.number _ (sym (named-fits a.region.now a.number) ∙ sym c.header-h.ensures ∙ c.in-Good.is)
+    few true a.region.now a.number _ (sym (named-fits a.region.now a.number) ∙ sym c.header-h.ensures ∙ c.in-Ok.is)
 
-pub returns-in-Good : goal.returns-in-Good
-returns-in-Good c =
+pub returns-in-Ok : goal.returns-in-Ok
+returns-in-Ok c =
     let a = c.args in
-    sources-done a.region.now a.number _ c.bank_of-l.result.now _ (sym c.header-h.ensures ∙ c.in-Good.is) c.bank_of-l.ensures c.records_at-sources.ensures
+    sources-done a.region.now a.number _ c.bank_of-l.result.now _ (sym c.header-h.ensures ∙ c.in-Ok.is) c.bank_of-l.ensures c.records_at-sources.ensures
 
-pub returns-in-Refused : goal.returns-in-Refused
-returns-in-Refused c =
+pub returns-in-Err : goal.returns-in-Err
+returns-in-Err c =
     let a = c.args in
-    c.refuse_all.ensures ∙ sources-bad a.region.now a.number _ (sym c.header-h.ensures ∙ c.in-Refused.is)
+    c.refuse_all.ensures ∙ sources-bad a.region.now a.number _ (sym c.header-h.ensures ∙ c.in-Err.is)

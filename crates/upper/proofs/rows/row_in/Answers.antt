@@ -24,7 +24,7 @@ returns-then-not-fits c =
     let y = s.args in
     let t = c in
     let f = t in
-    let w = row_written y.p.tables.table y.texts.now y.lengths.now (replicate 512 0) r.row-a.new.out r.row-a.result s.requires.2 r.row-a.ensures.0 r.row-a.ensures.1 c.in-Written.n c.in-Written.is in
+    let w = row_written y.p.tables.table y.texts.now y.lengths.now (replicate 512 0) r.row-a.new.out r.row-a.result s.requires.2 r.row-a.ensures.0 r.row-a.ensures.1 c.in-Ok.n c.in-Ok.is in
     let d = upper-full y.region.now (whole_of y.b y.p ss y.tail.now) (row y.texts.now y.lengths.now) s.requires.0 refl (s.requires.1 ss) w.0 (ap (λ (k : ℕ). leb (position y.p.contents + k) capacity) (sym w.1) ∙ sym f.fits.ensures ∙ t.if-not-fits.true) in
     (ap (λ (z : PartsStep). step_with y.b z ss y.tail.now) c.parts_stay.ensures ∙ d.0, d.1)
 
@@ -33,7 +33,7 @@ run_row-q-requires c =
     let r = c in
     let s = r in
     let y = s.args in
-    let k = row-length y.p.tables.table y.texts.now y.lengths.now (replicate 512 0) r.row-a.new.out r.row-a.result s.requires.2 r.row-a.ensures.0 r.row-a.ensures.1 c.in-Written.n c.in-Written.is in
+    let k = row-length y.p.tables.table y.texts.now y.lengths.now (replicate 512 0) r.row-a.new.out r.row-a.result s.requires.2 r.row-a.ensures.0 r.row-a.ensures.1 c.in-Ok.n c.in-Ok.is in
     omega (arith, k)
 
 pub returns : goal.returns
@@ -46,8 +46,8 @@ returns c =
     let x = c in
     let t = x in
     let f = t in
-    let w = row_written y.p.tables.table y.texts.now y.lengths.now (replicate 512 0) r.row-a.new.out r.row-a.result s.requires.2 r.row-a.ensures.0 r.row-a.ensures.1 c.in-Written.n c.in-Written.is in
-    let b = row-there y.p.tables.table y.texts.now y.lengths.now (replicate 512 0) r.row-a.new.out r.row-a.result s.requires.2 r.row-a.ensures.0 r.row-a.ensures.1 c.in-Written.n c.in-Written.is in
+    let w = row_written y.p.tables.table y.texts.now y.lengths.now (replicate 512 0) r.row-a.new.out r.row-a.result s.requires.2 r.row-a.ensures.0 r.row-a.ensures.1 c.in-Ok.n c.in-Ok.is in
+    let b = row-there y.p.tables.table y.texts.now y.lengths.now (replicate 512 0) r.row-a.new.out r.row-a.result s.requires.2 r.row-a.ensures.0 r.row-a.ensures.1 c.in-Ok.n c.in-Ok.is in
     let d =
     upper-done y.region.now (whole_of y.b y.p ss y.tail.now) (row y.texts.now y.lengths.now) s.requires.0 refl (s.requires.1 ss) w.0
     (ap (λ (k : ℕ). leb (position y.p.contents + k) capacity) (sym w.1) ∙ sym f.fits.ensures ∙ t.if-not-fits.false)

@@ -6,14 +6,14 @@ use native.Mathlib.Omega.{arith}
 use lib.ListN.{replicate}
 use Rattle.upper.proofs.Laws.{names-there, names-never}
 
-pub returns-in-Written : goal.returns-in-Written
-returns-in-Written c =
+pub returns-in-Ok : goal.returns-in-Ok
+returns-in-Ok c =
     let x = c in
     let a = x.args in
-    names-there a.table (replicate 128 0) x.names_line-a.new.out x.names_line-a.result (omega arith) refl x.names_line-a.ensures.0 x.names_line-a.ensures.1 c.in-Written.n c.in-Written.is
+    names-there a.table (replicate 128 0) x.names_line-a.new.out x.names_line-a.result (omega arith) refl x.names_line-a.ensures.0 x.names_line-a.ensures.1 c.in-Ok.n c.in-Ok.is
 
-pub returns-in-Refused : goal.returns-in-Refused
-returns-in-Refused c =
+pub returns-in-Err : goal.returns-in-Err
+returns-in-Err c =
     let x = c in
     let a = x.args in
-    absurd (names-never a.table (replicate 128 0) x.names_line-a.new.out x.names_line-a.result (omega arith) refl x.names_line-a.ensures.0 x.names_line-a.ensures.1 c.in-Refused.field-0 c.in-Refused.is)
+    absurd (names-never a.table (replicate 128 0) x.names_line-a.new.out x.names_line-a.result (omega arith) refl x.names_line-a.ensures.0 x.names_line-a.ensures.1 c.in-Err.field-0 c.in-Err.is)
