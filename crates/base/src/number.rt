@@ -26,57 +26,41 @@ pub const THIRD_BYTE: u32 = SECOND_BYTE * BYTE_VALUES_32;
 
 pub const FOURTH_BYTE: u32 = THIRD_BYTE * BYTE_VALUES_32;
 
-const SECOND_BYTE_64: u64 = SECOND_BYTE as u64;
-
-const THIRD_BYTE_64: u64 = THIRD_BYTE as u64;
-
-const FOURTH_BYTE_64: u64 = FOURTH_BYTE as u64;
-
 // How many values a 32-bit number has: what the upper half of a 64-bit one counts.
 pub const WORD_VALUES: u64 = 4294967296;
 
 // The lowest 64-bit number that is negative if read as signed.
 pub const SIGN_BIT: u64 = 9223372036854775808;
 
-// x * 2^13, and x / 2^19: the two parts of a rotation by 13 bits.
-const UP_13: u32 = 8192;
-
-const DOWN_19: u32 = 524288;
+// By how many bits the core rotates.
+const ROTATION: u32 = 13;
 
 // A byte as a 32-bit number.
 pub fn u8_to_u32(x: u8) -> u32
     ensures { (result ≡ x) × (result < byte_values) }
 {
-    x as u32
+    u32::from(x)
 }
 
 // A byte as a 64-bit number.
 pub fn u8_to_u64(x: u8) -> u64
     ensures { (result ≡ x) × (result < byte_values) }
 {
-    x as u64
+    u64::from(x)
 }
 
-// Eight bytes as one little-endian number. The sum is compiled to one load where they are next to each other.
+// Eight bytes as one little-endian number. It is one load where they are next to each other.
 pub fn bytes_to_u64(a: u8, b: u8, c: u8, d: u8, e: u8, f: u8, g: u8, h: u8) -> u64
     ensures { result ≡ little (a ∷ b ∷ c ∷ d ∷ e ∷ f ∷ g ∷ h ∷ []) }
 {
-    let low = (a as u64)
-        + (b as u64) * SECOND_BYTE_64
-        + (c as u64) * THIRD_BYTE_64
-        + (d as u64) * FOURTH_BYTE_64;
-    let high = (e as u64)
-        + (f as u64) * SECOND_BYTE_64
-        + (g as u64) * THIRD_BYTE_64
-        + (h as u64) * FOURTH_BYTE_64;
-    low + high * WORD_VALUES
+    u64::from_le_bytes([a, b, c, d, e, f, g, h])
 }
 
 // A 32-bit number as a 64-bit one.
 pub fn u32_to_u64(n: u32) -> u64
     ensures { (result ≡ n) × (result < word_values) }
 {
-    n as u64
+    u64::from(n)
 }
 
 // a is at most b, signed.
@@ -97,5 +81,5 @@ pub fn lt(a: i64, b: i64) -> bool
 pub fn rotate13(x: u32) -> u32
     ensures { result ≡ rotate_left32 rotation x }
 {
-    x % DOWN_19 * UP_13 + x / DOWN_19
+    x.rotate_left(ROTATION)
 }

@@ -7,31 +7,15 @@ ghost use Rattle.base.specs.Same.{same};
 pub fn part(b: &[u8], from: usize, n: usize) -> &[u8]
     ensures { result.now ≡ take n (drop from b.now) }
 {
-    let len = b.len();
-    if len <= from {
-        return &b[len..len];
-    }
-    if n < len - from {
-        let end = from + n;
-        return &b[from..end];
-    }
-    &b[from..len]
+    let rest = &b[from.min(b.len())..];
+    &rest[..n.min(rest.len())]
 }
 
-// Whether two slices have the same bytes. The loop has no early exit, so that many bytes are compared at once.
+// Whether two slices have the same bytes.
 pub fn same_bytes(a: &[u8], b: &[u8]) -> bool
     ensures { result ≡ same a.now b.now }
 {
-    if a.len() != b.len() {
-        return false;
-    }
-    let mut differ = false;
-    let mut i: usize = 0;
-    while i < a.len() {
-        differ = differ | (a[i] != b[i]);
-        i += 1;
-    }
-    !differ
+    a == b
 }
 
 // What holds of comparing bytes. The function does nothing: its contract is what is proved of the definitions

@@ -1,4 +1,3 @@
-use Rattle.base.specs.Same.{same}
 use Rattle.base.proofs.slice.same_holds.Goals as goal
 use Rattle.base.proofs.Same.{same-is-equal}
 
