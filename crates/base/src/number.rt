@@ -1,4 +1,4 @@
-// Operations on numbers that the language lacks, or whose contract saves callers a proof.
+// Operations on numbers, by std's. Wrong programs of each are kept (must-fail), so each is a function of its own; new code may as well call std.
 ghost use Rattle.std.specs.Prelude.{◌≡◌, [], ◌∷◌, ◌<◌};
 ghost use Rattle.std.specs.Int.Signed.{le_z, lt_z};
 ghost use Rattle.base.specs.Little.{little};
