@@ -1,40 +1,47 @@
 -- What the writers of a record's parts leave, joined: parts stored one right after the other are stored as one, so the whole is
 -- `source_bytes`, of 384 bytes.
-use mathlib.Core.Path.{◌≡◌, refl, ap, ◌∙◌}
+use mathlib.Core.Path.{◌≡◌, refl, ap, ◌∙◌, sym}
 use mathlib.Core.List.{List, [], ◌∷◌, ◌++◌, append_assoc}
-use Prim.Native.Nat.{ℕ, ◌+◌}
+use Prim.Native.Nat.{ℕ, ◌+◌, ◌≤◌}
 use native.Mathlib.Omega.{arith}
-use lib.ListN.{length, set, length-append}
-use lib.Seq.{sets}
-use Rattle.leaf.specs.Bytes.{le32, le64}
+use lib.ListN.{length, take, drop, set, length-append}
+use lib.Seq.{sets, sets-eq, drop-drop}
+use Rattle.leaf.specs.Bytes.{le32, le64, written}
 use Rattle.base.specs.Lists.{puts, fill}
-use Rattle.leaf.proofs.Laws.{length-le32}
+use Rattle.leaf.proofs.Laws.{length-le32, written_next, written-sets}
 use Rattle.base.proofs.Lists.{next, length-puts, length-fill}
 use Rattle.record.specs.declared.Block.{Block}
 use Rattle.record.specs.declared.Source.{Source}
 use Rattle.record.specs.Types.{Sized}
 use Rattle.record.specs.Record.{block_bytes, head_bytes, table_bytes, tail_bytes, source_bytes}
 
+-- a part of a list overwritten, which is how a write to a part of a slice is seen
+pub sets-part : (l v : List ℕ) (at k : ℕ) → k ≡ length v → at + k ≤ length l → take at l ++ (v ++ drop k (drop at l)) ≡ sets l at v
+sets-part l v at k e h = rw (drop-drop k at l, e, ← append_assoc (take at l) v (drop (at + length v) l)) (sym (sets-eq v l at (omega arith)))
+
 pub length-block : (b : Block) → length (block_bytes b) ≡ 12
 unfolding block_bytes le32
 length-block b = refl
 
-pub block-is : (l : List ℕ) (i : ℕ) (b : Block) → sets (sets (sets l i (le32 b.offset)) (i + 4) (le32 b.length)) (i + 8) (le32 b.crc) ≡ sets l i (block_bytes b)
+pub block-is : (l : List ℕ) (i : ℕ) (b : Block) → i + 12 ≤ length l
+    → written (written (written l i (le32 b.offset)) (i + 4) (le32 b.length)) (i + 8) (le32 b.crc) ≡ sets l i (block_bytes b)
 unfolding block_bytes le32
-block-is l i b =
-    ap (λ (t : List ℕ). sets t (i + 8) (le32 b.crc)) (next l (le32 b.offset) (le32 b.length) i 4 refl)
-    ∙ next l (le32 b.offset ++ le32 b.length) (le32 b.crc) i 8 refl
+block-is l i b h =
+    ap (λ (t : List ℕ). written t (i + 8) (le32 b.crc)) (written_next l (le32 b.offset) (le32 b.length) i 4 refl (omega arith))
+    ∙ written_next l (le32 b.offset ++ le32 b.length) (le32 b.crc) i 8 refl h
+    ∙ written-sets l i (block_bytes b) h
 
-pub head-is : (l : List ℕ) (i : ℕ) (s : Source)
-    → sets (sets (sets (sets l i (le32 s.start)) (i + 4) (le32 s.end)) (i + 8) (le32 s.present)) (i + 12) (le64 s.updated) ≡ sets l i (head_bytes s)
-unfolding head_bytes le32
-head-is l i s =
+pub head-is : (l : List ℕ) (i : ℕ) (s : Source) → i + 20 ≤ length l
+    → written (written (written (written l i (le32 s.start)) (i + 4) (le32 s.end)) (i + 8) (le32 s.present)) (i + 12) (le64 s.updated) ≡ sets l i (head_bytes s)
+unfolding head_bytes le32 le64
+head-is l i s h =
     let a = le32 s.start in
     let b = le32 s.end in
     let d = le32 s.present in
-    ap (λ (t : List ℕ). sets (sets t (i + 8) d) (i + 12) (le64 s.updated)) (next l a b i 4 refl)
-    ∙ ap (λ (t : List ℕ). sets t (i + 12) (le64 s.updated)) (next l (a ++ b) d i 8 refl)
-    ∙ next l (a ++ b ++ d) (le64 s.updated) i 12 refl
+    ap (λ (t : List ℕ). written (written t (i + 8) d) (i + 12) (le64 s.updated)) (written_next l a b i 4 refl (omega arith))
+    ∙ ap (λ (t : List ℕ). written t (i + 12) (le64 s.updated)) (written_next l (a ++ b) d i 8 refl (omega arith))
+    ∙ written_next l (a ++ b ++ d) (le64 s.updated) i 12 refl h
+    ∙ written-sets l i (head_bytes s) h
 
 pub tables-are : (l : List ℕ) (i : ℕ) (s : Source) → length s.original ≡ 16
     → sets (sets l i (puts le32 s.original)) (i + 64) (puts block_bytes s.tables) ≡ sets l i (table_bytes s)

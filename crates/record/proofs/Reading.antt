@@ -1,12 +1,13 @@
 -- A list of elements of one size that was written reads back, at whatever offset it is: a reader that looks only from its offset on sees
 -- each element after the ones before it.
-use mathlib.Core.Path.{◌≡◌, refl, ap, ◌∙◌}
+use mathlib.Core.Path.{◌≡◌, refl, ap, ◌∙◌, sym}
 use mathlib.Core.List.{List, [], ◌∷◌, ◌++◌, append_assoc}
-use Prim.Native.Nat.{ℕ, suc, zero, ◌+◌, ◌<◌, ◌≤◌}
+use Prim.Native.Nat.{ℕ, suc, zero, ◌+◌, ◌-◌, ◌<◌, ◌≤◌}
 use native.Mathlib.Omega.{arith}
 use native.Mathlib.Nat.{add-zero, zero-add, add_assoc}
-use lib.ListN.{length, get_or-eq_default}
+use lib.ListN.{length, take, drop, get_or, get_or-eq_default}
 use lib.Seq.{get_or-append-add}
+use Rattle.std.proofs.Common.{get_or-drop}
 use Rattle.leaf.specs.Bytes.{word, le32}
 use Rattle.base.specs.Lists.{many, puts, fill, byte}
 use Rattle.leaf.proofs.Laws.{Shifts, word-shifts, word-front, length-le32}
@@ -53,3 +54,22 @@ pub past : (n : ℕ) (l : List ℕ) (at : ℕ) → length l ≤ at → many byte
 unfolding many fill
 past zero l at h = refl
 past (suc n) l at h = rw (get_or-eq_default l 0 h) (ap (λ (t : List ℕ). 0 ∷ t) (past n l (at + 1) (omega arith)))
+
+many-drop : (n : ℕ) (l : List ℕ) (at k : ℕ) → many byte 1 (drop at l) k n ≡ many byte 1 l (at + k) n
+unfolding many
+many-drop zero l at k = refl
+many-drop (suc n) l at k = rw (get_or-drop at l k 0, add_assoc at k 1) (ap (λ (t : List ℕ). get_or l (at + k) 0 ∷ t) (many-drop n l at (k + 1)))
+
+there : (n : ℕ) (d : List ℕ) → take n d ++ fill 0 (n - length (take n d)) ≡ many byte 1 d 0 n
+unfolding many fill
+there zero d = refl
+there (suc n) [] =
+    let e : suc n - 0 ≡ suc n = omega arith in
+    rw e (sym (past (suc n) [] 0 (omega arith)))
+there (suc n) (x ∷ d) =
+    let e : suc n - suc (length (take n d)) ≡ n - length (take n d) = omega arith in
+    rw e (ap (λ (t : List ℕ). x ∷ t) (there n d ∙ sym (many-at byte 1 byte-shifts n (x ∷ []) d 1 refl)))
+
+-- n bytes from an offset on: those that are there, and zeros past the end
+pub bytes-there : (n : ℕ) (l : List ℕ) (at : ℕ) → take n (drop at l) ++ fill 0 (n - length (take n (drop at l))) ≡ many byte 1 l at n
+bytes-there n l at = there n (drop at l) ∙ many-drop n l at 0 ∙ rw add-zero

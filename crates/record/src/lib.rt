@@ -33,9 +33,11 @@ ghost use Rattle.record.specs.Record.{
   id_size,
   validator_size,
 };
+ghost use Rattle.record.specs.Types.{Sized};
 ghost use Rattle.base.specs.Table.{max_tables};
 
 use base::number::{FOURTH_BYTE, SECOND_BYTE, THIRD_BYTE, u8_to_u32};
+use base::slice::part;
 use base::table::TABLES;
 use leaf::bytes::{WORD_SIZE, get, get_time, get8, put, put_time};
 
@@ -138,6 +140,13 @@ pub struct Block {
     pub crc: u32,
 }
 
+// The block of an absent table.
+pub const NO_BLOCK: Block = Block {
+    offset: 0,
+    length: 0,
+    crc: 0,
+};
+
 // A record. Stamp, id and validator are carried raw.
 #[repr(C)]
 #[derive(Clone, Copy)]
@@ -154,31 +163,39 @@ pub struct Source {
     pub validator: [u8; VALIDATOR_SIZE],
 }
 
+// Does nothing: its contract says that arrays of these types have their lengths.
+fn have_lengths(
+    original: [u32; ORIGINAL_WORDS],
+    tables: [Block; TABLES],
+    stamp: [u8; STAMP_SIZE],
+    id: [u8; ID_SIZE],
+    validator: [u8; VALIDATOR_SIZE],
+)
+    ensures { (length original ≡ max_tables * table_words) × (length tables ≡ max_tables) × (length stamp ≡ stamp_size) × (length id ≡ id_size) × (length validator ≡ validator_size) }
+{}
+
+// Does nothing: its contract says that a record's arrays have their lengths.
+pub fn is_sized(s: Source)
+    ensures { Sized s }
+{
+    have_lengths(s.original, s.tables, s.stamp, s.id, s.validator);
+}
+
 // A record of zeros.
 pub fn no_source() -> Source
     ensures { result ≡ no_source }
 {
-    let b = Block {
-        offset: 0,
-        length: 0,
-        crc: 0,
-    };
-    let original = [0u32; ORIGINAL_WORDS];
-    let tables = [b; TABLES];
-    let stamp = [0u8; STAMP_SIZE];
-    let id = [0u8; ID_SIZE];
-    let validator = [0u8; VALIDATOR_SIZE];
     Source {
         start: 0,
         end: 0,
         present: 0,
         updated: 0,
-        original,
-        tables,
-        stamp,
+        original: [0; ORIGINAL_WORDS],
+        tables: [NO_BLOCK; TABLES],
+        stamp: [0; STAMP_SIZE],
         idlen: 0,
-        id,
-        validator,
+        id: [0; ID_SIZE],
+        validator: [0; VALIDATOR_SIZE],
     }
 }
 
@@ -206,17 +223,7 @@ fn table_count(version: u32) -> usize
     }
 }
 
-// The first n bytes, all if there are fewer.
-fn first(b: &[u8], n: usize) -> &[u8]
-    ensures { result.now ≡ take n b.now }
-{
-    if n < b.len() {
-        return &b[0..n];
-    }
-    &b[0..b.len()]
-}
-
-// The 32-bit number at an offset, in one load if all of it is there.
+// The 32-bit number at an offset as leaf::bytes::get reads it, but in one load if all of it is there.
 fn word_at(r: &[u8], at: usize) -> u32
     ensures { result ≡ word r.now at }
 {
@@ -248,11 +255,8 @@ fn words_at(r: &[u8], at: usize, n: usize) -> [u32; ORIGINAL_WORDS]
     ensures { result ≡ many word word_size r.now at n ++ fill 0 (max_tables * table_words - n) }
 {
     let mut t = [0u32; ORIGINAL_WORDS];
-    let mut j = 0;
-    while j < n {
-        let x = word_at(r, at + j * WORD_SIZE);
-        t[j] = x;
-        j += 1;
+    for j in 0..n {
+        t[j] = word_at(r, at + j * WORD_SIZE);
     }
     t
 }
@@ -261,56 +265,21 @@ fn blocks_at(r: &[u8], at: usize, n: usize) -> [Block; TABLES]
     requires { (n ≤ max_tables) × (at ≤ record_size) }
     ensures { result ≡ many block_at block_size r.now at n ++ fill no_block (max_tables - n) }
 {
-    let b = Block {
-        offset: 0,
-        length: 0,
-        crc: 0,
-    };
-    let mut t = [b; TABLES];
-    let mut j = 0;
-    while j < n {
-        let x = block_at(r, at + j * BLOCK_SIZE);
-        t[j] = x;
-        j += 1;
+    let mut t = [NO_BLOCK; TABLES];
+    for j in 0..n {
+        t[j] = block_at(r, at + j * BLOCK_SIZE);
     }
     t
 }
 
-// Copies n bytes of s from an offset on to the start of out; all of them are there.
-fn copy_there(out: &mut [u8], s: &[u8], at: usize, n: usize)
-    requires { (n ≤ length out.old) × (at + n ≤ length s.now) }
-    ensures { out.new ≡ many byte 1 s.now at n ++ drop n out.old }
+// N bytes from an offset on; those past the end are 0.
+fn bytes_at<const N: usize>(r: &[u8], at: usize) -> [u8; N]
+    ensures { result ≡ many byte 1 r.now at N }
 {
-    let mut j = 0;
-    while j < n {
-        let x = s[at + j];
-        out[j] = x;
-        j += 1;
-    }
-}
-
-// The same if some may be missing: these are 0.
-fn copy_some(out: &mut [u8], s: &[u8], at: usize, n: usize)
-    requires { (n ≤ length out.old) × (at ≤ record_size) × (n ≤ record_size) }
-    ensures { out.new ≡ many byte 1 s.now at n ++ drop n out.old }
-{
-    let mut j = 0;
-    while j < n {
-        let x = get8(s, at + j);
-        out[j] = x;
-        j += 1;
-    }
-}
-
-fn copy_in(out: &mut [u8], s: &[u8], at: usize, n: usize)
-    requires { (n ≤ length out.old) × (at ≤ record_size) × (n ≤ record_size) }
-    ensures { out.new ≡ many byte 1 s.now at n ++ drop n out.old }
-{
-    if at + n <= s.len() {
-        copy_there(out, s, at, n);
-    } else {
-        copy_some(out, s, at, n);
-    }
+    let mut t = [0u8; N];
+    let there = part(r, at, N);
+    t[..there.len()].copy_from_slice(there);
+    t
 }
 
 // Reads r as a record with n tables.
@@ -318,30 +287,17 @@ fn read(r: &[u8], n: usize) -> Source
     requires { n ≤ max_tables }
     ensures { result ≡ source_of n r.now }
 {
-    let original = words_at(r, TABLES_OFFSET, n * TABLE_WORDS);
-    let tables = blocks_at(r, n * ORIGINAL_SIZE + TABLES_OFFSET, n);
-    let mut stamp = [0u8; STAMP_SIZE];
-    copy_in(&mut stamp, r, n * TABLE_SIZE + STAMP_OFFSET, STAMP_SIZE);
-    let mut id = [0u8; ID_SIZE];
-    copy_in(&mut id, r, n * TABLE_SIZE + ID_OFFSET, ID_SIZE);
-    let mut validator = [0u8; VALIDATOR_SIZE];
-    copy_in(
-        &mut validator,
-        r,
-        n * TABLE_SIZE + VALIDATOR_OFFSET,
-        VALIDATOR_SIZE,
-    );
     Source {
         start: word_at(r, 0),
         end: word_at(r, END_OFFSET),
         present: word_at(r, PRESENT_OFFSET),
         updated: get_time(r, UPDATED_OFFSET),
-        original,
-        tables,
-        stamp,
+        original: words_at(r, TABLES_OFFSET, n * TABLE_WORDS),
+        tables: blocks_at(r, n * ORIGINAL_SIZE + TABLES_OFFSET, n),
+        stamp: bytes_at(r, n * TABLE_SIZE + STAMP_OFFSET),
         idlen: get8(r, n * TABLE_SIZE + IDLEN_OFFSET),
-        id,
-        validator,
+        id: bytes_at(r, n * TABLE_SIZE + ID_OFFSET),
+        validator: bytes_at(r, n * TABLE_SIZE + VALIDATOR_OFFSET),
     }
 }
 
@@ -351,70 +307,42 @@ pub fn decode(bytes: &[u8], version: u32) -> Source
 {
     let size = source_size(version);
     let tables = table_count(version);
-    let r = first(bytes, size);
+    let r = part(bytes, 0, size);
     read(r, tables)
 }
 
-fn put8(out: &mut [u8], at: usize, v: u8)
-    requires { at + 1 ≤ length out.old }
-    ensures { out.new ≡ set out.old at v }
+// Writes an array of bytes at an offset, where it fits.
+fn put_array<const N: usize>(out: &mut [u8], at: usize, bytes: [u8; N])
+    requires { at + N ≤ length out.old }
+    ensures { out.new ≡ sets out.old at bytes.entry }
 {
-    out[at] = v;
-}
-
-fn put32(out: &mut [u8], at: usize, v: u32)
-    requires { at + word_size ≤ length out.old }
-    ensures { out.new ≡ sets out.old at (le32 v) }
-{
-    put(out, at, v);
-}
-
-fn put64(out: &mut [u8], at: usize, z: i64)
-    requires { at + time_size ≤ length out.old }
-    ensures { out.new ≡ sets out.old at (le64 z) }
-{
-    put_time(out, at, z);
-}
-
-fn put_bytes(out: &mut [u8], at: usize, s: &[u8])
-    requires { at + length s.now ≤ length out.old }
-    ensures { out.new ≡ sets out.old at s.now }
-{
-    let mut j = 0;
-    while j < s.len() {
-        out[at + j] = s[j];
-        j += 1;
-    }
+    out[at..at + N].copy_from_slice(&bytes);
 }
 
 fn put_block(out: &mut [u8], at: usize, b: Block)
     requires { at + block_size ≤ length out.old }
     ensures { out.new ≡ sets out.old at (block_bytes b) }
 {
-    put32(out, at, b.offset);
-    put32(out, at + BLOCK_LENGTH_OFFSET, b.length);
-    put32(out, at + BLOCK_CRC_OFFSET, b.crc);
+    put(out, at, b.offset);
+    put(out, at + BLOCK_LENGTH_OFFSET, b.length);
+    put(out, at + BLOCK_CRC_OFFSET, b.crc);
 }
 
 fn put_words(out: &mut [u8], at: usize, ws: [u32; ORIGINAL_WORDS])
     requires { at + max_tables * original_size ≤ length out.old }
-    ensures { (out.new ≡ sets out.old at (puts le32 ws)) × (length ws ≡ max_tables * table_words) }
+    ensures { out.new ≡ sets out.old at (puts le32 ws) }
 {
-    let mut j = 0;
-    while j < ORIGINAL_WORDS {
-        put32(out, at + j * WORD_SIZE, ws[j]);
-        j += 1;
+    for (j, w) in ws.iter().enumerate() {
+        put(out, at + j * WORD_SIZE, *w);
     }
 }
 
 fn put_blocks(out: &mut [u8], at: usize, bs: [Block; TABLES])
     requires { at + max_tables * block_size ≤ length out.old }
-    ensures { (out.new ≡ sets out.old at (puts block_bytes bs)) × (length bs ≡ max_tables) }
+    ensures { out.new ≡ sets out.old at (puts block_bytes bs) }
 {
-    let mut j = 0;
-    while j < TABLES {
-        put_block(out, at + j * BLOCK_SIZE, bs[j]);
-        j += 1;
+    for (j, b) in bs.iter().enumerate() {
+        put_block(out, at + j * BLOCK_SIZE, *b);
     }
 }
 
@@ -422,109 +350,46 @@ fn put_head(out: &mut [u8], at: usize, s: Source)
     requires { at + tables_offset ≤ length out.old }
     ensures { out.new ≡ sets out.old at (head_bytes s) }
 {
-    put32(out, at, s.start);
-    put32(out, at + END_OFFSET, s.end);
-    put32(out, at + PRESENT_OFFSET, s.present);
-    put64(out, at + UPDATED_OFFSET, s.updated);
+    put(out, at, s.start);
+    put(out, at + END_OFFSET, s.end);
+    put(out, at + PRESENT_OFFSET, s.present);
+    put_time(out, at + UPDATED_OFFSET, s.updated);
 }
 
 fn put_tables(out: &mut [u8], at: usize, s: Source)
-    requires { at + max_tables * table_size ≤ length out.old }
-    ensures { (out.new ≡ sets out.old at (table_bytes s)) × (length s.original ≡ max_tables * table_words) × (length s.tables ≡ max_tables) }
+    requires { (at + max_tables * table_size ≤ length out.old) × Sized s }
+    ensures { out.new ≡ sets out.old at (table_bytes s) }
 {
-    let ws = s.original;
-    put_words(out, at, ws);
-    let bs = s.tables;
-    put_blocks(out, at + BLOCKS_IN_TABLES, bs);
-}
-
-fn put_stamp(out: &mut [u8], at: usize, x: [u8; STAMP_SIZE])
-    requires { at + stamp_size ≤ length out.old }
-    ensures { (out.new ≡ sets out.old at x) × (length x ≡ stamp_size) }
-{
-    put_bytes(out, at, &x);
-}
-
-fn put_id(out: &mut [u8], at: usize, x: [u8; ID_SIZE])
-    requires { at + id_size ≤ length out.old }
-    ensures { (out.new ≡ sets out.old at x) × (length x ≡ id_size) }
-{
-    put_bytes(out, at, &x);
-}
-
-fn put_validator(out: &mut [u8], at: usize, x: [u8; VALIDATOR_SIZE])
-    requires { at + validator_size ≤ length out.old }
-    ensures { (out.new ≡ sets out.old at x) × (length x ≡ validator_size) }
-{
-    put_bytes(out, at, &x);
+    put_words(out, at, s.original);
+    put_blocks(out, at + BLOCKS_IN_TABLES, s.tables);
 }
 
 fn put_tail(out: &mut [u8], at: usize, s: Source)
-    requires { at + (validator_offset + validator_size - stamp_offset) ≤ length out.old }
-    ensures { (out.new ≡ sets out.old at (tail_bytes s)) × (length s.stamp ≡ stamp_size) × (length s.id ≡ id_size) × (length s.validator ≡ validator_size) }
+    requires { (at + (validator_offset + validator_size - stamp_offset) ≤ length out.old) × Sized s }
+    ensures { out.new ≡ sets out.old at (tail_bytes s) }
 {
-    let stamp = s.stamp;
-    put_stamp(out, at, stamp);
-    put8(out, at + IDLEN_IN_TAIL, s.idlen);
-    let id = s.id;
-    put_id(out, at + ID_IN_TAIL, id);
-    let validator = s.validator;
-    put_validator(out, at + VALIDATOR_IN_TAIL, validator);
+    put_array(out, at, s.stamp);
+    out[at + IDLEN_IN_TAIL] = s.idlen;
+    put_array(out, at + ID_IN_TAIL, s.id);
+    put_array(out, at + VALIDATOR_IN_TAIL, s.validator);
 }
 
 // Writes the record of version 3 at an offset, where it fits.
 fn put_source(out: &mut [u8], at: usize, s: Source)
-    requires { at + record_size ≤ length out.old }
-    ensures { (out.new ≡ sets out.old at (source_bytes s)) × (length (source_bytes s) ≡ record_size) }
+    requires { (at + record_size ≤ length out.old) × Sized s }
+    ensures { out.new ≡ sets out.old at (source_bytes s) }
 {
     put_head(out, at, s);
     put_tables(out, at + TABLES_OFFSET, s);
     put_tail(out, at + TAIL_OFFSET, s);
-    let zeros = [0u8; PADDING_SIZE];
-    put_bytes(out, at + PADDING_OFFSET, &zeros);
-}
-
-// These do nothing: their contracts say that the arrays of a record have their lengths.
-fn has_words(ws: [u32; ORIGINAL_WORDS])
-    ensures { length ws ≡ max_tables * table_words }
-{}
-
-fn has_blocks(bs: [Block; TABLES])
-    ensures { length bs ≡ max_tables }
-{}
-
-fn has_stamp(x: [u8; STAMP_SIZE])
-    ensures { length x ≡ stamp_size }
-{}
-
-fn has_id(x: [u8; ID_SIZE])
-    ensures { length x ≡ id_size }
-{}
-
-fn has_validator(x: [u8; VALIDATOR_SIZE])
-    ensures { length x ≡ validator_size }
-{}
-
-fn has_size(s: Source)
-    ensures { length (source_bytes s) ≡ record_size }
-{
-    let original = s.original;
-    has_words(original);
-    let tables = s.tables;
-    has_blocks(tables);
-    let stamp = s.stamp;
-    has_stamp(stamp);
-    let id = s.id;
-    has_id(id);
-    let validator = s.validator;
-    has_validator(validator);
+    put_array(out, at + PADDING_OFFSET, [0u8; PADDING_SIZE]);
 }
 
 // Writes the record of version 3 at an offset, if it fits; otherwise nothing changes.
 pub fn encode(s: Source, out: &mut [u8], at: usize)
     ensures { out.new ≡ written out.old at (source_bytes s) }
 {
-    has_size(s);
+    is_sized(s);
     if RECORD_SIZE <= out.len() {
         if at <= out.len() - RECORD_SIZE {
             put_source(out, at, s);

@@ -9,5 +9,5 @@ unfolding decoded
 returns c =
     let a = c.args in
     c.read.ensures
-    ∙ (λ i. source_of (c.table_count-tables.ensures.0 i) (c.first-r.ensures i))
+    ∙ (λ i. source_of (c.table_count-tables.ensures.0 i) (c.part-r.ensures i))
     ∙ ap (λ n. source_of (table_count a.version) (take n a.bytes.now)) c.source_size-size.ensures.0

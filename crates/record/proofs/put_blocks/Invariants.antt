@@ -8,7 +8,4 @@ use Rattle.record.specs.Record.{block_bytes}
 use Rattle.record.proofs.put_blocks.Given as goal
 
 abbrev pub invariant-loop-j : goal.invariant-loop-j
-invariant-loop-j l = (l.j ≤ 8) × (length l.out ≡ length l.initial.out) × (l.out ≡ sets l.initial.out l.at (puts block_bytes (take l.j l.bs)))
-
-abbrev pub decreases-loop-j : goal.decreases-loop-j
-decreases-loop-j l = 8 - l.j
+invariant-loop-j l = (length l.out ≡ length l.initial.out) × (l.out ≡ sets l.initial.out l.at (puts block_bytes (take l.j l.b-items)))

@@ -6,5 +6,4 @@ use Rattle.record.proofs.Laws.{tables-are}
 pub returns : goal.returns
 returns c =
     let a = c.args in
-    let n = c.put_words.ensures.1 in
-    (c.put_blocks.ensures.0 ∙ rw c.put_words.ensures.0 (tables-are a.out.now a.at a.s n), n, c.put_blocks.ensures.1)
+    c.put_blocks.ensures ∙ rw c.put_words.ensures (tables-are a.out.now a.at a.s c.requires.1.original)

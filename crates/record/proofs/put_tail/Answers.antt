@@ -6,6 +6,5 @@ use Rattle.record.proofs.Laws.{tail-is}
 pub returns : goal.returns
 returns c =
     let a = c.args in
-    let e = c.put_stamp.ensures.1 in
-    let f = c.put_id.ensures.1 in
-    (c.put_validator.ensures.0 ∙ rw (c.put_id.ensures.0, c.put8.ensures, c.put_stamp.ensures.0) (tail-is a.out.now a.at a.s e f), e, f, c.put_validator.ensures.1)
+    let z = c.requires.1 in
+    c.put_array-3.ensures ∙ rw (c.put_array-2.ensures, c.put_array.ensures) (tail-is a.out.now a.at a.s z.stamp z.id)

@@ -8,7 +8,4 @@ use Rattle.base.specs.Lists.{puts}
 use Rattle.record.proofs.put_words.Given as goal
 
 abbrev pub invariant-loop-j : goal.invariant-loop-j
-invariant-loop-j l = (l.j ≤ 16) × (length l.out ≡ length l.initial.out) × (l.out ≡ sets l.initial.out l.at (puts le32 (take l.j l.ws)))
-
-abbrev pub decreases-loop-j : goal.decreases-loop-j
-decreases-loop-j l = 16 - l.j
+invariant-loop-j l = (length l.out ≡ length l.initial.out) × (l.out ≡ sets l.initial.out l.at (puts le32 (take l.j l.w-items)))

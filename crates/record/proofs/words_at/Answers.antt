@@ -10,17 +10,17 @@ use Rattle.base.proofs.Lists.{many-set, drop-new}
 
 pub loop-j-init : goal.loop-j-init
 unfolding many
-loop-j-init c = (omega arith, refl)
+loop-j-init c = refl
 
 pub loop-j-preserved : goal.loop-j-preserved
 loop-j-preserved c =
     let a = c.args in
     let l = c.loop-j in
-    (omega arith, rw l.invariant.1 (many-set word 4 a.r.now a.at l.j (replicate 16 0) 0 c.word_at-x.result (omega arith) c.word_at-x.ensures))
+    rw l.invariant (many-set word 4 a.r.now a.at l.j (replicate 16 0) 0 c.word_at.result (omega arith) c.word_at.ensures)
 
 pub returns : goal.returns
 returns c =
     let a = c.args in
     let l = c.loop-j in
     let e : l.j ≡ a.n = omega arith in
-    rw e at l.invariant.1 ∙ ap (λ t. many word 4 a.r.now a.at a.n ++ t) (drop-new 0 16 a.n)
+    rw e at l.invariant ∙ ap (λ t. many word 4 a.r.now a.at a.n ++ t) (drop-new 0 16 a.n)
