@@ -3,9 +3,10 @@
 use mathlib.Core.Path.{◌≡◌, refl, ap, ◌∙◌, sym}
 use mathlib.Core.Bool.{Bool, true, false, ◌&&◌, false≢true, and-true, and_assoc}
 use mathlib.Core.List.{List, [], ◌∷◌, ◌++◌}
-use Prim.Native.Nat.{ℕ, suc, ◌+◌, ◌*◌, ◌-◌, ◌<◌, ◌≤◌}
+use Prim.Native.Nat.{ℕ, zero, suc, ◌+◌, ◌*◌, ◌-◌, ◌<◌, ◌≤◌}
 use native.Mathlib.Omega.{arith}
-use native.Mathlib.Numerals.{add-one}
+use native.Mathlib.Nat.{add-mul, one-mul}
+use Rattle.std.specs.List.{list_all, range_with_len}
 use lib.IntN.{ℤ, pos, negsuc}
 use lib.ListN.{length, take, get_or}
 use lib.Seq.{take-suc}
@@ -18,7 +19,6 @@ use Rattle.leaf.specs.Bytes.{word}
 use Rattle.refusal.specs.declared.Refusal.{Refusal}
 use Rattle.refusal.specs.declared.Refusal.TheVariants.{Mark, Seal, Span, Source as BadSource}
 use Rattle.base.specs.Lists.{many, each}
-use Rattle.base.proofs.Lists.{many_more}
 use Rattle.base.proofs.Bools.{and_left, and_right}
 use Rattle.header.specs.declared.Bank.{Bank}
 use Rattle.header.specs.Header.{is_unknown, length_ok, key_ok, count_ok, span_ok, numbers_of, records_of, source_ok, judge, marked, sealed, header_of, max_sources}
@@ -35,18 +35,21 @@ pub unknown-bits : (t : ℤ) → SFits w64 t → eqb (of_z w64 t) 92233720368547
 unknown-bits (pos n) f = ne_eqb n 9223372036854775808 (λ e. omega (arith, f.sfits))
 unknown-bits (negsuc n) f = lowest_by n (eqb n 9223372036854775807) refl
 
--- a test of each element, one by one
+-- a test of each element is std's
 
-each_last : {A : Type 0} (p : A → Bool) (xs : List A) (x : A) → each p (xs ++ (x ∷ [])) ≡ (each p xs && p x)
+pub each-all : {A : Type 0} (p : A → Bool) (xs : List A) → list_all p xs ≡ each p xs
 unfolding each
-each_last p [] x = and-true (p x)
-each_last p (y ∷ xs) x = ap (λ t. p y && t) (each_last p xs x) ∙ sym (and_assoc (p y) (each p xs) (p x))
+each-all p [] = refl
+each-all p (x ∷ xs) = ap (λ (t : Bool). p x && t) (each-all p xs)
 
-pub each_take : {A : Type 0} (p : A → Bool) (xs : List A) (j : ℕ) (z : A) → j < length xs → (each p (take j xs) && p (get_or xs j z)) ≡ each p (take (j + 1) xs)
-each_take p xs j z h = rw (add-one, take-suc xs j z h) (sym (each_last p (take j xs) (get_or xs j z)))
-
-pub each-many : {A : Type 0} (p : A → Bool) (f : List ℕ → ℕ → A) (step : ℕ) (l : List ℕ) (at n : ℕ) → (each p (many f step l at n) && p (f l (at + n * step))) ≡ each p (many f step l at (n + 1))
-each-many p f step l at n = rw (add-one, many_more f step l at n) (sym (each_last p (many f step l at n) (f l (at + n * step))))
+-- and of each element read, by its index
+pub each-read : {A : Type 0} (p : A → Bool) (f : List ℕ → ℕ → A) (step : ℕ) (l : List ℕ) (at k n : ℕ)
+    → list_all (λ i. p (f l (at + i * step))) (range_with_len k n) ≡ each p (many f step l (at + k * step) n)
+unfolding each many
+each-read p f step l at k zero = refl
+each-read p f step l at k (suc n) =
+    let e : at + (k + 1) * step ≡ at + k * step + step = omega (arith, add-mul k 1 step, one-mul step) in
+    ap (λ (t : Bool). p (f l (at + k * step)) && t) (each-read p f step l at (k + 1) n ∙ ap (λ (m : ℕ). each p (many f step l m n)) e)
 
 -- what passes 5 has a count of at most three
 

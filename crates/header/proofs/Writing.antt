@@ -13,7 +13,7 @@ use lib.Seq.{sets, length-sets, length-take-le, take_all}
 use Rattle.base.specs.Number.{pick}
 use Rattle.leaf.specs.Bytes.{word, le32, le64, written}
 use Rattle.leaf.specs.Crc.{crc32}
-use Rattle.leaf.proofs.Laws.{length-le32, length-le64, written-sets}
+use Rattle.leaf.proofs.Laws.{length-le32, written_next, written-sets}
 use Rattle.record.specs.declared.Source.{Source}
 use Rattle.record.specs.Record.{source_bytes}
 use Rattle.base.specs.Lists.{puts, fill, each}
@@ -28,9 +28,6 @@ use Rattle.std.specs.Prelude.{Ok, Err}
 put-fits : (l : List ℕ) (at n : ℕ) → length l ≡ header_size → at + 4 ≤ header_size → written l at (le32 n) ≡ sets l at (le32 n)
 put-fits l at n e h = written-sets l at (le32 n) (rw (length-le32 n, e) h)
 
-time-fits : (l : List ℕ) (at : ℕ) (z : ℤ) → length l ≡ header_size → at + 8 ≤ header_size → written l at (le64 z) ≡ sets l at (le64 z)
-time-fits l at z e h = written-sets l at (le64 z) (rw (length-le64 z, e) h)
-
 kept : (l : List ℕ) (at : ℕ) (v : List ℕ) → length l ≡ header_size → length (sets l at v) ≡ header_size
 kept l at v e = length-sets l at v ∙ e
 
@@ -38,69 +35,34 @@ magic-is : 1128682580 ≡ magic
 unfolding word
 magic-is = refl
 
-first-is : (l : List ℕ) (b : Bank)
-    → sets (sets (sets (sets l 0 (le32 magic)) 4 (le32 b.version)) 8 (le32 b.generation)) 12 (le32 b.length) ≡ sets l 0 (magic_to_length b)
+pub magic-to-length-written : (l : List ℕ) (b : Bank) → length l ≡ header_size
+    → written (written (written (written l 0 (le32 1128682580)) 4 (le32 b.version)) 8 (le32 b.generation)) 12 (le32 b.length) ≡ sets l 0 (magic_to_length b)
 unfolding magic_to_length le32
-first-is l b =
+magic-to-length-written l b e =
     let m = le32 magic in
     let v = le32 b.version in
     let g = le32 b.generation in
     let n = le32 b.length in
-    ap (λ (t : List ℕ). sets (sets t 8 g) 12 n) (next l m v 0 4 refl)
-    ∙ ap (λ (t : List ℕ). sets t 12 n) (next l (m ++ v) g 0 8 refl)
-    ∙ next l (m ++ v ++ g) n 0 12 refl
+    ap (λ (k : ℕ). written (written (written (written l 0 (le32 k)) 4 v) 8 g) 12 n) magic-is
+    ∙ ap (λ (t : List ℕ). written (written t 8 g) 12 n) (written_next l m v 0 4 refl (omega arith))
+    ∙ ap (λ (t : List ℕ). written t 12 n) (written_next l (m ++ v) g 0 8 refl (omega arith))
+    ∙ written_next l (m ++ v ++ g) n 0 12 refl (omega arith)
+    ∙ written-sets l 0 (magic_to_length b) (omega arith)
 
-second_is : (l : List ℕ) (b : Bank)
-    → sets (sets (sets (sets (sets l 16 (le32 b.crc)) 20 (le32 b.count)) 24 (le32 b.key)) 28 (le32 0)) 32 (le64 b.checked) ≡ sets l 16 (crc_to_checked b)
-unfolding crc_to_checked le32
-second_is l b =
+pub crc-to-checked-written : (l : List ℕ) (b : Bank) → length l ≡ header_size
+    → written (written (written (written (written l 16 (le32 b.crc)) 20 (le32 b.count)) 24 (le32 b.key)) 28 (le32 0)) 32 (le64 b.checked) ≡ sets l 16 (crc_to_checked b)
+unfolding crc_to_checked le32 le64
+crc-to-checked-written l b e =
     let d = le32 b.crc in
     let n = le32 b.count in
     let k = le32 b.key in
     let z = le32 0 in
     let t = le64 b.checked in
-    ap (λ (x : List ℕ). sets (sets (sets x 24 k) 28 z) 32 t) (next l d n 16 4 refl)
-    ∙ ap (λ (x : List ℕ). sets (sets x 28 z) 32 t) (next l (d ++ n) k 16 8 refl)
-    ∙ ap (λ (x : List ℕ). sets x 32 t) (next l (d ++ n ++ k) z 16 12 refl)
-    ∙ next l (d ++ n ++ k ++ z) t 16 16 refl
-
-pub magic-to-length-written : (l : List ℕ) (b : Bank) → length l ≡ header_size
-    → written (written (written (written l 0 (le32 1128682580)) 4 (le32 b.version)) 8 (le32 b.generation)) 12 (le32 b.length) ≡ sets l 0 (magic_to_length b)
-magic-to-length-written l b e =
-    let l₁ = sets l 0 (le32 magic) in
-    let l₂ = sets l₁ 4 (le32 b.version) in
-    let l₃ = sets l₂ 8 (le32 b.generation) in
-    let e₁ = kept l 0 (le32 magic) e in
-    let e₂ = kept l₁ 4 (le32 b.version) e₁ in
-    let e₃ = kept l₂ 8 (le32 b.generation) e₂ in
-    rw (
-      magic-is,
-      put-fits l 0 magic e (omega arith),
-      put-fits l₁ 4 b.version e₁ (omega arith),
-      put-fits l₂ 8 b.generation e₂ (omega arith),
-      put-fits l₃ 12 b.length e₃ (omega arith),
-    )
-    (first-is l b)
-
-pub crc-to-checked-written : (l : List ℕ) (b : Bank) → length l ≡ header_size
-    → written (written (written (written (written l 16 (le32 b.crc)) 20 (le32 b.count)) 24 (le32 b.key)) 28 (le32 0)) 32 (le64 b.checked) ≡ sets l 16 (crc_to_checked b)
-crc-to-checked-written l b e =
-    let l₁ = sets l 16 (le32 b.crc) in
-    let l₂ = sets l₁ 20 (le32 b.count) in
-    let l₃ = sets l₂ 24 (le32 b.key) in
-    let l₄ = sets l₃ 28 (le32 0) in
-    let e₁ = kept l 16 (le32 b.crc) e in
-    let e₂ = kept l₁ 20 (le32 b.count) e₁ in
-    let e₃ = kept l₂ 24 (le32 b.key) e₂ in
-    let e₄ = kept l₃ 28 (le32 0) e₃ in
-    rw (
-      put-fits l 16 b.crc e (omega arith),
-      put-fits l₁ 20 b.count e₁ (omega arith),
-      put-fits l₂ 24 b.key e₂ (omega arith),
-      put-fits l₃ 28 0 e₃ (omega arith),
-      time-fits l₄ 32 b.checked e₄ (omega arith),
-    )
-    (second_is l b)
+    ap (λ (x : List ℕ). written (written (written x 24 k) 28 z) 32 t) (written_next l d n 16 4 refl (omega arith))
+    ∙ ap (λ (x : List ℕ). written (written x 28 z) 32 t) (written_next l (d ++ n) k 16 8 refl (omega arith))
+    ∙ ap (λ (x : List ℕ). written x 32 t) (written_next l (d ++ n ++ k) z 16 12 refl (omega arith))
+    ∙ written_next l (d ++ n ++ k ++ z) t 16 16 refl (omega arith)
+    ∙ written-sets l 16 (crc_to_checked b) (omega arith)
 
 pub length-numbers : (b : Bank) → length (number_bytes b) ≡ 40
 unfolding magic_to_length crc_to_checked le32 le64

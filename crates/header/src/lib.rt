@@ -175,14 +175,7 @@ fn block_ok(b: Bank, t: Block) -> bool
 fn blocks_ok(b: Bank, ts: [Block; TABLES]) -> bool
     ensures { result ≡ each (block_ok b) ts }
 {
-    let mut ok = true;
-    let mut j = 0;
-    while j < TABLES {
-        let x = ts[j];
-        ok = ok & block_ok(b, x);
-        j += 1;
-    }
-    ok
+    ts.iter().all(|t| block_ok(b, *t))
 }
 
 // Whether dates, present bits, updated time and blocks of a source pass 6.
@@ -208,16 +201,7 @@ fn records_ok(l: &[u8], b: Bank, n: usize) -> bool
     ensures { result ≡ each (source_ok b) (records_of b.version l.now n) }
 {
     let size = source_size(b.version);
-    let mut ok = true;
-    let mut at = RECORDS_OFFSET;
-    let mut i = 0;
-    while i < n {
-        let s = record_at(l, b.version, at);
-        ok = ok & source_ok(b, s);
-        at += size;
-        i += 1;
-    }
-    ok
+    (0..n).all(|i| source_ok(b, record_at(l, b.version, RECORDS_OFFSET + i * size)))
 }
 
 // The tests of a bank that don't read its data: refusals 3 to 6.

@@ -26,24 +26,14 @@ use leaf::bytes::{WORD_SIZE, put, put_time};
 use leaf::crc::crc32;
 use record::{
     Block, ID_SIZE, MAX_ID, MAX_VALIDATOR, ORIGINAL_WORDS, RECORD_SIZE, STAMP_SIZE, Source,
-    VALIDATOR_SIZE, encode,
+    VALIDATOR_SIZE, encode, is_sized,
 };
 
 // How many records are written.
 fn records(count: u32) -> usize
     ensures { result ≡ min count max_sources }
 {
-    if count < SOURCES_32 {
-        count as usize
-    } else {
-        SOURCES
-    }
-}
-
-fn zeros() -> [u8; HEADER_SIZE]
-    ensures { result ≡ fill 0 header_size }
-{
-    [0u8; HEADER_SIZE]
+    count.min(SOURCES_32) as usize
 }
 
 // Bytes 0 to 15.
@@ -69,39 +59,14 @@ fn put_crc_to_checked(out: &mut [u8], b: Bank)
     put_time(out, CHECKED_OFFSET, b.checked);
 }
 
-// Does nothing: its contract says that the arrays of a record have their lengths.
-fn have_lengths(
-    original: [u32; ORIGINAL_WORDS],
-    tables: [Block; TABLES],
-    stamp: [u8; STAMP_SIZE],
-    id: [u8; ID_SIZE],
-    validator: [u8; VALIDATOR_SIZE],
-)
-    ensures { (length original ≡ max_tables * table_words) × (length tables ≡ max_tables) × (length stamp ≡ stamp_size) × (length id ≡ id_size) × (length validator ≡ validator_size) }
-{}
-
-fn is_sized(s: Source)
-    ensures { Sized s }
-{
-    let original = s.original;
-    let tables = s.tables;
-    let stamp = s.stamp;
-    let id = s.id;
-    let validator = s.validator;
-    have_lengths(original, tables, stamp, id, validator);
-}
-
 // Writes the first n records, one after the other.
 fn put_records(out: &mut [u8], ss: [Source; SOURCES], n: usize)
     requires { (n ≤ max_sources) × (length out.old ≡ header_size) }
     ensures { (out.new ≡ sets out.old records_offset (puts source_bytes (take n ss))) × (length (puts source_bytes (take n ss)) ≡ n * record_size) × (length ss ≡ max_sources) }
 {
-    let mut i = 0;
-    while i < n {
-        let s = ss[i];
-        is_sized(s);
-        encode(s, out, RECORDS_OFFSET + i * RECORD_SIZE);
-        i += 1;
+    for (i, s) in ss[..n].iter().enumerate() {
+        is_sized(*s);
+        encode(*s, out, RECORDS_OFFSET + i * RECORD_SIZE);
     }
 }
 
@@ -122,7 +87,7 @@ fn put_header(out: &mut [u8], b: Bank, ss: [Source; SOURCES])
 pub fn header_bytes(b: Bank, ss: [Source; SOURCES]) -> [u8; HEADER_SIZE]
     ensures { result ≡ header_bytes b (take b.count ss) blank_word }
 {
-    let mut out = zeros();
+    let mut out = [0u8; HEADER_SIZE];
     put_header(&mut out, b, ss);
     out
 }
@@ -149,14 +114,8 @@ pub fn fit(b: Bank, ss: [Source; SOURCES]) -> bool
     ensures { result ≡ is_fit b (take b.count ss) }
 {
     let n = records(b.count);
-    let mut sources = true;
-    let mut texts = true;
-    let mut i = 0;
-    while i < n {
-        let s = ss[i];
-        sources = sources & source_ok(b, s);
-        texts = texts & text_ok(s);
-        i += 1;
-    }
+    let below = &ss[..n];
+    let sources = below.iter().all(|s| source_ok(b, *s));
+    let texts = below.iter().all(|s| text_ok(*s));
     (span_ok(b) & sources) & texts
 }

@@ -1,29 +1,23 @@
--- The invariant: ok says whether the first i records are good, and `at` is the offset of record i (`each-many`).
-use Rattle.std.proofs.Common.{◌≡◌, ◌+◌, ◌*◌, ℕ}
-use Rattle.base.specs.Lists.{each}
-use Rattle.header.specs.Header.{record_at, source_ok}
-use Rattle.header.proofs.records_ok.Goals as goal
+-- The test of each record is the definition's (`each-read`).
+use Rattle.std.proofs.Common.{◌≡◌, ◌∙◌, ◌+◌, ◌*◌, ◌-◌, rules, tests, arith}
+use Rattle.std.specs.List.{list_all, range_with_len}
+use Rattle.std.proofs.lemmas.Iterator.{YieldsList-from_range}
+use Rattle.std.proofs.lemmas.Iterator.Search.{all_from_yields_List}
+use Rattle.base.specs.Lists.{many, each}
 use Rattle.record.specs.Record.{source_size}
-use Rattle.base.specs.Lists.{many}
-use native.Mathlib.Nat.{zero-mul, add-mul, one-mul}
-use native.Mathlib.Omega.{arith}
-use Rattle.header.proofs.Laws.{each-many}
-use mathlib.Core.Path.{refl, ap, ◌∙◌}
+use Rattle.header.specs.Header.{record_at, source_ok}
+use Rattle.header.proofs.Laws.{each-read}
+use Rattle.header.proofs.records_ok.Goals as goal
 
-pub loop-i-init : goal.loop-i-init
-unfolding each many
-loop-i-init c = (omega arith, omega (arith, zero-mul c.source_size-size.result), omega arith, refl)
-
-pub loop-i-preserved : goal.loop-i-preserved
-loop-i-preserved c =
-    let a = c.args in
-    let k = c.loop-i in
-    let z = c.source_size-size in
-    let v = a.b.version in
-    let s : c.record_at-s.result ≡ record_at v a.l.now (48 + k.i * source_size v) =
-    c.record_at-s.ensures ∙ ap (record_at v a.l.now) (k.invariant.1 ∙ ap (λ (m : ℕ). 48 + k.i * m) z.ensures.0) in (
-      omega arith,
-      omega (arith, add-mul k.i 1 z.result, one-mul z.result, k.invariant.1),
-      omega (arith, z.ensures.1),
-      rw (k.invariant.3, c.source_ok-ok.ensures, s) (each-many (source_ok a.b) (record_at v) (source_size v) a.l.now 48 k.i),
-    )
+pub returns : goal.returns
+returns c =
+    let b = c.args.b in
+    let l = c.args.l.now in
+    let n = c.args.n in
+    let f = record_at b.version in
+    let p = source_ok b in
+    let z = source_size b.version in
+    let e : n - 0 ≡ n = omega arith in
+    let first : 48 + 0 * z ≡ 48 = omega arith in
+    let h : list_all (λ i. p (f l (48 + i * z))) (range_with_len 0 n) ≡ each p (many f z l (48 + 0 * z) n) = each-read p f z l 48 0 n in
+    all_from_yields_List (λ i. p (f l (48 + i * z))) _ _ _ c.all.ensures.ran (YieldsList-from_range 0 n n (cc) e) (λ x r q k. search (rules, tests)) ∙ rw first at h

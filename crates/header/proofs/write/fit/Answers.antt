@@ -1,35 +1,25 @@
--- The invariant: the two flags say whether the first i records pass 6 and have texts of allowed length. Only records below the count are
--- looked at (`below-count`).
-use Rattle.std.proofs.Common.{rules, ◌≡◌, min, length, take, ℕ, ◌<◌}
-use Rattle.header.specs.WriteHeader.{text_ok, is_fit}
-use Rattle.header.proofs.write.fit.Goals as goal
-use mathlib.Core.Path.{refl, ap, ◌∙◌}
-use native.Mathlib.Omega.{arith}
+-- The flags say whether the records below the count pass 6 and have texts of allowed length. Only those are looked at (`below-count`).
+use Rattle.std.proofs.Common.{◌≡◌, ◌∙◌, ap, take, length, rules, tests}
+use Rattle.std.proofs.lemmas.Iterator.{YieldsList-from_slice}
+use Rattle.std.proofs.lemmas.Iterator.Search.{all_from_yields_List}
 use Rattle.base.specs.Lists.{each}
 use Rattle.header.specs.Header.{source_ok}
-use Rattle.header.proofs.Laws.{each_take}
-use Rattle.header.proofs.Writing.{no_source, below-count, judge-is}
-
-pub loop-i-init : goal.loop-i-init
-unfolding each
-loop-i-init c = (omega arith, refl, refl)
-
-pub loop-i-preserved : goal.loop-i-preserved
-loop-i-preserved c =
-    let l = c.loop-i in
-    let a = c.args in
-    let k : l.i < length a.ss = search rules in (
-      omega arith,
-      rw (l.invariant.1, c.source_ok-sources.ensures) (each_take (source_ok a.b) a.ss l.i no_source k),
-      rw (l.invariant.2, c.text_ok-texts.ensures) (each_take text_ok a.ss l.i no_source k),
-    )
+use Rattle.header.specs.WriteHeader.{text_ok, is_fit}
+use Rattle.header.proofs.Laws.{each-all}
+use Rattle.header.proofs.Writing.{below-count, judge-is}
+use Rattle.header.proofs.write.fit.Goals as goal
 
 pub returns : goal.returns
 unfolding is_fit
 returns c =
-    let l = c.loop-i in
-    let a = c.args in
-    let k : length a.ss ≡ 3 = search rules in
-    let e : l.i ≡ min a.b.count 3 = omega (arith, c.records-n.ensures) in
-    let t : take l.i a.ss ≡ take a.b.count a.ss = ap (λ (j : ℕ). take j a.ss) e ∙ below-count a.ss a.b.count k in
-    rw (c.span_ok.ensures, l.invariant.1, l.invariant.2, t, judge-is a.b (take a.b.count a.ss))
+    let b = c.args.b in
+    let n = c.records-n.result in
+    let xs = take n c.args.ss in
+    let ys = take b.count c.args.ss in
+    let three : length c.args.ss ≡ 3 = search rules in
+    let t : xs ≡ ys = rw c.records-n.ensures (below-count c.args.ss b.count three) in
+    let p : c.all-sources.result ≡ each (source_ok b) xs =
+    all_from_yields_List (source_ok b) _ _ c.all-sources.result c.all-sources.ensures.ran (YieldsList-from_slice xs cc) (λ x r q k. search (rules, tests)) ∙ each-all (source_ok b) xs in
+    let q : c.all-texts.result ≡ each text_ok xs =
+    all_from_yields_List text_ok _ _ c.all-texts.result c.all-texts.ensures.ran (YieldsList-from_slice xs cc) (λ x r q k. search (rules, tests)) ∙ each-all text_ok xs in
+    rw (c.span_ok.ensures, p, q, t, judge-is b ys)
