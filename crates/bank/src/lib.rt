@@ -48,16 +48,11 @@ fn data_ok(region: &[u8], b: Bank) -> bool
 pub fn validate(region: &[u8], number: u32) -> Result<Bank, Refusal>
     ensures { result ≡ Banks.validated region.now number }
 {
-    let h = header(region, number);
-    match h {
-        Ok(b) => {
-            if data_ok(region, b) {
-                Ok(b)
-            } else {
-                Err(Refusal::Data)
-            }
-        }
-        Err(r) => Err(r),
+    let b = header(region, number)?;
+    if data_ok(region, b) {
+        Ok(b)
+    } else {
+        Err(Refusal::Data)
     }
 }
 

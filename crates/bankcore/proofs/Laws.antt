@@ -19,7 +19,7 @@ use Rattle.bankcore.specs.Operation.{no_operation, next_operation, operation_of}
 use Rattle.region.specs.Region.{capacity}
 use Rattle.std.specs.Prelude.{Ok, Err, Some, None, Result, Option}
 use Rattle.refusal.specs.declared.Refusal.{Refusal}
-use Rattle.rowread.specs.declared.Stored.{Stored}
+use Rattle.rowread.specs.declared.Span.{Span}
 use Rattle.writer.specs.declared.Answer.{Answer}
 
 -- a refused call isn't done
@@ -46,7 +46,7 @@ module _ (w : Writer) where
       refused-by (may_append w) (leb (position w.contents + length xs) capacity) (is_due w.contents) n (with_bytes w (take n xs)) e
 
 -- a row's numbers are the same for a bank's row
-pub as_row : (x : Result (Option Stored) Refusal) → as_bank_row (of_read x) ≡ of_bank_row x
+pub as_row : (x : Result (Option Span) Refusal) → as_bank_row (of_read x) ≡ of_bank_row x
 as_row (Ok (Some s)) = refl
 as_row (Ok None) = refl
 as_row (Err r) = refl

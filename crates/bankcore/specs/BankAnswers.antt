@@ -20,7 +20,7 @@ use Rattle.bankcore.specs.declared.bank_calls.MatchNumbers.{MatchNumbers}
 use Rattle.bankcore.specs.declared.bank_calls.TurnNumbers.{TurnNumbers}
 use Rattle.refusal.specs.declared.Refusal.{Refusal}
 use Rattle.snapshot.specs.declared.freshness.Freshness.{Freshness}
-use Rattle.rowread.specs.declared.Stored.{Stored}
+use Rattle.rowread.specs.declared.Span.{Span}
 use Rattle.bank.specs.declared.turns.Progress.{Progress}
 
 abbrev pub of_bank : Bank → BankNumbers
@@ -103,7 +103,7 @@ output_of out a (Err r) = out
 abbrev pub no_bank_row : ℕ → BankRowNumbers
 no_bank_row r = record { refusal = r; found = 0; next = 0; size = 0 }
 
-abbrev pub of_bank_row : Result (Option Stored) Refusal → BankRowNumbers
+abbrev pub of_bank_row : Result (Option Span) Refusal → BankRowNumbers
 of_bank_row (Ok (Some s)) = record { refusal = 0; found = 1; next = s.next; size = s.size }
 of_bank_row (Ok None) = no_bank_row 0
 of_bank_row (Err r) = no_bank_row (number_of r)

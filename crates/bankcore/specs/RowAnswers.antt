@@ -10,7 +10,7 @@ use Rattle.bankcore.specs.declared.row_calls.RowNumbers.{RowNumbers}
 use Rattle.bankcore.specs.declared.row_calls.ReadNumbers.{ReadNumbers}
 use Rattle.bankcore.specs.declared.row_calls.FilterNumbers.{FilterNumbers}
 use Rattle.refusal.specs.declared.Refusal.{Refusal}
-use Rattle.rowread.specs.declared.Stored.{Stored}
+use Rattle.rowread.specs.declared.Span.{Span}
 
 -- how many columns a table has; 2 above the last one
 abbrev pub of_columns : ℕ → ColumnNumbers
@@ -24,7 +24,7 @@ of_row (Err r) = record { refusal = number_of r; length = 0 }
 abbrev pub no_row : ℕ → ReadNumbers
 no_row r = record { refusal = r; found = 0; next = 0; size = 0 }
 
-abbrev pub of_read : Result (Option Stored) Refusal → ReadNumbers
+abbrev pub of_read : Result (Option Span) Refusal → ReadNumbers
 of_read (Ok (Some s)) = record { refusal = 0; found = 1; next = s.next; size = s.size }
 of_read (Ok None) = no_row 0
 of_read (Err r) = no_row (number_of r)

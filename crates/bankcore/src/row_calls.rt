@@ -9,7 +9,7 @@ ghost use Rattle.bankcore.specs.RowAnswers as Answers;
 
 use base::table::LAST_TABLE;
 use refusal::{Refusal, number_u32};
-use rowread::Stored;
+use rowread::Span;
 
 // A written line's length, with its LF.
 #[repr(C)]
@@ -71,11 +71,11 @@ fn no_row(r: u32) -> ReadNumbers
     }
 }
 
-fn of_read(a: Result<Option<Stored>, Refusal>) -> ReadNumbers
+fn of_read(a: Result<Option<Span>, Refusal>) -> ReadNumbers
     ensures { result ≡ Answers.of_read a }
 {
     match a {
-        Ok(Some(Stored { next, size })) => ReadNumbers {
+        Ok(Some(Span { next, size })) => ReadNumbers {
             refusal: 0,
             found: 1,
             next,

@@ -1,9 +1,9 @@
 -- What the code's calls return, from the results of the four single reads or sets, and from the test of the filter's size.
-use Rattle.std.proofs.Common.{◌≡◌, ℕ, Bool, true, false, ◌&&◌, List, [], ◌∷◌, length, Err, Result}
+use Rattle.std.proofs.Common.{◌≡◌, ℕ, Bool, true, false, ◌&&◌, List, [], ◌∷◌, length, Err, Result, Ok}
 use mathlib.Core.Bool.{and-true}
 use Rattle.refusal.specs.declared.Refusal.TheVariants.{Argument}
 use Rattle.leaf.specs.Crc.{crc32}
-use Rattle.bloom.specs.Bloom.{positions, is_set, set_bit, all_set, seen, set_all, fits, answer, query, insert_answer, inserted}
+use Rattle.bloom.specs.Bloom.{positions, is_set, set_bit, all_set, seen, set_all, fits, query, insert_answer, inserted}
 use Rattle.refusal.specs.declared.Refusal.{Refusal}
 
 -- four reads
@@ -39,11 +39,11 @@ module _ (bits id : List ℕ) where
     insert-kept = rw e
 
   module _ (e : fits (length bits) ≡ true) (hash : ℕ) (h : hash ≡ crc32 0 id) (ps : List ℕ) (places : ps ≡ positions hash (length bits)) where
-    pub query-is : (s : Bool) (r : Result Bool Refusal) → s ≡ all_set bits ps → r ≡ answer s → r ≡ query bits id
+    pub query-is : (s : Bool) (r : Result Bool Refusal) → s ≡ all_set bits ps → r ≡ Ok s → r ≡ query bits id
     unfolding query
     query-is s r es er = rw (e, er, es, places, h)
 
-    pub insert-is : (s : Bool) (r : Result Bool Refusal) → s ≡ seen bits ps → r ≡ answer s → r ≡ insert_answer bits id
+    pub insert-is : (s : Bool) (r : Result Bool Refusal) → s ≡ seen bits ps → r ≡ Ok s → r ≡ insert_answer bits id
     unfolding insert_answer
     insert-is s r es er = rw (e, er, es, places, h)
 

@@ -57,21 +57,17 @@ set_all bits (p ∷ ps) = set_all (set_bit bits p) ps
 abbrev pub fits : ℕ → Bool
 fits bytes = nat_le 1 bytes && nat_le bytes max_filter
 
-abbrev pub answer : Bool → Result Bool Refusal
-answer true = Ok true
-answer false = Ok false
-
 -- the four positions of a trip id in a filter
 abbrev pub positions_of : List ℕ → List ℕ → List ℕ
 positions_of bits id = positions (hash_of id) (length bits)
 
 -- what a query answers
 unfoldable pub query : List ℕ → List ℕ → Result Bool Refusal
-query bits id = pick (fits (length bits)) (answer (all_set bits (positions_of bits id))) (Err Argument)
+query bits id = pick (fits (length bits)) (Ok (all_set bits (positions_of bits id))) (Err Argument)
 
 -- what an insertion answers, and the filter that it leaves
 unfoldable pub insert_answer : List ℕ → List ℕ → Result Bool Refusal
-insert_answer bits id = pick (fits (length bits)) (answer (seen bits (positions_of bits id))) (Err Argument)
+insert_answer bits id = pick (fits (length bits)) (Ok (seen bits (positions_of bits id))) (Err Argument)
 
 unfoldable pub inserted : List ℕ → List ℕ → List ℕ
 inserted bits id = pick (fits (length bits)) (set_all bits (positions_of bits id)) bits

@@ -105,16 +105,6 @@ fn fits(bytes: usize) -> bool
     (1 <= bytes) & (bytes <= MAX_FILTER)
 }
 
-fn answer(present: bool) -> Result<bool, Refusal>
-    ensures { result ≡ Bloom.answer present }
-{
-    if present {
-        Ok(true)
-    } else {
-        Ok(false)
-    }
-}
-
 // Whether all four bits of a trip id are set.
 pub fn query(bits: &[u8], id: &[u8]) -> Result<bool, Refusal>
     ensures { result ≡ Bloom.query bits.now id.now }
@@ -123,7 +113,7 @@ pub fn query(bits: &[u8], id: &[u8]) -> Result<bool, Refusal>
         return Err(Refusal::Argument);
     }
     let p = positions(crc32(0, id), bits.len());
-    answer(all_set(bits, p))
+    Ok(all_set(bits, p))
 }
 
 // Sets the four bits of a trip id, and answers whether all were set before.
@@ -134,7 +124,7 @@ pub fn insert(bits: &mut [u8], id: &[u8]) -> Result<bool, Refusal>
         return Err(Refusal::Argument);
     }
     let p = positions(crc32(0, id), bits.len());
-    answer(set_all(bits, p))
+    Ok(set_all(bits, p))
 }
 
 // What holds of the filter, for every size. The function does nothing: its contract is what is proved of the definitions

@@ -1,4 +1,4 @@
--- What the code does is the model's operation: each loop's turn does one byte more, and blanking or clearing a slice of the region is the
+-- What the code does is the model's operation: a loop's turn clears bits of one byte more, and blanking or clearing a slice of the region is the
 -- operation on the bank, since the slice is a part of the bank.
 use mathlib.Core.Path.{◌≡◌, refl, sym, ap, ◌∙◌}
 use mathlib.Core.Bool.{Bool, true, false, and-false}
@@ -10,19 +10,18 @@ use native.Mathlib.Nat.{add_assoc, le_of_suc-le-suc, not-suc-le-zero}
 use borrow.Author.Tests.{eq-eqb, ne_eqb, le-leb, lt-leb, leb-true, leb-false}
 use lib.Bits.{bit_and}
 use lib.Dec.{leb, eqb}
-use lib.ListN.{take, drop, length, get_or, set, length-drop, take-append-drop}
+use lib.ListN.{take, drop, length, get_or, set, replicate, length-drop, take-append-drop}
 use lib.Seq.{length-take-le, take-length, take-take, take-add, take-append-le, drop-append-le, drop-drop}
 use Rattle.region.specs.Region.{region_size, bank_size, sector_size, bank_of}
 use Rattle.flash.specs.Flash.{erase, write, blank, clear, done, with_bank, torn, applied, within, erased_in, written_in}
 use Rattle.flash.proofs.Laws.{after-fits}
 
--- ---- a turn of each loop
+-- ---- what fills a slice and what clears bits of one
 
-pub blank-more : (i : ℕ) (b : List ℕ) → i < length b → set (blank i b) i 255 ≡ blank (i + 1) b
+pub blank-all : (b : List ℕ) → replicate (length b) 255 ≡ blank (length b) b
 unfolding blank
-blank-more i [] h = absurd (not-suc-le-zero h)
-blank-more zero (x ∷ b) h = refl
-blank-more (suc i) (x ∷ b) h = rw add-one (ap (λ (l : List ℕ). 255 ∷ l) (rw add-one at (blank-more i b (le_of_suc-le-suc h))))
+blank-all [] = refl
+blank-all (x ∷ b) = ap (λ (l : List ℕ). 255 ∷ l) (blank-all b)
 
 pub clear-more : (ws b : List ℕ) (i : ℕ) → i < length ws → i < length b
     → set (clear (take i ws) b) i (bit_and (get_or (clear (take i ws) b) i 0) (get_or ws i 0)) ≡ clear (take (i + 1) ws) b

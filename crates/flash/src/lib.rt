@@ -24,26 +24,13 @@ fn lies_within(len: usize, bank: u32, at: usize, n: usize) -> bool
     at <= BANK_SIZE - n
 }
 
-// Sets every byte to 255.
-fn blank_all(s: &mut [u8])
-    ensures { s.new ≡ blank (length s.old) s.old }
-{
-    let mut i = 0;
-    while i < s.len() {
-        s[i] = ERASED_BYTE;
-        i += 1;
-    }
-}
-
 // Clears the bits of s that are 0 in ws.
 fn clear_bits(s: &mut [u8], ws: &[u8])
     requires { length s.old ≡ length ws.now }
     ensures { s.new ≡ clear ws.now s.old }
 {
-    let mut i = 0;
-    while i < s.len() {
-        s[i] = s[i] & ws[i];
-        i += 1;
+    for (i, x) in s.iter_mut().enumerate() {
+        *x &= ws[i];
     }
 }
 
@@ -54,7 +41,7 @@ pub fn erase(region: &mut [u8], bank: u32, at: usize)
     if lies_within(region.len(), bank, at, SECTOR_SIZE) {
         let sector = bank as usize * BANK_SIZE + at;
         let end = sector + SECTOR_SIZE;
-        blank_all(&mut region[sector..end]);
+        region[sector..end].fill(ERASED_BYTE);
     }
 }
 

@@ -18,14 +18,13 @@ use Rattle.key.specs.Picks.{text, pick_of, pick_at, count, firsts, passed_picks,
 use Rattle.key.specs.Layout.{every, sized, fit, max_identity, key_of, within, key_answer, prefix, body, joined, entry}
 use Rattle.key.specs.Match.{match_answer}
 use Rattle.base.specs.Same.{same}
-use Rattle.key.specs.Steps.{Offsets, Rising, between, Below, Ordered, stretch, starts_size, starts_of, Ready, NotReady}
-use Rattle.key.specs.declared.matching.Matched.{Matched}
-use Rattle.key.specs.declared.matching.Matched.TheVariants.{To, Differs}
+use Rattle.key.specs.Steps.{Offsets, Rising, between, Ordered, Left, starts_size, starts_of, Ready, NotReady}
 use Rattle.key.proofs.TextOffsets.{between_is, rising, pick_same, firsts_same}
 use Rattle.key.proofs.Sizes.{every-same, entry-small}
 use Rattle.key.proofs.Put.{put-put, put_first}
-use Rattle.key.proofs.Stretch.{then_to, then-not, whole_same, whole-other}
-use Rattle.std.specs.Prelude.{Ok, Err}
+use Rattle.key.proofs.Left.{then_left, not_left}
+use Rattle.std.proofs.Common.{Option, None, Ok, Err}
+use denote.Ref.{Bor}
 
 -- ---- fit
 
@@ -155,9 +154,6 @@ module _ (f : ℕ → Pick) (n : ℕ) (order : List ℕ) (m : ℕ) (o : Ordered 
   pub part-is : map f part ≡ distinct (firsts n f)
   part-is = rw all_of o.is
 
-  pub part-below : Below n part
-  part-below = rw all_of o.below
-
   pub part_length : length part ≡ m
   part_length = rw all_of (length-take-le m order o.inside)
 
@@ -179,13 +175,9 @@ module _ (x id b : Text) (l : List ℕ) where
     unfolding match_answer
     match-identity h = rw (← fits, lt-leb (length id) max_identity h)
 
-    pub is_same : length id ≤ max_identity → same x (key_of id (passed_picks b l)) ≡ true → (Ok true) ≡ match_answer x id b l
+    pub is_same : length id ≤ max_identity → Ok (same x (key_of id (passed_picks b l))) ≡ match_answer x id b l
     unfolding match_answer
-    is_same h e = rw (← fits, le-leb (length id) max_identity h, e)
-
-    pub is-other : length id ≤ max_identity → same x (key_of id (passed_picks b l)) ≡ false → (Ok false) ≡ match_answer x id b l
-    unfolding match_answer
-    is-other h e = rw (← fits, le-leb (length id) max_identity h, e)
+    is_same h = rw (← fits, le-leb (length id) max_identity h)
 
 pub match-refused : (x id b : Text) (l : List ℕ) (r : Refusal) → NotReady id b l r → Err r ≡ match_answer x id b l
 match-refused x id b l r =
@@ -193,30 +185,19 @@ match-refused x id b l r =
     (λ h. ap Err h.0 ∙ match-unfit x id b l h.1)
     (λ h. ap Err h.0 ∙ match-identity x id b l h.1 h.2)
 
--- an empty identity is never refused
-pub fit_refused : (id b : Text) (l : List ℕ) (r : Refusal) → length id ≡ 0 → NotReady id b l r → false ≡ fit b l
-fit_refused id b l r e = ⊎_elim (λ h. h.1) (λ h. absurd (omega (arith, h.2)))
-
 -- prefix, count byte and picks, compared one after the other
-module _ (x : List ℕ) (id : Text) (ps : List Pick) where
-  pub prefix-differs : stretch x 0 (prefix id) ≡ Differs → false ≡ same x (key_of id ps)
+module _ (x : List ℕ) (id : Text) (ps : List Pick) (n : ℕ) (e : n ≡ length (distinct ps)) where
+  parts : prefix id ++ (n % 256 ∷ joined entry (distinct ps)) ≡ key_of id ps
   unfolding key_of
-  prefix-differs p = sym (whole-other x (prefix id ++ body (distinct ps)) (then-not x 0 (prefix id) (body (distinct ps)) p))
+  parts = ap (λ (m : ℕ). prefix id ++ (m % 256 ∷ joined entry (distinct ps))) e
 
-  module _ (n : ℕ) (e : n ≡ length (distinct ps)) (a : ℕ) (p : stretch x 0 (prefix id) ≡ To a) where
-    rest : stretch x 0 (key_of id ps) ≡ stretch x a (n % 256 ∷ joined entry (distinct ps))
-    unfolding key_of
-    rest = then_to x 0 (prefix id) (body (distinct ps)) a p ∙ ap (λ (m : ℕ). stretch x a (m % 256 ∷ joined entry (distinct ps))) (sym e)
+  pub no_prefix : Left x (prefix id) None → Left x (key_of id ps) None
+  no_prefix h = rw (← parts) (not_left x (prefix id) (n % 256 ∷ joined entry (distinct ps)) h)
 
-    pub count-differs : stretch x a (n % 256 ∷ []) ≡ Differs → false ≡ same x (key_of id ps)
-    count-differs q = sym (whole-other x (key_of id ps) (rest ∙ then-not x a (n % 256 ∷ []) (joined entry (distinct ps)) q))
+  module _ (a : List ℕ) (p : x ≡ prefix id ++ a) where
+    pub no_count : Left a (n % 256 ∷ []) None → Left x (key_of id ps) None
+    no_count h = rw (← parts) (then_left x (prefix id) (n % 256 ∷ joined entry (distinct ps)) a p None (not_left a (n % 256 ∷ []) (joined entry (distinct ps)) h))
 
-    module _ (b : ℕ) (q : stretch x a (n % 256 ∷ []) ≡ To b) (m : Matched) (h : m ≡ stretch x b (joined entry (distinct ps))) where
-      last : stretch x 0 (key_of id ps) ≡ m
-      last = rest ∙ then_to x a (n % 256 ∷ []) (joined entry (distinct ps)) b q ∙ sym h
-
-      pub picks-differ : m ≡ Differs → false ≡ same x (key_of id ps)
-      picks-differ w = sym (whole-other x (key_of id ps) (last ∙ w))
-
-      pub all-match : (c : ℕ) → m ≡ To c → length x ≡ length (key_of id ps) → true ≡ same x (key_of id ps)
-      all-match c w l = sym (whole_same x (key_of id ps) c (last ∙ w) l)
+    pub then_picks : (b : List ℕ) → a ≡ n % 256 ∷ b → (r : Option (Bor (List ℕ))) → Left b (joined entry (distinct ps)) r → Left x (key_of id ps) r
+    then_picks b q r h =
+        rw (← parts) (then_left x (prefix id) (n % 256 ∷ joined entry (distinct ps)) a p r (then_left a (n % 256 ∷ []) (joined entry (distinct ps)) b q r h))

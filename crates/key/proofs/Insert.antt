@@ -2,41 +2,44 @@
 -- definition's `insert`. Adding the picks from the last to the first gives `distinct`.
 use mathlib.Core.Path.{◌≡◌, refl, ap, ◌∙◌, sym}
 use mathlib.Core.List.{List, [], ◌∷◌, ◌++◌, map, append_assoc}
-use Prim.Native.Nat.{ℕ, zero, suc, ◌+◌, ◌≤◌, ◌<◌, Ordering}
+use Prim.Native.Nat.{ℕ, zero, suc, ◌+◌, ◌-◌, ◌≤◌, ◌<◌, Ordering}
 use native.Mathlib.Nat.{not-suc-le-zero, le_of_suc-le-suc}
 use native.Mathlib.Numerals.{add-one}
 use native.Mathlib.Omega.{arith}
-use lib.ListN.{length, take, drop, get_or, set, length-map, length-take, drop_of_length-le, take-append-drop}
-use lib.Seq.{take-suc, take-take, take-suc-set, drop-cons, length-take-le, take-append-le, drop-append-le, append_snoc}
+use lib.ListN.{length, take, drop, get_or, set, length-append, length-map, length-take, length-drop, drop_of_length-le, take-append-drop}
+use Rattle.std.proofs.lemmas.List.{take_at, set_at, drop-take}
+use lib.Seq.{paste, take-suc, take-take, drop-cons, length-take-le, append_snoc}
 use Rattle.key.specs.Order.{Pick, pick_order}
 use Rattle.key.specs.Picks.{insert_by, insert, distinct, firsts}
-use Rattle.key.specs.Steps.{number, Goes, Ordered, Below}
-use Rattle.key.specs.declared.picks.Index.TheVariants.{At, There}
+use Rattle.std.proofs.Common.{Some, None}
+use Rattle.std.specs.declared.cmp.Ordering.{Ordering as Answer}
+use Rattle.std.specs.declared.cmp.Ordering.TheVariants.{Less, Equal, Greater}
+use Rattle.key.specs.Steps.{answer_of, Goes, Ordered, Below}
 use Rattle.key.proofs.TextOffsets.{firsts-length, firsts_at}
 
-is_lt : (o : Ordering) → number o ≡ 0 → o ≡ Ordering.lt
+is_lt : (o : Ordering) → answer_of o ≡ Less → o ≡ Ordering.lt
 is_lt Ordering.lt h = refl
-is_lt Ordering.eq h = absurd (omega arith)
-is_lt Ordering.gt h = absurd (omega arith)
+is_lt Ordering.eq h = cc
+is_lt Ordering.gt h = cc
 
-is_eq : (o : Ordering) → number o ≡ 1 → o ≡ Ordering.eq
-is_eq Ordering.lt h = absurd (omega arith)
+is_eq : (o : Ordering) → answer_of o ≡ Equal → o ≡ Ordering.eq
+is_eq Ordering.lt h = cc
 is_eq Ordering.eq h = refl
-is_eq Ordering.gt h = absurd (omega arith)
+is_eq Ordering.gt h = cc
 
-is_gt : (o : Ordering) → (number o ≡ 0 → ⊥) → (number o ≡ 1 → ⊥) → o ≡ Ordering.gt
-is_gt Ordering.lt h k = absurd (h refl)
-is_gt Ordering.eq h k = absurd (k refl)
-is_gt Ordering.gt h k = refl
+is_gt : (o : Ordering) → answer_of o ≡ Greater → o ≡ Ordering.gt
+is_gt Ordering.lt h = cc
+is_gt Ordering.eq h = cc
+is_gt Ordering.gt h = refl
 
 -- ---- the search for the index
 
 module _ (p : Pick) (s : List Pick) (k : ℕ) (so_far : insert p s ≡ take k s ++ insert p (drop k s)) where
-  pub goes_end : length s ≤ k → k ≤ length s → Goes p s (At k)
+  pub goes_end : length s ≤ k → k ≤ length s → Goes p s (Some k)
   unfolding insert
   goes_end h g = (g, so_far ∙ rw (drop_of_length-le s h))
 
-  module _ (h : k < length s) (q : Pick) (e : q ≡ get_or s k []) (o : ℕ) (c : o ≡ number (pick_order p q)) where
+  module _ (h : k < length s) (q : Pick) (e : q ≡ get_or s k []) (o : Answer) (c : o ≡ answer_of (pick_order p q)) where
     here : drop k s ≡ q ∷ drop (suc k) s
     here = drop-cons s k [] h ∙ ap (λ (x : Pick). x ∷ drop (suc k) s) (sym e)
 
@@ -44,15 +47,15 @@ module _ (p : Pick) (s : List Pick) (k : ℕ) (so_far : insert p s ≡ take k s 
     unfolding insert
     there w d = so_far ∙ ap (λ (r : List Pick). take k s ++ insert p r) here ∙ rw d
 
-    pub goes_before : o ≡ 0 → Goes p s (At k)
+    pub goes_before : o ≡ Less → Goes p s (Some k)
     goes_before z = (omega arith, there Ordering.lt (is_lt _ (sym c ∙ z)) ∙ ap (λ (r : List Pick). take k s ++ p ∷ r) (sym here))
 
-    pub goes-nowhere : o ≡ 1 → Goes p s There
+    pub goes-nowhere : o ≡ Equal → Goes p s None
     goes-nowhere z = there Ordering.eq (is_eq _ (sym c ∙ z)) ∙ ap (λ (r : List Pick). take k s ++ r) (sym here) ∙ take-append-drop k s
 
-    pub goes_on : (o ≡ 0 → ⊥) → (o ≡ 1 → ⊥) → insert p s ≡ take (k + 1) s ++ insert p (drop (k + 1) s)
-    goes_on y z =
-        there Ordering.gt (is_gt _ (λ w. y (c ∙ w)) (λ w. z (c ∙ w)))
+    pub goes_on : o ≡ Greater → insert p s ≡ take (k + 1) s ++ insert p (drop (k + 1) s)
+    goes_on z =
+        there Ordering.gt (is_gt _ (sym c ∙ z))
         ∙ sym (append_snoc (take k s) q (insert p (drop (suc k) s)))
         ∙ rw (add-one, take-suc s k [] h, e)
 
@@ -83,27 +86,21 @@ module _ (n : ℕ) where
 abbrev pub put_in : ℕ → ℕ → List ℕ → List ℕ
 put_in k v x = take k x ++ v ∷ drop k x
 
-module _ (a : List ℕ) (k v : ℕ) where
-  pub put-start : k ≤ length a → take k a ++ v ∷ [] ≡ put_in k v (take k a)
-  put-start h =
-      let l = length-take-le k a h in
-      rw (take-take k k a (omega arith)) (ap (λ (r : List ℕ). take k a ++ v ∷ r) (sym (drop_of_length-le (take k a) {i = k} (omega arith))))
-
-  -- one more at the end
-  put-more : (x : List ℕ) (y : ℕ) → k ≤ length x → put_in k v x ++ y ∷ [] ≡ put_in k v (x ++ y ∷ [])
-  put-more x y h = append_assoc (take k x) (v ∷ drop k x) (y ∷ []) ∙ rw (take-append-le k x (y ∷ []) h, drop-append-le k x (y ∷ []) h)
-
-  module _ (now : List ℕ) (j next : ℕ) (from : k ≤ j) (in-a : j < length a) (long : length now ≡ length a)
-      (so_far : take j now ++ next ∷ [] ≡ put_in k v (take j a)) where
-    pub put-end : take (j + 1) (set now j next) ≡ put_in k v (take j a)
-    put-end = rw (add-one, take-suc-set now j next (omega arith)) so_far
-
-    pub put_next : get_or now j 0 ≡ get_or a j 0 → take (j + 1) (set now j next) ++ get_or now j 0 ∷ [] ≡ put_in k v (take (j + 1) a)
-    put_next e =
-        let l = length-take-le j a (omega arith) in
-        ap (λ (r : List ℕ). r ++ get_or now j 0 ∷ []) put-end
-        ∙ rw e (put-more (take j a) (get_or a j 0) (omega arith))
-        ∙ ap (put_in k v) {x = take j a ++ get_or a j 0 ∷ []} {y = take (j + 1) a} (rw (add-one) (sym (take-suc a j 0 in-a)))
+-- those from k on moved by one, and v written at k
+pub moved : (a : List ℕ) (k m v : ℕ) → k ≤ m → m < length a → take (m + 1) (set (paste a (k + 1) (drop k a) (m - k)) k v) ≡ put_in k v (take m a)
+moved a k m v h w =
+    let before = length-take-le k a (omega arith) in
+    let T : List ℕ = take (m - k) (drop k a) in
+    let D : List ℕ = drop (k + 1 + (m - k)) a in
+    let long : length T ≡ m - k = length-take-le (m - k) (drop k a) (omega (arith, length-drop k a)) in
+    let front : take (k + 1) a ≡ take k a ++ get_or a k 0 ∷ [] = rw (add-one) (take-suc a k 0 (omega arith)) in
+    let pasted : paste a (k + 1) (drop k a) (m - k) ≡ take k a ++ get_or a k 0 ∷ (T ++ D) =
+    ap (λ (l : List ℕ). l ++ T ++ D) front ∙ append_assoc (take k a ++ get_or a k 0 ∷ []) T D ∙ append_assoc (take k a) (get_or a k 0 ∷ []) (T ++ D) in
+    let there : set (paste a (k + 1) (drop k a) (m - k)) k v ≡ (take k a ++ v ∷ T) ++ D =
+    ap (λ (l : List ℕ). set l k v) pasted ∙ set_at (take k a) (get_or a k 0) (T ++ D) v k before ∙ sym (append_assoc (take k a) (v ∷ T) D) in
+    let whole : take (m + 1) ((take k a ++ v ∷ T) ++ D) ≡ take k a ++ v ∷ T = take_at (take k a ++ v ∷ T) D (m + 1) (omega (arith, length-append (take k a) (v ∷ T))) in
+    let rest : drop k (take m a) ≡ T = let e : k + (m - k) ≡ m = omega arith in rw (drop-take k (m - k) a) at (ap (λ (n : ℕ). drop k (take n a)) (sym e)) in
+    ap (take (m + 1)) there ∙ whole ∙ sym (rw (take-take k m a h, rest))
 
 -- ---- the picks that the numbers mean
 
@@ -131,10 +128,7 @@ module _ (f : ℕ → Pick) where
   map-put k v x = map-append (take k x) (v ∷ drop k x) ∙ rw (map-take k x, map-drop k x)
 
   module _ (n i m : ℕ) (order : List ℕ) (hi : i < n) (inside : m < length order) (b : Below n (take m order)) where
-    pub stays : Goes (f i) (map f (take m order)) There → Ordered f n (insert (f i) (map f (take m order))) order m
-    stays g = record { is = sym g; below = b; inside = omega arith }
-
-    pub goes_in : (k : ℕ) (order' : List ℕ) → Goes (f i) (map f (take m order)) (At k) → length order' ≡ length order
+    pub goes_in : (k : ℕ) (order' : List ℕ) → Goes (f i) (map f (take m order)) (Some k) → length order' ≡ length order
         → take (m + 1) order' ≡ put_in k i (take m order) → Ordered f n (insert (f i) (map f (take m order))) order' (m + 1)
     goes_in k order' g l e = record {
       is = ap (map f) e ∙ map-put k i (take m order) ∙ sym g.1;
@@ -142,7 +136,7 @@ module _ (f : ℕ → Pick) where
       inside = omega arith;
     }
 
-    pub index-low : (k : ℕ) → Goes (f i) (map f (take m order)) (At k) → k ≤ m
+    pub index-low : (k : ℕ) → Goes (f i) (map f (take m order)) (Some k) → k ≤ m
     index-low k g = omega (arith, g.0, length-map (take m order) f, length-take m order)
 
   -- ---- one pick after the other, from the last

@@ -5,6 +5,6 @@ pub mod TextOffsets
 pub mod Insert
 pub mod Put
 pub mod Sizes
-pub mod Stretch
+pub mod Left
 pub mod Answers
 pub mod Longest

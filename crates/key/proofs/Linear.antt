@@ -4,9 +4,7 @@ use mathlib.Core.Path.{◌≡◌, refl, ap, ◌∙◌, sym}
 use mathlib.Core.List.{List, [], ◌∷◌}
 use Prim.Native.Nat.compare
 use Prim.Native.Nat.{ℕ, zero, suc, compare, Ordering}
-use native.Mathlib.Omega.{arith}
 use Rattle.key.specs.Order.{or_else, lex, text_order, pick_order}
-use Rattle.key.specs.Steps.{number}
 
 abbrev pub flip : Ordering → Ordering
 flip Ordering.lt = Ordering.gt
@@ -26,13 +24,13 @@ n-self zero = compare.zero-zero
 n-self (suc n) = compare.suc-suc n n ∙ n-self n
 
 pub no_eq : {A : Type 0} (o : Ordering) → o ≡ Ordering.lt → o ≡ Ordering.eq → A
-no_eq o p q = absurd (let z : ◌≡◌ {A = ℕ} 0 1 = ap number (sym p ∙ q) in omega arith)
+no_eq o p q = cc
 
 pub no-gt : {A : Type 0} (o : Ordering) → o ≡ Ordering.gt → o ≡ Ordering.eq → A
-no-gt o p q = absurd (let z : ◌≡◌ {A = ℕ} 2 1 = ap number (sym p ∙ q) in omega arith)
+no-gt o p q = cc
 
 pub no_lt : {A : Type 0} (o : Ordering) → o ≡ Ordering.gt → o ≡ Ordering.lt → A
-no_lt o p q = absurd (let z : ◌≡◌ {A = ℕ} 2 0 = ap number (sym p ∙ q) in omega arith)
+no_lt o p q = cc
 
 n-same : (m n : ℕ) → compare m n ≡ Ordering.eq → m ≡ n
 n-same zero zero e = refl

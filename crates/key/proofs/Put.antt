@@ -5,9 +5,11 @@ use Prim.Native.Nat.{ℕ, suc, ◌+◌, ◌/◌, ◌%◌, ◌≤◌, ◌<◌}
 use native.Mathlib.Numerals.{add-one}
 use native.Mathlib.Omega.{arith}
 use lib.ListN.{length, take, drop, get_or, set, length-append, length-set, take-append-drop}
-use lib.Seq.{take-suc, take_all, length-take-le}
+use lib.Seq.{take-suc, take_all, sets-eq}
+use borrow.Rule.Slice.PartMut.{put_mid}
+use Rattle.std.proofs.lemmas.Slice.{put_mid-paste}
 use Rattle.leaf.specs.Bytes.{written}
-use Rattle.leaf.proofs.Laws.{written-sets, written_next, length-written}
+use Rattle.leaf.proofs.Laws.{written-sets, written_next}
 use Rattle.key.specs.Layout.{joined, prefix}
 
 module _ (d : List ℕ) (at : ℕ) where
@@ -21,15 +23,12 @@ module _ (d : List ℕ) (at : ℕ) where
       → written (written d at s) next t ≡ written d at (s ++ t)
   put-put s t next e h = rw e (written_next d s t at (length s) refl (omega arith))
 
--- the bytes of s one by one
-pub put-more : (d : List ℕ) (at : ℕ) (s now : List ℕ) (i : ℕ) → i < length s → at + length s ≤ length d → now ≡ written d at (take i s)
-    → set now (at + i) (get_or s i 0) ≡ written d at (take (i + 1) s)
-put-more d at s now i h fits e =
-    let l = length-take-le i s (omega arith) in
-    rw e (
-    put_one (written d at (take i s)) (at + i) (get_or s i 0) (omega (arith, length-written d at (take i s)))
-    ∙ put-put d at (take i s) (get_or s i 0 ∷ []) (at + i) (omega arith) (let k : at + length (take i s) + 1 ≤ length d = omega arith in k)
-    ∙ rw (add-one, take-suc s i 0 h))
+-- the bytes of s at once
+pub put_part : (d : List ℕ) (at n : ℕ) (now s : List ℕ) → at + length s ≤ length d → n ≡ length s → now ≡ s → put_mid at n d now ≡ written d at s
+put_part d at n now s h e w =
+    put_mid-paste at n d now s (length s) w (sym e) refl
+    ∙ ap (λ (l : List ℕ). take at d ++ l ++ drop (at + length s) d) (take_all (length s) s (omega arith))
+    ∙ sym (written-sets d at s h ∙ sets-eq s d at h)
 
 -- ---- joined
 

@@ -55,9 +55,6 @@ module _ (b : Text) (l : List ℕ) where
   unfolding offset_of
   offset-next k = let e = sum-next l k in omega arith
 
-  pub offset-past : (k : ℕ) → length l ≤ k → offset_of b l k ≡ offset_of b l (k + 1)
-  offset-past k h = omega (arith, offset-next k, get_or-eq_default l 0 h, offset-within k)
-
 -- a start past the end is the end
 drop_min : (s : Text) (n : ℕ) → drop (min (length s) n) s ≡ drop n s
 drop_min s n = go (leb n (length s)) refl

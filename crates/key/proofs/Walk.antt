@@ -1,73 +1,92 @@
--- Two lists compared from the front: equal elements leave the rests to compare, the first different one decides, and a list that ends first
--- is the lower one.
+-- The code's order of texts and picks is the definitions': std's order of two lists is `lex`; and two picks compared text by text, where
+-- equal ones leave the rests to compare and the first different one decides.
 use mathlib.Core.Path.{◌≡◌, refl, ap, ◌∙◌, sym}
-use mathlib.Core.List.{List, []}
+use mathlib.Core.List.{[], ◌∷◌}
 use Prim.Native.Nat.compare
 use Prim.Native.Nat.{ℕ, zero, suc, ◌+◌, ◌≤◌, ◌<◌, compare, Ordering}
 use native.Mathlib.Nat.{le_of_suc-le-suc, not-suc-le-zero}
 use native.Mathlib.Numerals.{add-one}
-use native.Mathlib.Omega.{arith}
 use lib.ListN.{length, drop, get_or, drop_of_length-le}
 use lib.Seq.{drop-cons}
+use Rattle.std.specs.declared.cmp.Ordering.{Ordering as Answer}
+use Rattle.std.specs.declared.cmp.Ordering.TheVariants.{Less, Equal, Greater}
+use Rattle.std.specs.Ordering.{nat_cmp, ordering_then, is_ne}
+use mathlib.Core.Bool.{true, false, false≢true}
+use Rattle.std.specs.Cmp.Lexicographic.{slice_cmp}
+use Rattle.std.proofs.lemmas.Cmp.{ranked, by_ranked}
 use Rattle.key.specs.Order.{or_else, lex, Text, Pick, text_order, pick_order}
-use Rattle.key.specs.Steps.{number}
+use Rattle.key.specs.Steps.{answer_of}
 use Rattle.key.proofs.Linear.{flip, numbers}
 
-pub n-lt : (m n : ℕ) → m < n → compare m n ≡ Ordering.lt
+n-lt : (m n : ℕ) → m < n → compare m n ≡ Ordering.lt
 n-lt m zero h = absurd (not-suc-le-zero h)
 n-lt zero (suc n) h = compare.zero-suc n
 n-lt (suc m) (suc n) h = compare.suc-suc m n ∙ n-lt m n (le_of_suc-le-suc h)
 
-pub n-gt : (m n : ℕ) → n < m → compare m n ≡ Ordering.gt
+n-gt : (m n : ℕ) → n < m → compare m n ≡ Ordering.gt
 n-gt m n h = numbers.turned n m ∙ ap flip (n-lt n m h)
 
-module _ {A : Type 0} (cmp : A → A → Ordering) (d : A) (s t : List A) (i : ℕ) where
-  pub heads : i < length s → i < length t
-      → lex cmp (drop i s) (drop i t) ≡ or_else (cmp (get_or s i d) (get_or t i d)) (lex cmp (drop (i + 1) s) (drop (i + 1) t))
-  heads hs ht = rw (add-one, drop-cons s i d hs, drop-cons t i d ht)
+number-answer : (m n : ℕ) → nat_cmp m n ≡ answer_of (compare m n)
+number-answer m n =
+    by_ranked (m < n) (m ≡ n) (n < m) (nat_cmp m n) (ranked m n (nat_cmp m n) refl)
+    (λ e h. e ∙ sym (ap answer_of (n-lt m n h)))
+    (λ e h. e ∙ sym (ap answer_of {x = compare m n} {y = Ordering.eq} (rw h (numbers.self n))))
+    (λ e h. e ∙ sym (ap answer_of (n-gt m n h)))
 
-  pub longer : i < length s → length t ≤ i → lex cmp (drop i s) (drop i t) ≡ Ordering.gt
-  longer hs ht = rw (drop-cons s i d hs, drop_of_length-le t ht)
+then-answer : (o r : Ordering) → ordering_then (answer_of o) (answer_of r) ≡ answer_of (or_else o r)
+then-answer Ordering.lt r = refl
+then-answer Ordering.eq r = refl
+then-answer Ordering.gt r = refl
 
-  pub shorter : length s ≤ i → i < length t → lex cmp (drop i s) (drop i t) ≡ Ordering.lt
-  shorter hs ht = rw (drop_of_length-le s hs, drop-cons t i d ht)
+text-lex : (s t : Text) → slice_cmp nat_cmp s t ≡ answer_of (lex compare s t)
+text-lex [] [] = refl
+text-lex [] (b ∷ t) = refl
+text-lex (a ∷ s) [] = refl
+text-lex (a ∷ s) (b ∷ t) = rw (number-answer a b, text-lex s t) (then-answer (compare a b) (lex compare s t))
 
-  pub ended : length s ≤ i → length t ≤ i → lex cmp (drop i s) (drop i t) ≡ Ordering.eq
-  ended hs ht = rw (drop_of_length-le s hs, drop_of_length-le t ht)
-
-module _ (s t : Text) (i : ℕ) (hs : i < length s) (ht : i < length t) where
-  pub less-at : get_or s i 0 < get_or t i 0 → lex compare (drop i s) (drop i t) ≡ Ordering.lt
-  less-at h = heads compare 0 s t i hs ht ∙ rw (n-lt _ _ h)
-
-  pub more-at : get_or t i 0 < get_or s i 0 → lex compare (drop i s) (drop i t) ≡ Ordering.gt
-  more-at h = heads compare 0 s t i hs ht ∙ rw (n-gt _ _ h)
-
-  pub same_at : get_or s i 0 ≡ get_or t i 0 → lex compare (drop i s) (drop i t) ≡ lex compare (drop (i + 1) s) (drop (i + 1) t)
-  same_at h = heads compare 0 s t i hs ht ∙ rw (h, numbers.self (get_or t i 0))
+pub text-answer : (s t : Text) → slice_cmp nat_cmp s t ≡ answer_of (text_order s t)
+unfolding text_order
+text-answer s t = text-lex s t
 
 -- ---- picks, text by text
 
-differ : (x r : Ordering) → (number x ≡ 1 → ⊥) → or_else x r ≡ x
+pub ne-true : (o : Answer) → true ≡ is_ne o → o ≡ Equal → ⊥
+ne-true Less h e = cc
+ne-true Equal h e = absurd (false≢true (sym h))
+ne-true Greater h e = cc
+
+pub ne-false : (o : Answer) → false ≡ is_ne o → o ≡ Equal
+ne-false Less h = absurd (false≢true h)
+ne-false Equal h = refl
+ne-false Greater h = absurd (false≢true h)
+
+heads : (p q : Pick) (f : ℕ) → f < length p → f < length q
+    → lex text_order (drop f p) (drop f q) ≡ or_else (text_order (get_or p f []) (get_or q f [])) (lex text_order (drop (f + 1) p) (drop (f + 1) q))
+heads p q f hp hq = rw (add-one, drop-cons p f [] hp, drop-cons q f [] hq)
+
+differ : (x r : Ordering) → (answer_of x ≡ Equal → ⊥) → or_else x r ≡ x
 differ Ordering.lt r h = refl
 differ Ordering.eq r h = absurd (h refl)
 differ Ordering.gt r h = refl
 
-agree : (x r : Ordering) → number x ≡ 1 → or_else x r ≡ r
-agree Ordering.lt r h = absurd (omega arith)
+agree : (x r : Ordering) → answer_of x ≡ Equal → or_else x r ≡ r
+agree Ordering.lt r h = cc
 agree Ordering.eq r h = refl
-agree Ordering.gt r h = absurd (omega arith)
+agree Ordering.gt r h = cc
 
-module _ (p q : Pick) (f o : ℕ) (hp : f < length p) (hq : f < length q)
-    (so_far : lex text_order p q ≡ lex text_order (drop f p) (drop f q)) (here : o ≡ number (text_order (get_or p f []) (get_or q f []))) where
-  pub found : (o ≡ 1 → ⊥) → o ≡ number (pick_order p q)
+module _ (p q : Pick) (f : ℕ) (o : Answer) (hp : f < length p) (hq : f < length q)
+    (so_far : lex text_order p q ≡ lex text_order (drop f p) (drop f q)) (here : o ≡ answer_of (text_order (get_or p f []) (get_or q f []))) where
+  pub found : (o ≡ Equal → ⊥) → o ≡ answer_of (pick_order p q)
   unfolding pick_order
   found h =
-      here ∙ ap number (sym (so_far ∙ heads text_order [] p q f hp hq ∙ differ (text_order (get_or p f []) (get_or q f [])) _ (λ e. h (here ∙ e))))
+      here ∙ ap answer_of (sym (so_far ∙ heads p q f hp hq ∙ differ (text_order (get_or p f []) (get_or q f [])) _ (λ e. h (here ∙ e))))
 
-  pub further : o ≡ 1 → lex text_order p q ≡ lex text_order (drop (f + 1) p) (drop (f + 1) q)
-  further h = so_far ∙ heads text_order [] p q f hp hq ∙ agree (text_order (get_or p f []) (get_or q f [])) _ (sym here ∙ h)
+  pub further : o ≡ Equal → lex text_order p q ≡ lex text_order (drop (f + 1) p) (drop (f + 1) q)
+  further h = so_far ∙ heads p q f hp hq ∙ agree (text_order (get_or p f []) (get_or q f [])) _ (sym here ∙ h)
 
 pub all_same : (p q : Pick) (f : ℕ) → length p ≤ f → length q ≤ f → lex text_order p q ≡ lex text_order (drop f p) (drop f q)
-    → 1 ≡ number (pick_order p q)
+    → Equal ≡ answer_of (pick_order p q)
 unfolding pick_order
-all_same p q f hp hq e = sym (ap number (e ∙ ended text_order [] p q f hp hq))
+all_same p q f hp hq e =
+    let ended : lex text_order (drop f p) (drop f q) ≡ Ordering.eq = rw (drop_of_length-le p hp, drop_of_length-le q hq) in
+    sym (ap answer_of (e ∙ ended))

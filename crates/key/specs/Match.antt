@@ -13,6 +13,6 @@ unfoldable pub match_answer : List ℕ → Text → Text → List ℕ → Result
 match_answer stored identity bytes lengths =
     pick (fit bytes lengths)
     (pick (leb (length identity) max_identity)
-    (pick (same stored (key_of identity (passed_picks bytes lengths))) (Ok true) (Ok false))
+    (Ok (same stored (key_of identity (passed_picks bytes lengths))))
     (Err Identity))
     (Err Argument)

@@ -1,23 +1,20 @@
 -- What the private functions promise each other. Nothing here says what a key is.
-use Rattle.std.specs.Prelude.{List, [], ◌∷◌, ◌++◌, map, ◌≡◌, length, take, drop, get_or, true, false, ◌⊎◌, Ok, Err, Result}
+use Rattle.std.specs.Prelude.{List, [], ◌∷◌, ◌++◌, map, ◌≡◌, length, take, drop, get_or, true, false, ◌⊎◌, Option, Some, None, MatchOption, Ok, Err, Result}
 use Prim.Native.Nat.{ℕ, ◌+◌, ◌-◌, ◌*◌, ◌≤◌, ◌<◌, min, Ordering}
-use Rattle.base.specs.Number.{pick}
 use Rattle.key.specs.Order.{Text, Pick, field_count}
 use Rattle.key.specs.Picks.{sum, pick_of, insert, firsts, passed_picks}
 use Rattle.refusal.specs.declared.Refusal.{Refusal}
 use Rattle.refusal.specs.declared.Refusal.TheVariants.{Argument, Identity}
 use Rattle.key.specs.Layout.{entry, fit, max_identity, max_picks, longest_entry}
-use Rattle.base.specs.Same.{same}
-use Rattle.key.specs.declared.picks.Index.{Index}
-use Rattle.key.specs.declared.picks.Index.TheVariants.{At, There}
-use Rattle.key.specs.declared.matching.Matched.{Matched}
-use Rattle.key.specs.declared.matching.Matched.TheVariants.{To, Differs}
+use Rattle.std.specs.declared.cmp.Ordering.{Ordering as Answer}
+use Rattle.std.specs.declared.cmp.Ordering.TheVariants.{Less, Equal, Greater}
+use denote.Ref.{Bor}
 
--- an order as a number of the code
-abbrev pub number : Ordering → ℕ
-number Ordering.lt = 0
-number Ordering.eq = 1
-number Ordering.gt = 2
+-- an order as the code's
+abbrev pub answer_of : Ordering → Answer
+answer_of Ordering.lt = Less
+answer_of Ordering.eq = Equal
+answer_of Ordering.gt = Greater
 
 -- ---- offsets of the texts
 
@@ -45,9 +42,9 @@ pick_in bytes starts i = pick_of (between bytes starts) i
 -- ---- sorting
 
 -- the index at which p is inserted among sorted picks s, or that it is among them
-abbrev pub Goes : Pick → List Pick → Index → Type 0
-Goes p s (At k) = (k ≤ length s) × (insert p s ≡ take k s ++ p ∷ drop k s)
-Goes p s There = insert p s ≡ s
+abbrev pub Goes : Pick → List Pick → Option ℕ → Type 0
+Goes p s (Some k) = (k ≤ length s) × (insert p s ≡ take k s ++ p ∷ drop k s)
+Goes p s None = insert p s ≡ s
 
 -- each number of a list is below n
 abbrev pub Below : ℕ → List ℕ → Type 0
@@ -66,9 +63,9 @@ Small f n = (i : ℕ) → i < n → length (entry (f i)) ≤ longest_entry
 
 -- ---- comparing
 
--- s compared with the stored bytes at an offset: where it ends there, or that they differ
-unfoldable pub stretch : List ℕ → ℕ → List ℕ → Matched
-stretch stored at s = pick (same (take (length s) (drop at stored)) s) (To (at + length s)) Differs
+-- the stored bytes after s, or that they don't begin with s
+abbrev pub Left : List ℕ → List ℕ → Option (Bor (List ℕ)) → Type 0
+Left stored s r = MatchOption r ((rest : List ℕ) → stored ≡ s ++ rest → ⊥) (λ rest. stored ≡ s ++ rest.now)
 
 -- ---- picks prepared
 

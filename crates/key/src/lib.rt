@@ -58,14 +58,9 @@ pub fn key(identity: &[u8], texts: &[u8], lengths: &[u32], out: &mut [u8]) -> Re
     ensures { (result ≡ key_answer identity.now texts.now lengths.now (length out.old)) × (out.new ≡ after result (key_of identity.now (passed_picks texts.now lengths.now)) out.old) }
 {
     let mut starts: [usize; STARTS] = [0; STARTS];
-    let p = prepare(identity, texts, lengths, &mut starts);
-    match p {
-        Ok(n) => {
-            let end = n * FIELDS + 1;
-            write_key(identity, texts, &starts[0..end], n, out)
-        }
-        Err(r) => Err(r),
-    }
+    let n = prepare(identity, texts, lengths, &mut starts)?;
+    let end = n * FIELDS + 1;
+    write_key(identity, texts, &starts[0..end], n, out)
 }
 
 // Whether the stored key is the key of the identity and the picks.
@@ -73,17 +68,9 @@ pub fn same_key(stored: &[u8], identity: &[u8], texts: &[u8], lengths: &[u32]) -
     ensures { result ≡ match_answer stored.now identity.now texts.now lengths.now }
 {
     let mut starts: [usize; STARTS] = [0; STARTS];
-    let p = prepare(identity, texts, lengths, &mut starts);
-    match p {
-        Ok(n) => {
-            let end = n * FIELDS + 1;
-            if match_key(stored, identity, texts, &starts[0..end], n) {
-                return Ok(true);
-            }
-            Ok(false)
-        }
-        Err(r) => Err(r),
-    }
+    let n = prepare(identity, texts, lengths, &mut starts)?;
+    let end = n * FIELDS + 1;
+    Ok(match_key(stored, identity, texts, &starts[0..end], n))
 }
 
 // What holds of keys. The function does nothing: its contract is what is proved of the definitions

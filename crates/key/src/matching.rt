@@ -1,124 +1,87 @@
 // A stored key compared with the key of an identity and picks, part by part; no key is built.
-ghost use Rattle.std.specs.Prelude.{◌≡◌, true, [], ◌∷◌, map, ◌+◌, ◌-◌, ◌*◌, ◌≤◌, ◌<◌, length};
+ghost use Rattle.std.specs.Prelude.{◌≡◌, [], ◌∷◌, map, ◌+◌, ◌*◌, ◌≤◌, ◌<◌, length};
 ghost use Rattle.key.specs.Picks.{firsts};
-ghost use Rattle.key.specs.Layout.{field as field_of, entry, joined, key_of, prefix, max_identity, max_picks};
+ghost use Rattle.key.specs.Layout.{field as field_of, entry, joined, key_of, prefix, max_picks};
 ghost use Rattle.base.specs.Same.{same};
-ghost use Rattle.key.specs.Steps.{Rising, pick_in, Below, Small, stretch};
+ghost use Rattle.key.specs.Steps.{Rising, pick_in, Below, Left};
 ghost use Rattle.key.specs.Order.{field_count};
 
 use crate::picks::{field, sort_picks};
-use crate::write::key_length;
 use crate::{FIELDS, IDENTITY_MARK, MAX_PICKS};
 use base::number::BYTE_VALUES;
-use base::slice::same_bytes;
 
-// Where the compared bytes end in the stored key, or that they differ.
-#[derive(Clone, Copy)]
-enum Matched {
-    To(usize),
-    Differs,
-}
+// Each of these functions gives what is left of a stored key after the compared bytes, or None where they differ.
 
-fn match_byte(stored: &[u8], at: usize, b: u8) -> Matched
-    ensures { result ≡ stretch stored.now at (b ∷ []) }
+fn match_byte(stored: &[u8], b: u8) -> Option<&[u8]>
+    ensures { Left stored.now (b ∷ []) result }
 {
-    if stored.len() <= at {
-        return Matched::Differs;
-    }
-    if stored[at] == b {
-        return Matched::To(at + 1);
-    }
-    Matched::Differs
+    stored.strip_prefix(&[b])
 }
 
-fn match_bytes(stored: &[u8], at: usize, s: &[u8]) -> Matched
-    ensures { result ≡ stretch stored.now at s.now }
+// A text after its length byte.
+fn match_field<'a>(stored: &'a [u8], s: &[u8]) -> Option<&'a [u8]>
+    ensures { Left stored.now (field_of s.now) result }
 {
-    let n = s.len();
-    if n == 0 {
-        return Matched::To(at);
-    }
-    if stored.len() < at {
-        return Matched::Differs;
-    }
-    if stored.len() - at < n {
-        return Matched::Differs;
-    }
-    let end = at + n;
-    let part = &stored[at..end];
-    if same_bytes(part, s) {
-        return Matched::To(end);
-    }
-    Matched::Differs
+    match_byte(stored, (s.len() % BYTE_VALUES) as u8)?.strip_prefix(s)
 }
 
-fn match_field(stored: &[u8], at: usize, s: &[u8]) -> Matched
-    ensures { result ≡ stretch stored.now at (field_of s.now) }
-{
-    let Matched::To(a) = match_byte(stored, at, (s.len() % BYTE_VALUES) as u8) else {
-        return Matched::Differs;
-    };
-    match_bytes(stored, a, s)
-}
-
-fn match_pick(stored: &[u8], at: usize, texts: &[u8], starts: &[usize], i: usize) -> Matched
+fn match_pick<'a>(stored: &'a [u8], texts: &[u8], starts: &[usize], i: usize) -> Option<&'a [u8]>
     requires { Rising starts.now (length texts.now) × (i * field_count + field_count < length starts.now) }
-    ensures { result ≡ stretch stored.now at (entry (pick_in texts.now starts.now i)) }
+    ensures { Left stored.now (entry (pick_in texts.now starts.now i)) result }
 {
-    let mut to = at;
-    let mut f: usize = 0;
-    while f < FIELDS {
-        let t = field(texts, starts, i, f);
-        let Matched::To(a) = match_field(stored, to, t) else {
-            return Matched::Differs;
-        };
-        to = a;
-        f += 1;
+    let mut rest = stored;
+    for f in 0..FIELDS {
+        rest = match_field(rest, field(texts, starts, i, f))?;
     }
-    Matched::To(to)
+    Some(rest)
 }
 
-fn match_picks(
-    stored: &[u8],
-    at: usize,
+fn match_picks<'a>(
+    stored: &'a [u8],
     texts: &[u8],
     starts: &[usize],
     n: usize,
     sorted: &[usize],
-) -> Matched
+) -> Option<&'a [u8]>
     requires { Rising starts.now (length texts.now) × (n * field_count < length starts.now) × Below n sorted.now }
-    ensures { result ≡ stretch stored.now at (joined entry (map (pick_in texts.now starts.now) sorted.now)) }
+    ensures { Left stored.now (joined entry (map (pick_in texts.now starts.now) sorted.now)) result }
 {
-    let mut to = at;
-    let mut k: usize = 0;
-    while k < sorted.len() {
-        let i = sorted[k];
-        let Matched::To(a) = match_pick(stored, to, texts, starts, i) else {
-            return Matched::Differs;
-        };
-        to = a;
-        k += 1;
+    let mut rest = stored;
+    for i in sorted {
+        rest = match_pick(rest, texts, starts, *i)?;
     }
-    Matched::To(to)
+    Some(rest)
 }
 
-fn match_prefix(stored: &[u8], identity: &[u8]) -> Matched
-    ensures { result ≡ stretch stored.now 0 (prefix identity.now) }
+fn match_prefix<'a>(stored: &'a [u8], identity: &[u8]) -> Option<&'a [u8]>
+    ensures { Left stored.now (prefix identity.now) result }
 {
     let n = identity.len();
     if n == 0 {
-        return Matched::To(0);
+        return Some(stored);
     }
-    let Matched::To(a) = match_byte(stored, 0, IDENTITY_MARK) else {
-        return Matched::Differs;
-    };
-    let Matched::To(b) = match_byte(stored, a, (n % BYTE_VALUES) as u8) else {
-        return Matched::Differs;
-    };
-    let Matched::To(c) = match_byte(stored, b, (n / BYTE_VALUES % BYTE_VALUES) as u8) else {
-        return Matched::Differs;
-    };
-    match_bytes(stored, c, identity)
+    let rest = match_byte(stored, IDENTITY_MARK)?;
+    let rest = match_byte(rest, (n % BYTE_VALUES) as u8)?;
+    let rest = match_byte(rest, (n / BYTE_VALUES % BYTE_VALUES) as u8)?;
+    rest.strip_prefix(identity)
+}
+
+// The whole key: the prefix, the count byte and the sorted picks.
+fn match_parts<'a>(
+    stored: &'a [u8],
+    identity: &[u8],
+    texts: &[u8],
+    starts: &[usize],
+    n: usize,
+) -> Option<&'a [u8]>
+    requires { Rising starts.now (length texts.now) × (n * field_count < length starts.now) × (n ≤ max_picks) }
+    ensures { Left stored.now (key_of identity.now (firsts n (pick_in texts.now starts.now))) result }
+{
+    let mut order: [usize; MAX_PICKS] = [0; MAX_PICKS];
+    let m = sort_picks(texts, starts, n, &mut order);
+    let rest = match_prefix(stored, identity)?;
+    let rest = match_byte(rest, (m % BYTE_VALUES) as u8)?;
+    match_picks(rest, texts, starts, n, &order[0..m])
 }
 
 // Whether the stored key is the key of an identity and n picks whose texts fit.
@@ -129,23 +92,11 @@ pub(crate) fn match_key(
     starts: &[usize],
     n: usize,
 ) -> bool
-    requires { Rising starts.now (length texts.now) × (n * field_count < length starts.now) × (n ≤ max_picks) × (length identity.now ≤ max_identity) × Small (pick_in texts.now starts.now) n }
+    requires { Rising starts.now (length texts.now) × (n * field_count < length starts.now) × (n ≤ max_picks) }
     ensures { result ≡ same stored.now (key_of identity.now (firsts n (pick_in texts.now starts.now))) }
 {
-    let mut order: [usize; MAX_PICKS] = [0; MAX_PICKS];
-    let m = sort_picks(texts, starts, n, &mut order);
-    let sorted = &order[0..m];
-    if stored.len() != key_length(identity, texts, starts, n, sorted) {
-        return false;
+    match match_parts(stored, identity, texts, starts, n) {
+        Some(rest) => rest.is_empty(),
+        None => false,
     }
-    let Matched::To(a) = match_prefix(stored, identity) else {
-        return false;
-    };
-    let Matched::To(b) = match_byte(stored, a, (m % BYTE_VALUES) as u8) else {
-        return false;
-    };
-    let Matched::To(_) = match_picks(stored, b, texts, starts, n, sorted) else {
-        return false;
-    };
-    true
 }

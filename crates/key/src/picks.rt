@@ -1,50 +1,15 @@
 // Picks: their texts cut at the lengths and tested, their order, and the distinct ones sorted.
 ghost use Rattle.std.specs.Prelude.{◌≡◌, true, [], ◌∷◌, ◌++◌, map, ◌+◌, ◌-◌, ◌*◌, ◌≤◌, ◌<◌, length, take, drop, get_or};
-ghost use Rattle.key.specs.Order.{text_order, pick_order, field_count};
+ghost use Rattle.key.specs.Order.{pick_order, field_count};
 ghost use Rattle.key.specs.Picks.{firsts, insert, distinct};
 ghost use Rattle.key.specs.Layout.{sized, every};
-ghost use Rattle.key.specs.Steps.{number, Offsets, Rising, between, pick_in, Goes, Ordered, Below, Prepares, starts_size};
+ghost use Rattle.key.specs.Steps.{answer_of, Offsets, Rising, between, pick_in, Goes, Ordered, Below, Prepares, starts_size};
 
 use crate::{CODE_FIELD, FIELDS, LAST_FIELD, MAX_IDENTITY, MAX_TEXTS, NAME_FIELD};
 use refusal::Refusal;
-
-// The index at which a pick is inserted among the sorted ones, or that it is among them.
-#[derive(Clone, Copy)]
-enum Index {
-    At(usize),
-    There,
-}
-
-const LESS: u8 = 0;
-
-const SAME: u8 = 1;
-
-const MORE: u8 = 2;
+use std::cmp::Ordering;
 
 const SIZES: [usize; FIELDS] = [8, 32, 16, 32, 64];
-
-// Bytewise order.
-fn order(a: &[u8], b: &[u8]) -> u8
-    ensures { result ≡ number (text_order a.now b.now) }
-{
-    let mut i: usize = 0;
-    while i < a.len() {
-        if b.len() <= i {
-            return MORE;
-        }
-        if a[i] < b[i] {
-            return LESS;
-        }
-        if b[i] < a[i] {
-            return MORE;
-        }
-        i += 1;
-    }
-    if i < b.len() {
-        return LESS;
-    }
-    SAME
-}
 
 // The offsets of texts 0 to m: each after the texts before it, at most the end.
 fn offsets_of(texts: &[u8], lengths: &[u32], m: usize, starts: &mut [usize])
@@ -52,18 +17,10 @@ fn offsets_of(texts: &[u8], lengths: &[u32], m: usize, starts: &mut [usize])
     ensures { Offsets texts.now lengths.now m starts.new }
 {
     let mut at: usize = 0;
-    let mut i: usize = 0;
-    while i <= m {
+    for i in 0..m + 1 {
         starts[i] = at;
-        if i < lengths.len() {
-            let n = lengths[i] as usize;
-            if n <= texts.len() - at {
-                at += n;
-            } else {
-                at = texts.len();
-            }
-        }
-        i += 1;
+        let n = lengths.get(i).copied().unwrap_or(0) as usize;
+        at += n.min(texts.len() - at);
     }
 }
 
@@ -82,15 +39,11 @@ fn sizes_fit(texts: &[u8], starts: &[usize], m: usize) -> bool
     requires { Rising starts.now (length texts.now) × (m + 1 ≡ length starts.now) }
     ensures { result ≡ every m (sized (between texts.now starts.now)) }
 {
-    let sizes = SIZES;
-    let mut k: usize = 0;
-    while k < m {
+    for k in 0..m {
         let t = text(texts, starts, k);
-        let f = k % FIELDS;
-        if sizes[f] < t.len() {
+        if SIZES[k % FIELDS] < t.len() {
             return false;
         }
-        k += 1;
     }
     true
 }
@@ -112,57 +65,34 @@ pub(crate) fn field<'a, 'b>(texts: &'a [u8], starts: &'b [usize], i: usize, f: u
 }
 
 // The order of two picks.
-fn order_picks(texts: &[u8], starts: &[usize], i: usize, j: usize) -> u8
+fn order_picks(texts: &[u8], starts: &[usize], i: usize, j: usize) -> Ordering
     requires { Rising starts.now (length texts.now) × (i * field_count + field_count < length starts.now) × (j * field_count + field_count < length starts.now) }
-    ensures { result ≡ number (pick_order (pick_in texts.now starts.now i) (pick_in texts.now starts.now j)) }
+    ensures { result ≡ answer_of (pick_order (pick_in texts.now starts.now i) (pick_in texts.now starts.now j)) }
 {
-    let mut f: usize = 0;
-    while f < FIELDS {
+    for f in 0..FIELDS {
         let a = field(texts, starts, i, f);
         let b = field(texts, starts, j, f);
-        let o = order(a, b);
-        if o != SAME {
+        let o = a.cmp(&b);
+        if o.is_ne() {
             return o;
         }
-        f += 1;
     }
-    SAME
+    Ordering::Equal
 }
 
-// The index at which pick i is inserted among the sorted ones.
-fn index_of(texts: &[u8], starts: &[usize], n: usize, sorted: &[usize], i: usize) -> Index
+// The index at which pick i is inserted among the sorted ones, None if it is among them.
+fn index_of(texts: &[u8], starts: &[usize], n: usize, sorted: &[usize], i: usize) -> Option<usize>
     requires { Rising starts.now (length texts.now) × (n * field_count < length starts.now) × (i < n) × Below n sorted.now }
     ensures { Goes (pick_in texts.now starts.now i) (map (pick_in texts.now starts.now) sorted.now) result }
 {
-    let mut k: usize = 0;
-    while k < sorted.len() {
-        let j = sorted[k];
-        let o = order_picks(texts, starts, i, j);
-        if o == SAME {
-            return Index::There;
+    for (k, j) in sorted.iter().enumerate() {
+        match order_picks(texts, starts, i, *j) {
+            Ordering::Less => return Some(k),
+            Ordering::Equal => return None,
+            Ordering::Greater => {}
         }
-        if o == LESS {
-            return Index::At(k);
-        }
-        k += 1;
     }
-    Index::At(k)
-}
-
-// Inserts v at index k of the first m; those from k on move by one.
-fn put_in(list: &mut [usize], m: usize, k: usize, v: usize)
-    requires { (k ≤ m) × (m < length list.old) }
-    ensures { take (m + 1) list.new ≡ take k (take m list.old) ++ v ∷ drop k (take m list.old) }
-{
-    let mut next = v;
-    let mut j = k;
-    while j < m {
-        let moved = list[j];
-        list[j] = next;
-        next = moved;
-        j += 1;
-    }
-    list[m] = next;
+    Some(sorted.len())
 }
 
 // Inserts pick i among the m sorted ones, unless it is there; gives how many they are then.
@@ -177,11 +107,11 @@ fn insert_pick(
     requires { Rising starts.now (length texts.now) × (n * field_count < length starts.now) × (i < n) × (m < length order.old) × Below n (take m order.old) }
     ensures { (result ≤ m + 1) × Ordered (pick_in texts.now starts.now) n (insert (pick_in texts.now starts.now i) (map (pick_in texts.now starts.now) (take m order.old))) order.new result }
 {
-    let p = index_of(texts, starts, n, &order[0..m], i);
-    let Index::At(k) = p else {
+    let Some(k) = index_of(texts, starts, n, &order[0..m], i) else {
         return m;
     };
-    put_in(order, m, k, i);
+    order.copy_within(k..m, k + 1);
+    order[k] = i;
     m + 1
 }
 
@@ -191,9 +121,7 @@ pub(crate) fn sort_picks(texts: &[u8], starts: &[usize], n: usize, order: &mut [
     ensures { (result ≤ n) × Ordered (pick_in texts.now starts.now) n (distinct (firsts n (pick_in texts.now starts.now))) order.new result }
 {
     let mut m: usize = 0;
-    let mut i = n;
-    while 0 < i {
-        i -= 1;
+    for i in (0..n).rev() {
         m = insert_pick(texts, starts, n, order, m, i);
     }
     m

@@ -34,11 +34,8 @@ fn entries_length(texts: &[u8], starts: &[usize], n: usize, sorted: &[usize]) ->
     ensures { (result ≡ length (joined entry (map (pick_in texts.now starts.now) sorted.now))) × (result ≤ longest_entry * max_picks) }
 {
     let mut bytes: usize = 0;
-    let mut k: usize = 0;
-    while k < sorted.len() {
-        let i = sorted[k];
-        bytes += entry_length(texts, starts, i);
-        k += 1;
+    for i in sorted {
+        bytes += entry_length(texts, starts, *i);
     }
     bytes
 }
@@ -73,11 +70,8 @@ fn put_bytes(out: &mut [u8], at: usize, s: &[u8])
     requires { at + length s.now ≤ length out.old }
     ensures { out.new ≡ written out.old at s.now }
 {
-    let mut i: usize = 0;
-    while i < s.len() {
-        out[at + i] = s[i];
-        i += 1;
-    }
+    let end = at + s.len();
+    out[at..end].copy_from_slice(s);
 }
 
 // Writes a text after its length byte.
@@ -95,12 +89,10 @@ fn put_pick(out: &mut [u8], at: usize, texts: &[u8], starts: &[usize], i: usize)
     ensures { (result ≡ at + length (entry (pick_in texts.now starts.now i))) × (out.new ≡ written out.old at (entry (pick_in texts.now starts.now i))) }
 {
     let mut to = at;
-    let mut f: usize = 0;
-    while f < FIELDS {
+    for f in 0..FIELDS {
         let t = field(texts, starts, i, f);
         put_field(out, to, t);
         to = to + 1 + t.len();
-        f += 1;
     }
     to
 }
@@ -111,11 +103,8 @@ fn put_picks(out: &mut [u8], at: usize, texts: &[u8], starts: &[usize], n: usize
     ensures { out.new ≡ written out.old at (joined entry (map (pick_in texts.now starts.now) sorted.now)) }
 {
     let mut to = at;
-    let mut k: usize = 0;
-    while k < sorted.len() {
-        let i = sorted[k];
-        to = put_pick(out, to, texts, starts, i);
-        k += 1;
+    for i in sorted {
+        to = put_pick(out, to, texts, starts, *i);
     }
 }
 

@@ -50,11 +50,8 @@ pub fn started(active: Result<Option<Bank>, Refusal>, comparing: bool, now: i64)
 fn answer_of(l: Result<Option<Bank>, Refusal>) -> Result<Answer, Refusal>
     ensures { result ≡ Lower.answer_of l }
 {
-    match l {
-        Ok(Some(_)) => Ok(Answer::Done),
-        Ok(None) => Ok(Answer::Done),
-        Err(r) => Err(r),
-    }
+    l?;
+    Ok(Answer::Done)
 }
 
 // Begins an update on a region.

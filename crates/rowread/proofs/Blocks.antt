@@ -1,12 +1,13 @@
 -- Bytes written ahead: a block may go past the end of what it is for. What is written next overwrites it, and at the end the bytes that were there.
-use Prim.Native.Nat.{ℕ, suc, ◌+◌, ◌-◌, ◌≤◌, ◌<◌}
+use Prim.Native.Nat.{ℕ, ◌+◌, ◌-◌, ◌≤◌}
 use native.Mathlib.Omega.{arith}
 use native.Mathlib.Nat.{add-zero}
 use mathlib.Core.Path.{◌≡◌, refl, sym, ap, ◌∙◌}
-use mathlib.Core.List.{List, [], ◌∷◌, ◌++◌, append_assoc, append-nil}
-use native.Mathlib.Numerals.{add-one}
-use lib.ListN.{length, take, drop, get_or, set, length-append, length-take, length-drop, take-append-drop, drop_of_length-le}
-use lib.Seq.{sets, length-sets, sets-eq, take-add, take_all, take_at, drop-cons, drop-drop}
+use mathlib.Core.List.{List, [], ◌++◌, append_assoc, append-nil}
+use lib.ListN.{length, take, drop, length-append, length-take, length-drop, take-append-drop, drop_of_length-le}
+use borrow.Rule.Slice.PartMut.{put_mid}
+use Rattle.std.proofs.lemmas.Slice.{put_mid-paste}
+use lib.Seq.{sets, length-sets, sets-eq, take-add, take_all, take_at, drop-drop}
 use Rattle.rfc4180.proofs.Laws.{sets-append, sets_over}
 use Rattle.rowread.specs.Steps.{Ahead}
 
@@ -56,19 +57,7 @@ block-turn out o p t to from i h e q =
     let a : sets out to (take i (drop from t) ++ take 16 (drop (from + i) t)) ≡ sets (sets out to (take i (drop from t))) (to + i) (take 16 (drop (from + i) t)) = rw l at (sets-append out to (take i (drop from t)) (take 16 (drop (from + i) t))) in
     q ∙ ap (λ (x : List ℕ). sets x (to + i) (take 16 (drop (from + i) t))) e ∙ sym a ∙ ap (sets out to) (sym s)
 
--- a block through an array
-pub block-through : (out z b p t : List ℕ) (to from : ℕ) → from + 16 ≤ length t → length z ≡ 16 → b ≡ sets z 0 (take (from + 16 - from) (drop from t)) → p ≡ sets out to (take (16 - 0) (drop 0 b)) → p ≡ sets out to (take 16 (drop from t))
-block-through out z b p t to from h l e q =
-    let m : from + 16 - from ≡ 16 = omega arith in
-    let v = take 16 (drop from t) in
-    let k : length v ≡ 16 = omega (arith, length-take 16 (drop from t), length-drop from t) in
-    let f : b ≡ sets z 0 v = rw m at e in
-    let y : 0 + length v ≡ 16 = omega (arith, k) in
-    let g : sets z 0 v ≡ v ++ drop 16 z = rw y at (sets-eq v z 0 (omega (arith, l, k))) in
-    let i : b ≡ v = f ∙ g ∙ ap (λ (x : List ℕ). v ++ x) (let n : length z ≤ 16 = omega (arith, l) in drop_of_length-le z n) ∙ append-nil v in
-    q ∙ ap (λ (x : List ℕ). sets out to (take 16 x)) i ∙ ap (sets out to) (take_all 16 v (omega (arith, k)))
-
--- the same where the bytes went through an array
+-- the bytes that were saved in an array are put back
 pub ahead-back : (out v o z b p : List ℕ) (n : ℕ) → Ahead 16 out 0 v o → n ≡ length v → n + 16 ≤ length out → length z ≡ 16 → b ≡ sets z 0 (take 16 (drop n out)) → p ≡ sets o n (take 16 (drop 0 b)) → p ≡ sets out 0 v
 ahead-back out v o z b p n a m h l e q =
     let w = take 16 (drop n out) in
@@ -84,16 +73,10 @@ take-sets l v n e h = rw (sets-eq v l 0 (omega arith)) (take_at v (drop (0 + len
 pub ahead-exact : (b : ℕ) (out : List ℕ) (to : ℕ) (v o : List ℕ) → o ≡ sets out to v → Ahead b out to v o
 ahead-exact b out to v o e = (ap length e ∙ length-sets out to v, λ rest h. ap (λ (x : List ℕ). sets x (to + length v) rest) e ∙ sym (sets-append out to v rest))
 
--- ---- a part of t, byte by byte
+-- ---- a part of t at once
 
-pub part-next : (t : List ℕ) (i end : ℕ) → i < end → end ≤ length t → take (end - i) (drop i t) ≡ get_or t i 0 ∷ take (end - (i + 1)) (drop (i + 1) t)
-part-next t i end h g = let m : end - i ≡ suc (end - (i + 1)) = omega arith in rw (m, add-one i, drop-cons t i 0 (omega arith))
-
-pub part_none : (t : List ℕ) (i end : ℕ) → end ≤ i → take (end - i) (drop i t) ≡ []
-part_none t i end h = let m : end - i ≡ 0 = omega arith in rw m
-
-pub sets-turn : (out : List ℕ) (n b : ℕ) (v w : List ℕ) → v ≡ b ∷ w → sets out n v ≡ sets (set out n b) (n + 1) w
-sets-turn out n b v w e = rw (e, add-one n)
-
-pub sets-done : (out : List ℕ) (n : ℕ) (v : List ℕ) → v ≡ [] → sets out n v ≡ out
-sets-done out n v e = rw e
+pub part-put : (d : List ℕ) (at n : ℕ) (now s : List ℕ) → at + length s ≤ length d → n ≡ length s → now ≡ s → put_mid at n d now ≡ sets d at s
+part-put d at n now s h e w =
+    put_mid-paste at n d now s (length s) w (sym e) refl
+    ∙ ap (λ (l : List ℕ). take at d ++ l ++ drop (at + length s) d) (take_all (length s) s (omega arith))
+    ∙ sym (sets-eq s d at h)

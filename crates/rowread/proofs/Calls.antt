@@ -12,12 +12,12 @@ use Rattle.leaf.proofs.Laws.{written-sets}
 use Rattle.rfc4180.specs.Read as Csv
 use Rattle.rfc4180.proofs.Grammar.{sound, complete}
 use Rattle.refusal.specs.declared.Refusal.TheVariants.{Small, Row}
-use Rattle.rowread.specs.declared.exact.Scan.TheVariants.{Whole, Broken}
+use Rattle.std.proofs.Common.{None, Ok, Err, Some, Result, Option}
 use Rattle.rowread.specs.Stored.{stored, part_at, row_at, values_of, values_at, joined, ends_of, found, read_answer, after}
-use Rattle.rowread.specs.Steps.{scan_from, scan_of, IsRow, Holds}
-use Rattle.std.specs.Prelude.{Ok, Err, Some, None, Result, Option}
+use Rattle.rowread.proofs.Spans.{span-parts}
+use Rattle.rowread.specs.Steps.{spanned, scan_from, scan_of, IsRow, Holds}
 use Rattle.refusal.specs.declared.Refusal.{Refusal}
-use Rattle.rowread.specs.declared.Stored.{Stored}
+use Rattle.rowread.specs.declared.Span.{Span}
 
 take_min : (n : ℕ) (l : List ℕ) → take (min n (length l)) l ≡ take n l
 take_min n l = go (dec_lt n (length l))
@@ -31,22 +31,22 @@ unfolding ends_of
 length-ends from [] = refl
 length-ends from (v ∷ vs) = ap Prim.Native.Nat.suc (length-ends (from + length v) vs)
 
-pub scan-inside : (width : ℕ) (t : List ℕ) (next size : ℕ) → Whole next size ≡ scan_of width t → next ≤ length t
+pub scan-inside : (width : ℕ) (t : List ℕ) (next size : ℕ) → spanned next size ≡ scan_of width t → next ≤ length t
 unfolding scan_of
 scan-inside width t next size q = go (Csv.values width t) q
   where
-    go : (g : Csv.Row) → Whole next size ≡ scan_from (length t) 0 g → next ≤ length t
+    go : (g : Csv.Row) → spanned next size ≡ scan_from (length t) 0 g → next ≤ length t
     go Csv.malformed i = absurd (let z : ◌≡◌ {A = ℕ} 0 1 = cc in omega arith)
-    go (Csv.row vs r) i = let a : next ≡ length t - length r = cc in omega arith
+    go (Csv.row vs r) i = let a = (span-parts next size (length t - length r) (0 + length (joined vs)) i).0 in omega arith
 
 -- what the call promises: the answer, and both outputs
-pub record Answers (table : List ℕ) (width offset : ℕ) (out ends : List ℕ) (r : Result (Option Stored) Refusal) (o e : List ℕ) : Type 0 where
+pub record Answers (table : List ℕ) (width offset : ℕ) (out ends : List ℕ) (r : Result (Option Span) Refusal) (o e : List ℕ) : Type 0 where
   pub is : r ≡ read_answer table width offset (length out) (length ends)
   pub bytes : o ≡ after r (joined (values_at table width offset)) out
   pub marks : e ≡ after r (ends_of 0 (values_at table width offset)) ends
 
 -- outputs that nothing was written to yet
-pub since : {table : List ℕ} {width offset : ℕ} {out ends o s p q : List ℕ} {r : (Result (Option Stored) Refusal)} → o ≡ out → s ≡ ends → Answers table width offset o s r p q → Answers table width offset out ends r p q
+pub since : {table : List ℕ} {width offset : ℕ} {out ends o s p q : List ℕ} {r : (Result (Option Span) Refusal)} → o ≡ out → s ≡ ends → Answers table width offset o s r p q → Answers table width offset out ends r p q
 since e f a = rw (e, f) at a
 
 module _ (table : List ℕ) (width offset : ℕ) (out ends : List ℕ) where
@@ -63,15 +63,15 @@ module _ (table : List ℕ) (width offset : ℕ) (out ends : List ℕ) where
     unfolding read_answer
     inside = rw (le-leb offset (length table) h, ne_eqb offset (length table) e)
 
-    pub read-broken : Broken ≡ scan_of width (part_at table offset) → Answers table width offset out ends (Err Row) out ends
+    pub read-broken : None ≡ scan_of width (part_at table offset) → Answers table width offset out ends (Err Row) out ends
     unfolding scan_of
     read-broken q = record { is = go (row_at table width offset) q ∙ sym inside; bytes = refl; marks = refl }
       where
-        go : (g : Csv.Row) → Broken ≡ scan_from (length (part_at table offset)) 0 g → Err Row ≡ found offset (length (part_at table offset)) (length out) (length ends) g
+        go : (g : Csv.Row) → None ≡ scan_from (length (part_at table offset)) 0 g → Err Row ≡ found offset (length (part_at table offset)) (length out) (length ends) g
         go Csv.malformed i = refl
         go (Csv.row vs r) i = absurd (let z : ◌≡◌ {A = ℕ} 0 1 = cc in omega arith)
 
-    module _ (next size : ℕ) (q : Whole next size ≡ scan_of width (part_at table offset)) where
+    module _ (next size : ℕ) (q : spanned next size ≡ scan_of width (part_at table offset)) where
       pub record Read : Type 0 where
         pub values : List (List ℕ)
         pub rest : List ℕ
@@ -84,11 +84,12 @@ module _ (table : List ℕ) (width offset : ℕ) (out ends : List ℕ) where
       unfolding scan_of
       the_row = go (row_at table width offset) refl q
         where
-          go : (g : Csv.Row) → row_at table width offset ≡ g → Whole next size ≡ scan_from (length (part_at table offset)) 0 g → Read
+          go : (g : Csv.Row) → row_at table width offset ≡ g → spanned next size ≡ scan_from (length (part_at table offset)) 0 g → Read
           go Csv.malformed d i = absurd (let z : ◌≡◌ {A = ℕ} 0 1 = cc in omega arith)
           go (Csv.row vs r) d i =
-              let a : next ≡ length (part_at table offset) - length r = cc in
-              let b : size ≡ 0 + length (joined vs) = cc in
+              let e = span-parts next size (length (part_at table offset) - length r) (0 + length (joined vs)) i in
+              let a = e.0 in
+              let b = e.1 in
               record { values = vs; rest = r; is = d; to = a; bytes = omega arith; many = (sound width (part_at table offset) vs r d).1 }
 
       pub is_row : IsRow (row_at table width offset)

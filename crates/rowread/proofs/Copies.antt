@@ -11,11 +11,12 @@ use Rattle.rfc4180.specs.Csv.{Record, last, more, comma}
 use Rattle.rfc4180.specs.Read.{Got, got, field_at, Row, row, malformed, values}
 use Rattle.rfc4180.proofs.Grammar.{sound, field-complete, comma-stops, ends, last-read}
 use Rattle.rfc4180.proofs.Offsets.{field-offset}
-use Rattle.rowread.specs.declared.exact.Scan.TheVariants.{Whole, Broken}
+use Rattle.std.proofs.Common.{None}
 use Rattle.rowread.specs.Stored.{values_of, joined, ends_of}
 use mathlib.Core.Logic.{◌⊎◌, inl, inr}
 use Rattle.rfc4180.proofs.Sizes.{value-size}
-use Rattle.rowread.specs.Steps.{value_of, rest_of, scan_from, scan_of, IsRow, Ahead, Filled, Ample, Fitting, FieldRoom, RowRoom, RowWritten}
+use Rattle.rowread.proofs.Spans.{span-parts}
+use Rattle.rowread.specs.Steps.{spanned, value_of, rest_of, scan_from, scan_of, IsRow, Ahead, Filled, Ample, Fitting, FieldRoom, RowRoom, RowWritten}
 use Rattle.rowread.proofs.Laws.{IsValue}
 
 -- ---- the values of a row, one by one
@@ -153,15 +154,15 @@ module _ {b : ℕ} {t out₀ ends₀ : List ℕ} {width : ℕ} {out ends : List 
 -- ---- both passes
 
 -- a row can't be malformed
-row-sound : (t : List ℕ) (width : ℕ) → Broken ≡ scan_of width t → IsRow (values width t) → ⊥
+row-sound : (t : List ℕ) (width : ℕ) → None ≡ scan_of width t → IsRow (values width t) → ⊥
 unfolding scan_of
 row-sound t width e i = go (values width t) i e
   where
-    go : (g : Row) → IsRow g → Broken ≡ scan_from (length t) 0 g → ⊥
+    go : (g : Row) → IsRow g → None ≡ scan_from (length t) 0 g → ⊥
     go malformed i f = i
     go (row vs s) i f = let z : ◌≡◌ {A = ℕ} 0 1 = cc in omega arith
 
-pub broken-row : {b : ℕ} {write : Bool} {t : List ℕ} {width : ℕ} {out ends o s : List ℕ} → Broken ≡ scan_of width t → (write ≡ false → (o ≡ out) × (s ≡ ends)) → length o ≡ length out → length s ≡ length ends
+pub broken-row : {b : ℕ} {write : Bool} {t : List ℕ} {width : ℕ} {out ends o s : List ℕ} → None ≡ scan_of width t → (write ≡ false → (o ≡ out) × (s ≡ ends)) → length o ≡ length out → length s ≡ length ends
     → RowWritten b write t width out ends o s
 broken-row {t = t} {width = width} e f l m = record { kept = f; same = l; alike = m; ahead = λ w i. absurd (row-sound t width e i) }
 
@@ -215,13 +216,13 @@ module _ {b : ℕ} {write : Bool} {t : List ℕ} {width : ℕ} {out₀ ends₀ o
       ends-length false f = ap length (p.0 f)
 
   -- all values are written, or there is no row
-  pub state-whole : width ≤ k → (next : ℕ) → Whole next to ≡ scan_of width t → RowWritten b write t width out₀ ends₀ out ends
+  pub state-whole : width ≤ k → (next : ℕ) → spanned next to ≡ scan_of width t → RowWritten b write t width out₀ ends₀ out ends
   unfolding scan_of
   state-whole h next e = record { kept = s.kept; same = s.same; alike = s.alike; ahead = λ w i. left-none (s.left w i) h (go (values width t) e) }
     where
-      go : (g : Row) → Whole next to ≡ scan_from (length t) 0 g → to ≡ length (joined (values_of g))
+      go : (g : Row) → spanned next to ≡ scan_from (length t) 0 g → to ≡ length (joined (values_of g))
       go malformed f = absurd (let z : ◌≡◌ {A = ℕ} 0 1 = cc in omega arith)
-      go (row vs r) f = let z : to ≡ 0 + length (joined vs) = cc in omega (arith, z)
+      go (row vs r) f = let z = (span-parts next to (length t - length r) (0 + length (joined vs)) f).1 in omega (arith, z)
 
-  pub state-broken : Broken ≡ scan_of width t → RowWritten b write t width out₀ ends₀ out ends
+  pub state-broken : None ≡ scan_of width t → RowWritten b write t width out₀ ends₀ out ends
   state-broken e = broken-row e s.kept s.same s.alike

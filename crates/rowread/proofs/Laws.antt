@@ -16,10 +16,11 @@ use Rattle.rfc4180.specs.Csv.{is_text, RowEnd, quote, comma, carriage_return, li
 use Rattle.rfc4180.specs.Read.{Got, got, bad, push, plain_value, plain_rest, inner, closing, field_at, Row, row, malformed, front, row_end, ended, parted, values}
 use Rattle.rfc4180.proofs.Grammar.{end-sound, end-size}
 use Rattle.rfc4180.proofs.Offsets.{field-offset}
-use Rattle.rowread.specs.declared.exact.Piece.TheVariants.{Value, Bad}
-use Rattle.rowread.specs.declared.exact.Scan.TheVariants.{Whole, Broken}
+use Rattle.std.proofs.Common.{None}
+use Rattle.std.proofs.Common.{None}
 use Rattle.rowread.specs.Stored.{joined}
-use Rattle.rowread.specs.Steps.{piece_of, scan_from, scan_of}
+use Rattle.rowread.proofs.Spans.{span-parts}
+use Rattle.rowread.specs.Steps.{spanned, piece_of, scan_from, scan_of}
 
 -- ---- a value without quotes
 
@@ -138,7 +139,7 @@ field-quote t i e = rw (add-one i, drop-cons t i 0 (past t i 33 e)) (simp (eq-eq
 pub field_plain : (t : List ℕ) (i : ℕ) → (get_or t i 0 ≡ quote → ⊥) → field_at (drop i t) ≡ got (plain_value (drop i t)) (plain_rest (drop i t))
 field_plain t i e = field-not (drop i t) (λ q. e (sym (first t i) ∙ q))
 
-pub plain-piece : (t : List ℕ) (i e : ℕ) → i ≤ length t → (get_or t i 0 ≡ quote → ⊥) → e ≡ i + length (plain_value (drop i t)) → Value e (e - i) ≡ piece_of (length t) (field_at (drop i t))
+pub plain-piece : (t : List ℕ) (i e : ℕ) → i ≤ length t → (get_or t i 0 ≡ quote → ⊥) → e ≡ i + length (plain_value (drop i t)) → spanned e (e - i) ≡ piece_of (length t) (field_at (drop i t))
 plain-piece t i e l h q =
     let d = plain_size t i in
     let a : length t - length (plain_rest (drop i t)) ≡ e = omega arith in
@@ -155,21 +156,22 @@ pub record IsValue (t : List ℕ) (from to size : ℕ) : Type 0 where
   pub grows : from + size ≤ to
   pub inside : to ≤ length t
 
-pub is-value : (t : List ℕ) (from to size : ℕ) → from ≤ length t → Value to size ≡ piece_of (length t) (field_at (drop from t)) → IsValue t from to size
+pub is-value : (t : List ℕ) (from to size : ℕ) → from ≤ length t → spanned to size ≡ piece_of (length t) (field_at (drop from t)) → IsValue t from to size
 is-value t from to size h e = go (field_at (drop from t)) refl e
   where
-    go : (g : Got) → field_at (drop from t) ≡ g → Value to size ≡ piece_of (length t) g → IsValue t from to size
+    go : (g : Got) → field_at (drop from t) ≡ g → spanned to size ≡ piece_of (length t) g → IsValue t from to size
     go bad q p = absurd (let z : ◌≡◌ {A = ℕ} 0 1 = cc in omega arith)
     go (got v r) q p =
         let w = field-offset t from v r h q in
-        let a : to ≡ length t - length r = cc in
-        let b : length v ≡ size = cc in
+        let d = span-parts to size (length t - length r) (length v) p in
+        let a = d.0 in
+        let b = sym d.1 in
         record { value = v; read = rw a (q ∙ ap (got v) w.0); sized = b; grows = omega (arith, w.1); inside = omega (arith, w.2) }
 
-pub is-bad : (t : List ℕ) (from : ℕ) → Bad ≡ piece_of (length t) (field_at (drop from t)) → field_at (drop from t) ≡ bad
+pub is-bad : (t : List ℕ) (from : ℕ) → None ≡ piece_of (length t) (field_at (drop from t)) → field_at (drop from t) ≡ bad
 is-bad t from e = go (field_at (drop from t)) e
   where
-    go : (g : Got) → Bad ≡ piece_of (length t) g → g ≡ bad
+    go : (g : Got) → None ≡ piece_of (length t) g → g ≡ bad
     go bad p = refl
     go (got v r) p = absurd (let z : ◌≡◌ {A = ℕ} 0 1 = cc in omega arith)
 
@@ -199,7 +201,7 @@ pub scan-start : (width : ℕ) (t : List ℕ) → scan_of width t ≡ scan_from 
 unfolding scan_of
 scan-start width t = refl
 
-pub scan-zero : (n s : ℕ) (bs : List ℕ) → scan_from n s (values 0 bs) ≡ Broken
+pub scan-zero : (n s : ℕ) (bs : List ℕ) → scan_from n s (values 0 bs) ≡ None
 unfolding values
 scan-zero n s bs = refl
 
@@ -211,16 +213,16 @@ module _ (t : List ℕ) (s from m n : ℕ) (left : m ≡ suc (suc n)) where
   scan-turn {to} {size} p e =
       rw left (simp p.read (rw (parted-yes t (suc n) to p.value e) (scan-front (length t) s p.value (values (suc n) (drop (to + 1) t)) ∙ rw p.sized)))
 
-  pub scan-no-comma : {to size : ℕ} → IsValue t from to size → (get_or t to 0 ≡ comma → ⊥) → Broken ≡ scan_from (length t) s (values m (drop from t))
+  pub scan-no-comma : {to size : ℕ} → IsValue t from to size → (get_or t to 0 ≡ comma → ⊥) → None ≡ scan_from (length t) s (values m (drop from t))
   unfolding values
   scan-no-comma {to} {size} p e = rw left (simp p.read (rw (parted-no (suc n) p.value (drop to t) (λ q. e (sym (first t to) ∙ q)))))
 
-pub scan-bad : (t : List ℕ) (s from m n : ℕ) → m ≡ suc n → field_at (drop from t) ≡ bad → Broken ≡ scan_from (length t) s (values m (drop from t))
+pub scan-bad : (t : List ℕ) (s from m n : ℕ) → m ≡ suc n → field_at (drop from t) ≡ bad → None ≡ scan_from (length t) s (values m (drop from t))
 scan-bad t s from m n left e = rw (left, values-bad n (drop from t) e)
 
 -- one value is left to read
 module _ (t : List ℕ) (s from to size : ℕ) (p : IsValue t from to size) where
-  pub scan-last : (e : ℕ) → e ≡ row_end (drop to t) → (e ≡ 0 → ⊥) → Whole (to + e) (s + size) ≡ scan_from (length t) s (values 1 (drop from t))
+  pub scan-last : (e : ℕ) → e ≡ row_end (drop to t) → (e ≡ 0 → ⊥) → spanned (to + e) (s + size) ≡ scan_from (length t) s (values 1 (drop from t))
   unfolding values ended joined
   scan-last e q h =
       let n : row_end (drop to t) ≡ 0 → ⊥ = λ z. h (q ∙ z) in
@@ -230,6 +232,6 @@ module _ (t : List ℕ) (s from to size : ℕ) (p : IsValue t from to size) wher
       let z : s + length (p.value ++ []) ≡ s + size = simp length-append (omega (arith, p.sized)) in
       simp p.read (rw (ne_eqb (row_end (drop to t)) 0 n, d, m, z))
 
-  pub scan-no-end : row_end (drop to t) ≡ 0 → Broken ≡ scan_from (length t) s (values 1 (drop from t))
+  pub scan-no-end : row_end (drop to t) ≡ 0 → None ≡ scan_from (length t) s (values 1 (drop from t))
   unfolding values ended
   scan-no-end h = simp p.read (rw (eq-eqb (row_end (drop to t)) 0 h))

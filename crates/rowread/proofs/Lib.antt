@@ -1,4 +1,5 @@
 pub mod Words
+pub mod Spans
 pub mod Laws
 pub mod Lines
 pub mod Search

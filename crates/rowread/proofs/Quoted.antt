@@ -13,11 +13,12 @@ use lib.Seq.{sets, drop-cons, take-suc, get_or-drop}
 use borrow.Author.Tests.{eqb-true, eqb-false}
 use Rattle.rfc4180.specs.Csv.{quote}
 use Rattle.rfc4180.specs.Read.{Got, got, bad, push, inner}
-use Rattle.rowread.specs.declared.exact.Piece.TheVariants.{Value, Bad}
+use Rattle.std.proofs.Common.{None}
 use Rattle.base.specs.Little.{little}
 use Rattle.rowread.specs.Marks.{marks, Marks, is_quote, first_mark, since, FirstOf, ClearedOf}
 use mathlib.Core.Logic.{◌⊎◌, inl, inr}
-use Rattle.rowread.specs.Steps.{piece_of, value_of, IsGot, prefixed, Written, Filled, Ample, Fitting, Room, Grid, Turned, Unquoting}
+use Rattle.rowread.specs.declared.unquote.Turn.TheVariants.{On, Closed}
+use Rattle.rowread.specs.Steps.{spanned, piece_of, value_of, IsGot, prefixed, Written, Filled, Ample, Fitting, Room, Grid, Turned, Unquoting}
 use Rattle.rowread.proofs.Laws.{inner-byte, inner-twice, inner-close, inner_out, past}
 use Rattle.rowread.proofs.Search.{since-zero, since-marks, FirstAt, first-at, cleared_at, none-since, word-eight, byte_of}
 use Rattle.rowread.proofs.Blocks.{ahead_none, ahead_more, ahead-block}
@@ -159,32 +160,19 @@ module _ (t : List ℕ) (i p m : ℕ) (g : Grid t i p m) (h : i + 24 ≤ length 
       let z : i + 8 - (i + 8) ≡ 0 = omega arith in
       record { low = omega arith; high = omega arith; inside = omega arith; quotes = rw z (e ∙ since-zero (marks is_quote (take 8 (drop (i + 8) t)))) }
 
-  pub turn-none : (r : ℕ) → m ≡ 0 → r ≡ little (marks is_quote (take 8 (drop (i + 8) t))) → Turned t i p record { copied = i + 8 - p; p = i + 8; i = i + 8; m = r; closed = false }
+  pub turn-none : (r : ℕ) → m ≡ 0 → r ≡ little (marks is_quote (take 8 (drop (i + 8) t))) → Turned t i p (On (i + 8 - p) (i + 8) (i + 8) r)
   turn-none r z e =
-      record {
-        few = omega (arith, g.low);
-        ends = λ x. absurd (let z : ◌≡◌ {A = ℕ} 0 1 = cc in omega arith);
-        on = λ x. (run-to t p (i + 8) g.high (omega arith) (λ j l k. grid-none t i p m g z j l k), omega (arith, g.high), omega arith, omega (arith, g.high), next_word r e);
-      }
+      (omega (arith, g.low), run-to t p (i + 8) g.high (omega arith) (λ j l k. grid-none t i p m g z j l k), omega (arith, g.high), omega arith, omega (arith, g.high), next_word r e)
 
   module _ (q : ℕ) (a : QuoteAt t p q) (l : q < i + 8) where
     -- a quote that closes
-    pub turn-close : (get_or t (q + 1) 0 ≡ quote → ⊥) → Turned t i p record { copied = q - p; p = q; i = i; m = m; closed = true }
-    turn-close n =
-        record {
-          few = omega (arith, g.low);
-          ends = λ x. (run-close t p q a.from (omega arith) a.before a.here n, omega (arith, a.from), omega arith);
-          on = λ x. absurd (let z : ◌≡◌ {A = ℕ} 0 1 = cc in omega arith);
-        }
+    pub turn-close : (get_or t (q + 1) 0 ≡ quote → ⊥) → Turned t i p (Closed (q - p) q)
+    turn-close n = (omega (arith, g.low), run-close t p q a.from (omega arith) a.before a.here n, omega (arith, a.from), omega arith)
 
     -- two quotes, the second in the word or in the next one
-    pub turn_twice : (k r : ℕ) → get_or t (q + 1) 0 ≡ quote → i ≤ k → Grid t k (q + 2) r → Turned t i p record { copied = q + 1 - p; p = q + 2; i = k; m = r; closed = false }
+    pub turn_twice : (k r : ℕ) → get_or t (q + 1) 0 ≡ quote → i ≤ k → Grid t k (q + 2) r → Turned t i p (On (q + 1 - p) (q + 2) k r)
     turn_twice k r d f w =
-        record {
-          few = omega (arith, g.low);
-          ends = λ x. absurd (let z : ◌≡◌ {A = ℕ} 0 1 = cc in omega arith);
-          on = λ x. (run-twice t p q a.from (omega arith) a.before a.here d, omega (arith, a.from), omega (arith, past t (q + 1) 33 d), omega (arith, a.from, f), w);
-        }
+        (omega (arith, g.low), run-twice t p q a.from (omega arith) a.before a.here d, omega (arith, a.from), omega (arith, past t (q + 1) 33 d), omega (arith, a.from, f), w)
 
 -- ---- what is written
 
@@ -242,7 +230,7 @@ module _ {b : ℕ} {write : Bool} {t : List ℕ} {from : ℕ} {out : List ℕ} {
 
   -- the value ends with w
   pub un-whole : (w : List ℕ) (q size : ℕ) (r : List ℕ) → inner (drop p t) ≡ got w (drop q t) → q ≤ length t → to + size ≡ n + length w → Written b write o n w r
-      → (Value q size ≡ piece_of (length t) (inner (drop from t))) × Filled b write out to (inner (drop from t)) r
+      → (spanned q size ≡ piece_of (length t) (inner (drop from t))) × Filled b write out to (inner (drop from t)) r
   un-whole w q size r e h m c =
       let f : inner (drop from t) ≡ got (u.value ++ w) (drop q t) = u.on ∙ ap (prefixed u.value) e in
       let z : length t - length (drop q t) ≡ q = omega (arith, length-drop q t) in
@@ -304,7 +292,7 @@ module _ {b : ℕ} {write : Bool} {t : List ℕ} {from : ℕ} {out : List ℕ} {
   un-byte q r a c = un-more u (get_or t p 0 ∷ []) q (n + 1) r a.read (omega (arith, a.grows)) a.inside refl c
 
   -- no closing quote: there is no value
-  pub un-bad : length t ≤ p → (Bad ≡ piece_of (length t) (inner (drop from t))) × Filled b write out to (inner (drop from t)) o
+  pub un-bad : length t ≤ p → (None ≡ piece_of (length t) (inner (drop from t))) × Filled b write out to (inner (drop from t)) o
   un-bad h =
       let e : inner (drop from t) ≡ bad = u.on ∙ ap (prefixed u.value) (inner_out t p h) in
       (rw e, rw e (filled-bad u.written.kept (un-length u)))

@@ -10,9 +10,9 @@ use Rattle.rfc4180.specs.Csv.{Record}
 use Rattle.rfc4180.specs.Read.{Row, row, malformed, values}
 use Rattle.rfc4180.proofs.Grammar.{sound}
 use Rattle.rfc4180.proofs.Frame.{part-row}
-use Rattle.rowread.specs.declared.exact.Scan.TheVariants.{Whole}
 use Rattle.rowread.specs.Stored.{values_of, joined, ends_of}
-use Rattle.rowread.specs.Steps.{scan_from, scan_of, IsRow, Ahead, Holds}
+use Rattle.rowread.proofs.Spans.{span-parts}
+use Rattle.rowread.specs.Steps.{spanned, scan_from, scan_of, IsRow, Ahead, Holds}
 use Rattle.rowread.proofs.Blocks.{ahead-closed, take-sets}
 use Rattle.rowread.proofs.Calls.{length-ends}
 use Rattle.rowread.proofs.Copies.{joined-size}
@@ -25,15 +25,16 @@ pub record ShortRow (t s : List ℕ) (width next size : ℕ) : Type 0 where
   pub inside : next ≤ length t
   pub small : size ≤ length s
 
-pub short-of : (n : ℕ) (t s : List ℕ) (width next size : ℕ) → s ≡ take n t → Whole next size ≡ scan_of width s → ShortRow t s width next size
+pub short-of : (n : ℕ) (t s : List ℕ) (width next size : ℕ) → s ≡ take n t → spanned next size ≡ scan_of width s → ShortRow t s width next size
 unfolding scan_of
 short-of n t s width next size e q = go (values width s) refl q
   where
-    go : (g : Row) → values width s ≡ g → Whole next size ≡ scan_from (length s) 0 g → ShortRow t s width next size
+    go : (g : Row) → values width s ≡ g → spanned next size ≡ scan_from (length s) 0 g → ShortRow t s width next size
     go malformed d i = absurd (let z : ◌≡◌ {A = ℕ} 0 1 = cc in omega arith)
     go (row vs r) d i =
-        let a : next ≡ length s - length r = cc in
-        let b : size ≡ 0 + length (joined vs) = cc in
+        let c = span-parts next size (length s - length r) (0 + length (joined vs)) i in
+        let a = c.0 in
+        let b = c.1 in
         let x = sound width s vs r d in
         let y : length (take n t) - length r ≡ next = rw (← e) (sym a) in
         record {

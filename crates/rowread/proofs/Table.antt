@@ -17,11 +17,11 @@ use Rattle.rfc4180.proofs.Grammar.{writes, sound, complete, lone-cr}
 use Rattle.rfc4180.proofs.Frame.{frame, front-in-row, part-row}
 use Rattle.rfc4180.proofs.Sizes.{row-some, lone-some, not-longer}
 use Rattle.refusal.specs.declared.Refusal.TheVariants.{Small, Row}
-use Rattle.rowread.specs.Stored.{stored, part_at, row_at, values_of, values_at, joined, found, read_answer}
+use Rattle.rowread.specs.Stored.{stored, stored, part_at, row_at, values_of, values_at, joined, found, read_answer}
 use Rattle.rowread.specs.Claims.{Fits, ReadsWritten, table_of, Reads, at_end, onward, AllFit, ReadsTable, StoredIsARow, RowThere, ReadsRows, SmallOutputs, RefusesOthers, ReadsEnd, RowsOf, no_rows, row_first, ReadsAll, StoredLimits, RefusesLoneCr}
 use Rattle.std.specs.Prelude.{Ok, Err, Some, None, Result, Option}
 use Rattle.refusal.specs.declared.Refusal.{Refusal}
-use Rattle.rowread.specs.declared.Stored.{Stored}
+use Rattle.rowread.specs.declared.Span.{Span}
 
 abbrev Text : Type 0
 Text = List ℕ
@@ -33,7 +33,7 @@ front-part p r h =
     ap (λ (n : ℕ). take n (p ++ r)) (sym e) ∙ take-append-add p r (max_row - length p)
 
 -- the answer where a row of these values is, `next` being the offset after it
-abbrev there : List Text → ℕ → ℕ → ℕ → Result (Option Stored) Refusal
+abbrev there : List Text → ℕ → ℕ → ℕ → Result (Option Span) Refusal
 there vs capacity slots next = pick (leb (length (joined vs)) capacity) (pick (leb (length vs) slots) (stored next (length (joined vs))) (Err Small)) (Err Small)
 
 -- the bytes p are a row, whatever follows them
@@ -86,7 +86,7 @@ reads-rows table rest vs width offset capacity slots r c m =
 pub small-outputs : SmallOutputs
 small-outputs table rest vs width offset capacity slots r n = (at_offset table rest vs width offset r capacity slots).0 ∙ go (leb (length (joined vs)) capacity) (leb (length vs) slots) refl refl
   where
-    go : (s t : Bool) → leb (length (joined vs)) capacity ≡ s → leb (length vs) slots ≡ t → pick {A = Result (Option Stored) Refusal} s (pick t (stored (offset + (length (drop offset table) - length rest)) (length (joined vs))) (Err Small)) (Err Small) ≡ Err Small
+    go : (s t : Bool) → leb (length (joined vs)) capacity ≡ s → leb (length vs) slots ≡ t → pick {A = Result (Option Span) Refusal} s (pick t (stored (offset + (length (drop offset table) - length rest)) (length (joined vs))) (Err Small)) (Err Small) ≡ Err Small
     go true true d e = absurd (n (leb-true (length (joined vs)) capacity d, omega (arith, leb-true (length vs) slots e, r.wide)))
     go true false d e = refl
     go false t d e = refl
@@ -156,7 +156,7 @@ end-not : {A : Type 0} (next size : ℕ) → Ok None ≡ stored next size → A
 end-not next size e = absurd (let z : ◌≡◌ {A = ℕ} 0 1 = cc in omega arith)
 
 -- the offset after a row that was read
-abbrev next_in : Result (Option Stored) Refusal → ℕ
+abbrev next_in : Result (Option Span) Refusal → ℕ
 next_in (Ok (Some s)) = s.next
 next_in (Ok None) = 0
 next_in (Err r) = 0
@@ -173,7 +173,7 @@ module _ (table : Text) (width offset capacity slots next size : ℕ) where
   in-found Csv.malformed e q = refused-not Row next size q
   in-found (Csv.row vs r) e q = go (leb (length (joined vs)) capacity) (leb (length vs) slots) q
     where
-      go : (s t : Bool) → pick {A = Result (Option Stored) Refusal} s (pick t (stored (offset + (length (part_at table offset) - length r)) (length (joined vs))) (Err Small)) (Err Small) ≡ stored next size → ReadAt table width offset next
+      go : (s t : Bool) → pick {A = Result (Option Span) Refusal} s (pick t (stored (offset + (length (part_at table offset) - length r)) (length (joined vs))) (Err Small)) (Err Small) ≡ stored next size → ReadAt table width offset next
       go true true i = let n : next ≡ offset + (length (part_at table offset) - length r) = sym (ap next_in i) in record { values = vs; rest = r; is = e; to = n }
       go true false i = refused-not Small next size i
       go false t i = refused-not Small next size i
@@ -221,7 +221,7 @@ pub refuses-others : RefusesOthers
 unfolding read_answer
 refuses-others table width offset capacity slots m n = rw (ne_eqb offset (length table) m, no-row table width offset (row_at table width offset) refl n) (go (leb offset (length table)))
   where
-    go : (t : Bool) → pick {A = Result (Option Stored) Refusal} t (Err Row) (Err Row) ≡ Err Row
+    go : (t : Bool) → pick {A = Result (Option Span) Refusal} t (Err Row) (Err Row) ≡ Err Row
     go true = refl
     go false = refl
 

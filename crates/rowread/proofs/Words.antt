@@ -1,19 +1,21 @@
 -- Operations on a 64-bit number, byte by byte: a bit operation on two numbers is that operation on each of their bytes, and so is a sum where no
 -- byte overflows. So an expression on eight bytes is the same expression on each byte, and that is computed for all 256 bytes.
-use Prim.Native.Nat.{ℕ, zero, suc, ◌+◌, ◌-◌, ◌*◌, ◌/◌, ◌%◌, ◌<◌, ◌≤◌}
+use Prim.Native.Nat.{ℕ, zero, suc, ◌+◌, ◌-◌, ◌*◌, ◌/◌, ◌%◌, ◌<◌}
 use native.Mathlib.Nat.{mod-lt, mod-eq_of_lt, not-suc-le-zero}
 use native.Mathlib.Omega.{arith}
 use mathlib.Core.Path.{◌≡◌, refl, sym, ap, ap₂, ◌∙◌}
 use mathlib.Core.Bool.{Bool, true, false}
 use mathlib.Core.List.{List, [], ◌∷◌}
-use lib.Dec.{T, eqb, eqb→eq, leb, leb→le}
+use lib.Dec.{T, eqb, eqb→eq}
 use borrow.Author.Tests.{eqb-true, eqb-false, ne_eqb}
 use lib.Pow.{pow_pos}
 use lib.Bits.{bit_and, bit_or, bit_xor, and_block, or_block, xor_block, and_le_r, or_lt, xor_lt, and_lt}
 use lib.ListN.{length, get_or}
 use Rattle.base.specs.Number.{pick}
 use Rattle.base.specs.Little.{little}
-use Rattle.rowread.specs.Marks.{high_bit, mark, marks, is_quote, is_delimiter, AreMarks, none, more, Marks, first_mark, cleared, digits}
+use Rattle.rowread.specs.Marks.{high_bit, mark, marks, is_quote, is_delimiter, AreMarks, none, more, Marks, first_mark, cleared}
+use Rattle.std.specs.Int.{w64, trailing_zeros}
+use lib.Count.{count_trailing_zeros, under}
 
 -- ---- a number of bytes that a function gives
 
@@ -212,28 +214,27 @@ told_of (more q {ms = ms} a) = let t = told_of a in (q ∷ t.0, ap (λ (l : List
 
 -- a number of marks, if it isn't 0: where its lowest mark is, and that mark taken away
 abbrev lowest : ℕ → ℕ
-lowest m = digits 64 (bit_xor m (m - 1)) / 8
+lowest m = trailing_zeros w64 m / 8
 
 unfoldable lowest-test : List Bool → Bool
-lowest-test l = pick (eqb (little (marks_from l)) 0) true (both (leb 1 (lowest (little (marks_from l)))) (both (eqb (lowest (little (marks_from l)) - 1) (first_mark (marks_from l))) (eqb (bit_and (little (marks_from l)) (little (marks_from l) - 1)) (little (cleared (marks_from l))))))
+lowest-test l = pick (eqb (little (marks_from l)) 0) true (both (eqb (lowest (little (marks_from l))) (first_mark (marks_from l))) (eqb (bit_and (little (marks_from l)) (little (marks_from l) - 1)) (little (cleared (marks_from l)))))
 
 pub record Lowest (ms : List ℕ) (m : ℕ) : Type 0 where
-  pub some : 1 ≤ lowest m
-  pub first : lowest m - 1 ≡ first_mark ms
+  pub first : lowest m ≡ first_mark ms
   pub others : bit_and m (m - 1) ≡ little (cleared ms)
 
 lowest-checked : (l : List Bool) → length l ≡ 8 → T (lowest-test l)
-unfolding every lowest-test little marks_from digits first_mark cleared
+unfolding every lowest-test little marks_from count_trailing_zeros under first_mark cleared
 lowest-checked l e = every_holds 8 lowest-test tt l e
 
-lowest-of : (ms : List ℕ) (m : ℕ) → 0 < m → T (pick (eqb m 0) true (both (leb 1 (lowest m)) (both (eqb (lowest m - 1) (first_mark ms)) (eqb (bit_and m (m - 1)) (little (cleared ms)))))) → Lowest ms m
+lowest-of : (ms : List ℕ) (m : ℕ) → 0 < m → T (pick (eqb m 0) true (both (eqb (lowest m) (first_mark ms)) (eqb (bit_and m (m - 1)) (little (cleared ms))))) → Lowest ms m
 lowest-of ms m h t =
-    let c : T (both (leb 1 (lowest m)) (both (eqb (lowest m - 1) (first_mark ms)) (eqb (bit_and m (m - 1)) (little (cleared ms))))) = rw (ne_eqb m 0 (λ e. omega (arith, e))) at t in
-    let d = both_right (leb 1 (lowest m)) (both (eqb (lowest m - 1) (first_mark ms)) (eqb (bit_and m (m - 1)) (little (cleared ms)))) c in
+    let a : Bool = eqb (lowest m) (first_mark ms) in
+    let b : Bool = eqb (bit_and m (m - 1)) (little (cleared ms)) in
+    let c : T (both a b) = rw (ne_eqb m 0 (λ e. omega (arith, e))) at t in
     record {
-      some = leb→le 1 (lowest m) (both_left (leb 1 (lowest m)) (both (eqb (lowest m - 1) (first_mark ms)) (eqb (bit_and m (m - 1)) (little (cleared ms)))) c);
-      first = eqb→eq (lowest m - 1) (first_mark ms) (both_left (eqb (lowest m - 1) (first_mark ms)) (eqb (bit_and m (m - 1)) (little (cleared ms))) d);
-      others = eqb→eq (bit_and m (m - 1)) (little (cleared ms)) (both_right (eqb (lowest m - 1) (first_mark ms)) (eqb (bit_and m (m - 1)) (little (cleared ms))) d);
+      first = eqb→eq (lowest m) (first_mark ms) (both_left a b c);
+      others = eqb→eq (bit_and m (m - 1)) (little (cleared ms)) (both_right a b c);
     }
 
 pub lowest-told : (ms : List ℕ) (m : ℕ) → Marks ms → m ≡ little ms → 0 < m → Lowest ms m

@@ -1,7 +1,7 @@
 -- Marks on eight bytes: which of them are delimiters, as one number.
-use Rattle.std.specs.Prelude.{ℕ, zero, suc, ◌/◌, ◌<◌, Bool, ◌||◌, ◌≡◌, List, [], ◌∷◌, eqb, length, get_or}
+use Rattle.std.specs.Prelude.{ℕ, zero, suc, ◌<◌, Bool, ◌||◌, ◌≡◌, List, [], ◌∷◌, eqb, length, get_or}
 use Rattle.base.specs.Little.{little, long_bytes}
-use Rattle.base.specs.Number.{pick, byte_values, long_bits}
+use Rattle.base.specs.Number.{pick, byte_values}
 use Rattle.rfc4180.specs.Csv.{quote, comma, carriage_return, line_feed}
 
 abbrev pub is_quote : ℕ → Bool
@@ -47,14 +47,6 @@ unfoldable pub since : ℕ → List ℕ → List ℕ
 since zero ms = ms
 since (suc d) [] = []
 since (suc d) (m ∷ ms) = 0 ∷ since d ms
-
--- how many binary digits a number of at most n digits has
-unfoldable pub digits : ℕ → ℕ → ℕ
-digits zero x = 0
-digits (suc n) x = pick (eqb x 0) 0 (suc (digits n (x / 2)))
-
-abbrev pub bits_of : ℕ → ℕ
-bits_of x = digits long_bits x
 
 -- a list of bytes
 abbrev pub Bytes : List ℕ → Type 0

@@ -1,20 +1,17 @@
 -- What the private functions promise each other. Nothing here says what a row is.
-use Rattle.std.specs.Prelude.{ℕ, ◌+◌, ◌-◌, ◌≤◌, ◌<◌, ◌≡◌, Bool, true, false, ◌||◌, List, [], ◌∷◌, ◌++◌, ◌⊎◌, eqb, length, take, drop, get_or}
+use Rattle.std.specs.Prelude.{ℕ, ◌+◌, ◌-◌, ◌≤◌, ◌<◌, ◌≡◌, Bool, true, false, ◌||◌, List, [], ◌∷◌, ◌++◌, ◌⊎◌, eqb, length, take, drop, get_or, Option, Some, None}
 use Rattle.std.proofs.lemmas.List.Edits.{sets}
 use Rattle.base.specs.Little.{little, long_bytes}
 use Rattle.base.specs.Number.{pick}
 use Rattle.rfc4180.specs.Csv.{Record, quote, comma, carriage_return, line_feed}
 use Rattle.rfc4180.specs.Read.{Got, got, bad, Row, row, malformed, values, inner, field_at}
-use Rattle.rowread.specs.declared.exact.Piece.{Piece}
-use Rattle.rowread.specs.declared.exact.Piece.TheVariants.{Value, Bad}
-use Rattle.rowread.specs.declared.exact.Scan.{Scan}
-use Rattle.rowread.specs.declared.exact.Scan.TheVariants.{Whole, Broken}
-use Rattle.rowread.specs.declared.line.Fast.{Fast}
-use Rattle.rowread.specs.declared.line.Fast.TheVariants.{Read, Not}
+use Rattle.rowread.specs.declared.Span.{Span}
 use Rattle.rowread.specs.declared.line.Found.{Found}
 use Rattle.rowread.specs.declared.line.Found.TheVariants.{Stop, Commas}
 use Rattle.rowread.specs.declared.unquote.Turn.{Turn}
+use Rattle.rowread.specs.declared.unquote.Turn.TheVariants.{On, Closed}
 use Rattle.rowread.specs.declared.unquote.ByMarks.{ByMarks}
+use Rattle.rowread.specs.declared.unquote.ByMarks.TheVariants.{Whole, Part}
 use Rattle.rowread.specs.Marks.{marks, is_quote, since}
 use Rattle.rowread.specs.Stored.{joined, ends_of, values_of}
 
@@ -30,10 +27,14 @@ searched_bytes = 24
 abbrev pub slack_of : Bool → ℕ
 slack_of ahead = pick ahead block_size 0
 
+-- something was read: the offset after it, and its size
+abbrev pub spanned : ℕ → ℕ → Option Span
+spanned next size = Some (record { next = next; size = size })
+
 -- the end of a value in n bytes, and its size
-abbrev pub piece_of : ℕ → Got → Piece
-piece_of n (got v r) = Value (n - length r) (length v)
-piece_of n bad = Bad
+abbrev pub piece_of : ℕ → Got → Option Span
+piece_of n (got v r) = spanned (n - length r) (length v)
+piece_of n bad = None
 
 abbrev pub value_of : Got → List ℕ
 value_of (got v r) = v
@@ -48,11 +49,11 @@ abbrev pub IsGot : Got → Type 0
 IsGot g = g ≡ got (value_of g) (rest_of g)
 
 -- the end in n bytes of a row whose values follow others of `from` bytes, and the size of all these values
-abbrev pub scan_from : ℕ → ℕ → Row → Scan
-scan_from n from (row vs r) = Whole (n - length r) (from + length (joined vs))
-scan_from n from malformed = Broken
+abbrev pub scan_from : ℕ → ℕ → Row → Option Span
+scan_from n from (row vs r) = spanned (n - length r) (from + length (joined vs))
+scan_from n from malformed = None
 
-unfoldable pub scan_of : ℕ → List ℕ → Scan
+unfoldable pub scan_of : ℕ → List ℕ → Option Span
 scan_of width t = scan_from (length t) 0 (values width t)
 
 abbrev pub IsRow : Row → Type 0
@@ -169,11 +170,11 @@ pub record Grid (t : List ℕ) (i p m : ℕ) : Type 0 where
   pub inside : i + long_bytes ≤ length t
   pub quotes : m ≡ little (since (p - i) (marks is_quote (take long_bytes (drop i t))))
 
--- the value goes on: some bytes of it, and the word that is searched next; or the quote at which it ends
-pub record Turned (t : List ℕ) (i p : ℕ) (r : Turn) : Type 0 where
-  pub few : r.copied ≤ long_bytes
-  pub ends : r.closed ≡ true → (inner (drop p t) ≡ got (take r.copied (drop p t)) (drop (r.p + 1) t)) × (p + r.copied ≤ r.p) × (r.p < length t)
-  pub on : r.closed ≡ false → (inner (drop p t) ≡ prefixed (take r.copied (drop p t)) (inner (drop r.p t))) × (p + r.copied ≤ r.p) × (r.p ≤ length t) × (i + p < r.i + r.p) × Grid t r.i r.p r.m
+-- the value goes on after some bytes of it, and another word is searched next; or it ends after them, at a quote
+abbrev pub Turned : List ℕ → ℕ → ℕ → Turn → Type 0
+Turned t i p (On copied next j m) =
+    (copied ≤ long_bytes) × (inner (drop p t) ≡ prefixed (take copied (drop p t)) (inner (drop next t))) × (p + copied ≤ next) × (next ≤ length t) × (i + p < j + next) × Grid t j next m
+Turned t i p (Closed copied q) = (copied ≤ long_bytes) × (inner (drop p t) ≡ got (take copied (drop p t)) (drop (q + 1) t)) × (p + copied ≤ q) × (q < length t)
 
 -- a part of the value was read, up to p, and written
 pub record Unquoting (b : ℕ) (write : Bool) (t : List ℕ) (from : ℕ) (out : List ℕ) (to : ℕ) (o : List ℕ) (p n : ℕ) : Type 0 where
@@ -185,15 +186,14 @@ pub record Unquoting (b : ℕ) (write : Bool) (t : List ℕ) (from : ℕ) (out :
   pub written : Written b write out to value o
 
 -- a value that was read from an offset on is inside t
-abbrev pub Inside : List ℕ → ℕ → Piece → Type 0
-Inside t from (Value next size) = (from + size ≤ next) × (next ≤ length t)
-Inside t from Bad = Unit {0}
+abbrev pub Inside : List ℕ → ℕ → Option Span → Type 0
+Inside t from (Some v) = (from + v.size ≤ v.next) × (v.next ≤ length t)
+Inside t from None = Unit {0}
 
 -- the value was read by marks: all of it, or a part
 abbrev pub ReadByMarks : Bool → List ℕ → ℕ → List ℕ → ℕ → List ℕ → ByMarks → Type 0
-ReadByMarks write t from out to o r =
-    (r.whole ≡ true → (Value r.next r.size ≡ piece_of (length t) (inner (drop from t))) × Filled block_size write out to (inner (drop from t)) o)
-    × (r.whole ≡ false → Unquoting block_size write t from out to o r.next (to + r.size))
+ReadByMarks write t from out to o (Whole v) = (Some v ≡ piece_of (length t) (inner (drop from t))) × Filled block_size write out to (inner (drop from t)) o
+ReadByMarks write t from out to o (Part v) = Unquoting block_size write t from out to o v.next (to + v.size)
 
 -- the values of a row from an offset on, with k values before it, were put into out after `to` bytes, and their ends into `ends`
 pub record Holds (t : List ℕ) (from to k width : ℕ) (out ends o s : List ℕ) (next size : ℕ) : Type 0 where
@@ -208,6 +208,6 @@ pub record Holds (t : List ℕ) (from to k width : ℕ) (out ends o s : List ℕ
   pub marks : s ≡ sets ends k (ends_of to values)
 
 -- a fast path: the row was read, or nothing was written
-abbrev pub Quickly : List ℕ → ℕ → List ℕ → List ℕ → List ℕ → List ℕ → Fast → Type 0
-Quickly t width out ends o s (Read next size) = Holds t 0 0 0 width out ends o s next size
-Quickly t width out ends o s Not = (o ≡ out) × (s ≡ ends)
+abbrev pub Quickly : List ℕ → ℕ → List ℕ → List ℕ → List ℕ → List ℕ → Option Span → Type 0
+Quickly t width out ends o s (Some r) = Holds t 0 0 0 width out ends o s r.next r.size
+Quickly t width out ends o s None = (o ≡ out) × (s ≡ ends)

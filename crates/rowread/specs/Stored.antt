@@ -6,7 +6,7 @@ use Rattle.rfc4180.specs.Csv.{max_row}
 use Rattle.rfc4180.specs.Read as Csv
 use Rattle.refusal.specs.declared.Refusal.TheVariants.{Small, Row}
 use Rattle.refusal.specs.declared.Refusal.{Refusal}
-use Rattle.rowread.specs.declared.Stored.{Stored}
+use Rattle.rowread.specs.declared.Span.{Span}
 
 -- ---- the row
 
@@ -39,12 +39,12 @@ ends_of from [] = []
 ends_of from (v ∷ vs) = (from + length v) ∷ ends_of (from + length v) vs
 
 -- the answer for a row that was read: the offset of the next row, and how many bytes the values have
-abbrev pub stored : ℕ → ℕ → Result (Option Stored) Refusal
+abbrev pub stored : ℕ → ℕ → Result (Option Span) Refusal
 stored next size = Ok (Some (record { next = next; size = size }))
 
 -- a row read within n bytes from an offset on: 14 if it is malformed; then 9 if the values joined, or their ends, don't fit; else
 -- the offset after the row, and how many bytes the values have
-abbrev pub found : ℕ → ℕ → ℕ → ℕ → Csv.Row → Result (Option Stored) Refusal
+abbrev pub found : ℕ → ℕ → ℕ → ℕ → Csv.Row → Result (Option Span) Refusal
 found offset n capacity slots Csv.malformed = Err Row
 found offset n capacity slots (Csv.row vs rest) =
     pick (leb (length (joined vs)) capacity)
@@ -52,14 +52,14 @@ found offset n capacity slots (Csv.row vs rest) =
     (Err Small)
 
 -- the answer: 14 past the table's end; no row at its end; else what is found
-unfoldable pub read_answer : List ℕ → ℕ → ℕ → ℕ → ℕ → Result (Option Stored) Refusal
+unfoldable pub read_answer : List ℕ → ℕ → ℕ → ℕ → ℕ → Result (Option Span) Refusal
 read_answer table width offset capacity slots =
     pick (leb offset (length table))
     (pick (eqb offset (length table)) (Ok None) (found offset (length (part_at table offset)) capacity slots (row_at table width offset)))
     (Err Row)
 
 -- a lent output after the call: if a row was read, `new` at its start and the rest unchanged; else all unchanged
-abbrev pub after : Result (Option Stored) Refusal → List ℕ → List ℕ → List ℕ
+abbrev pub after : Result (Option Span) Refusal → List ℕ → List ℕ → List ℕ
 after (Ok (Some s)) new out = written out 0 new
 after (Ok None) new out = out
 after (Err r) new out = out

@@ -1,13 +1,14 @@
 // The exact path: any row, in two passes of the same functions. The first (`write` is false) only reads, so that a refusal leaves the outputs
 // unchanged; the second writes the values of a row that is known to fit. A short row with quotes is read once, into a buffer, and copied to the outputs
 // once it is known to be a row.
-ghost use Rattle.std.specs.Prelude.{◌≡◌, ◌+◌, ◌-◌, ◌≤◌, length, drop};
+ghost use Rattle.std.specs.Prelude.{◌≡◌, ◌+◌, ◌-◌, ◌≤◌, ◌<◌, length, drop, MatchOption};
 ghost use Rattle.std.proofs.lemmas.List.Edits.{sets};
 ghost use Rattle.rfc4180.specs.Read.{plain_value, field_at, row_end, values};
 ghost use Rattle.rowread.specs.Stored.{values_of, joined, ends_of};
 ghost use Rattle.rowread.specs.Steps.{piece_of, scan_of, IsRow, slack_of, Filled, FieldRoom, RowRoom, RowWritten, Quickly};
 
-use crate::line::{BLOCK, Fast, copy_block, copy_part, copy_value};
+use crate::Span;
+use crate::line::{BLOCK, copy_block, copy_part, copy_value};
 use crate::marks::{delimiters_of, first, load};
 use crate::unquote::unquote;
 use base::number::LONG_BYTES;
@@ -25,32 +26,21 @@ const SHORT: usize = 1024;
 
 const BUFFER: usize = SHORT + BLOCK;
 
-// A value of size bytes; next is the offset after it.
-#[derive(Clone, Copy)]
-pub(crate) enum Piece {
-    Value { next: usize, size: usize },
-    Bad,
-}
-
-// A row whose values have size bytes; next is the offset after it.
-#[derive(Clone, Copy)]
-pub(crate) enum Scan {
-    Whole { next: usize, size: usize },
-    Broken,
-}
-
-// How many bytes the row end at an offset has: LF, or CR and LF; 0 if there is none.
-pub(crate) fn row_end(t: &[u8], i: usize) -> usize
-    ensures { result ≡ row_end (drop i t.now) }
+// How many bytes the row end at an offset has: LF, or CR and LF; None if there is none.
+pub(crate) fn row_end(t: &[u8], i: usize) -> Option<usize>
+    ensures { MatchOption result (row_end (drop i t.now) ≡ 0) (λ n. (n ≡ row_end (drop i t.now)) × (0 < n)) }
 {
     let b = get8(t, i);
     if b == LF {
-        return LF_SIZE;
+        return Some(LF_SIZE);
     }
     if b != CR {
-        return 0;
+        return None;
     }
-    if get8(t, i + 1) == LF { CRLF_SIZE } else { 0 }
+    if get8(t, i + 1) != LF {
+        return None;
+    }
+    Some(CRLF_SIZE)
 }
 
 // The end of the value without quotes at an offset.
@@ -58,25 +48,24 @@ fn text_end(t: &[u8], from: usize) -> usize
     requires { from ≤ length t.now }
     ensures { result ≡ from + length (plain_value (drop from t.now)) }
 {
-    let mut i = from;
-    while LONG_BYTES <= t.len() - i {
+    let words = (t.len() - from) / LONG_BYTES;
+    for k in 0..words {
+        let i = from + k * LONG_BYTES;
         let m = delimiters_of(load(t, i));
         if m != 0 {
             return i + first(m);
         }
-        i += LONG_BYTES;
     }
-    while i < t.len() {
+    for i in from + words * LONG_BYTES..t.len() {
         if !is_text(t[i]) {
             return i;
         }
-        i += 1;
     }
-    i
+    t.len()
 }
 
 // The value at an offset, unquoted; if `write`, it goes to out. If `ahead`, a block after it may be overwritten.
-fn value(t: &[u8], from: usize, out: &mut [u8], to: usize, write: bool, ahead: bool) -> Piece
+fn value(t: &[u8], from: usize, out: &mut [u8], to: usize, write: bool, ahead: bool) -> Option<Span>
     requires from_in_bounds { (from ≤ length t.now) × (to ≤ from) }
     requires field_room { FieldRoom (slack_of ahead) write t.now from out.old to }
     ensures { (result ≡ piece_of (length t.now) (field_at (drop from t.now))) × Filled (slack_of ahead) write out.old to (field_at (drop from t.now)) out.new }
@@ -93,7 +82,7 @@ fn value(t: &[u8], from: usize, out: &mut [u8], to: usize, write: bool, ahead: b
             copy_part(t, from, end, out, to);
         }
     }
-    Piece::Value { next: end, size }
+    Some(Span { next: end, size })
 }
 
 // The row of `width` values at the start of t; if `write`, the values go to out and their ends to ends. If `ahead`, a block after the values may be
@@ -105,38 +94,31 @@ pub(crate) fn row(
     ends: &mut [usize],
     write: bool,
     ahead: bool,
-) -> Scan
+) -> Option<Span>
     requires { RowRoom (slack_of ahead) write t.now width out.old ends.old }
     ensures { (result ≡ scan_of width t.now) × RowWritten (slack_of ahead) write t.now width out.old ends.old out.new ends.new }
 {
     let mut from: usize = 0;
     let mut to: usize = 0;
-    let mut k: usize = 0;
-    while k < width {
-        let Piece::Value { next, size } = value(t, from, out, to, write, ahead) else {
-            return Scan::Broken;
-        };
-        to += size;
+    for k in 0..width {
+        let v = value(t, from, out, to, write, ahead)?;
+        to += v.size;
         if write {
             ends[k] = to;
         }
-        k += 1;
-        if k == width {
-            let e = row_end(t, next);
-            if e == 0 {
-                return Scan::Broken;
-            }
-            return Scan::Whole {
-                next: next + e,
+        if k + 1 == width {
+            let e = row_end(t, v.next)?;
+            return Some(Span {
+                next: v.next + e,
                 size: to,
-            };
+            });
         }
-        if get8(t, next) != COMMA {
-            return Scan::Broken;
+        if get8(t, v.next) != COMMA {
+            return None;
         }
-        from = next + 1;
+        from = v.next + 1;
     }
-    Scan::Broken
+    None
 }
 
 // Writes the values of the row at the start of t, `size` bytes, and their ends. What a block may overwrite after them is saved before, and put back.
@@ -156,33 +138,26 @@ pub(crate) fn write_row(t: &[u8], width: usize, size: usize, out: &mut [u8], end
 
 // Reads the row of `width` values at the start of t, if these are at most ten, it has at most 1,024 bytes and a block fits after its values. They are
 // read into a buffer, and copied once they are known to be a row's; what the last block overwrites after them is saved before, and put back.
-pub(crate) fn short_row(t: &[u8], width: usize, out: &mut [u8], ends: &mut [usize]) -> Fast
+pub(crate) fn short_row(t: &[u8], width: usize, out: &mut [u8], ends: &mut [usize]) -> Option<Span>
     ensures { Quickly t.now width out.old ends.old out.new ends.new result }
 {
     if MAX_COLUMNS < width {
-        return Fast::Not;
+        return None;
     }
     if ends.len() < width {
-        return Fast::Not;
+        return None;
     }
     let s = part(t, 0, SHORT);
     let mut held: [u8; BUFFER] = [0; BUFFER];
     let mut marks: [usize; MAX_COLUMNS] = [0; MAX_COLUMNS];
-    let scan = row(s, width, &mut held, &mut marks, true, true);
-    let Scan::Whole { next, size } = scan else {
-        return Fast::Not;
-    };
-    if out.len() < size + BLOCK {
-        return Fast::Not;
+    let scan = row(s, width, &mut held, &mut marks, true, true)?;
+    if out.len() < scan.size + BLOCK {
+        return None;
     }
     let mut after: [u8; BLOCK] = [0; BLOCK];
-    copy_block(out, size, &mut after, 0);
-    copy_value(&held, 0, size, out, 0);
-    copy_block(&after, 0, out, size);
-    let mut k: usize = 0;
-    while k < width {
-        ends[k] = marks[k];
-        k += 1;
-    }
-    Fast::Read { next, size }
+    copy_block(out, scan.size, &mut after, 0);
+    copy_value(&held, 0, scan.size, out, 0);
+    copy_block(&after, 0, out, scan.size);
+    ends[0..width].copy_from_slice(&marks[0..width]);
+    Some(scan)
 }

@@ -16,15 +16,15 @@ ghost use Rattle.rowread.specs.Claims.{Claims};
 ghost use Rattle.std.specs.Prelude.{◌≡◌, ◌+◌, ◌<◌, length};
 ghost use Rattle.rowread.specs.Stored.{values_at, joined, ends_of, read_answer, after};
 
-use crate::exact::{Scan, row, write_row};
-use crate::line::{Fast, fast_row};
+use crate::exact::{row, write_row};
+use crate::line::fast_row;
 use base::slice::part;
 use refusal::Refusal;
 use rfc4180::MAX_ROW;
 
-// A row that was read: its values, joined, are in the first size bytes, and the next row starts at next.
+// What was read, a value or a row: its values have size bytes, and next is the offset after it.
 #[derive(Clone, Copy)]
-pub struct Stored {
+pub struct Span {
     pub next: usize,
     pub size: usize,
 }
@@ -36,7 +36,7 @@ pub fn read_row(
     offset: usize,
     out: &mut [u8],
     ends: &mut [usize],
-) -> Result<Option<Stored>, Refusal>
+) -> Result<Option<Span>, Refusal>
     ensures { (result ≡ read_answer table.now width offset (length out.old) (length ends.old)) × (out.new ≡ after result (joined (values_at table.now width offset)) out.old) × (ends.new ≡ after result (ends_of 0 (values_at table.now width offset)) ends.old) }
 {
     if table.len() < offset {
@@ -47,26 +47,26 @@ pub fn read_row(
     }
     let t = part(table, offset, MAX_ROW);
     let quick = fast_row(t, width, out, ends);
-    if let Fast::Read { next, size } = quick {
-        return Ok(Some(Stored {
-            next: offset + next,
-            size,
+    if let Some(read) = quick {
+        return Ok(Some(Span {
+            next: offset + read.next,
+            size: read.size,
         }));
     }
     let scan = row(t, width, out, ends, false, true);
-    let Scan::Whole { next, size } = scan else {
+    let Some(found) = scan else {
         return Err(Refusal::Row);
     };
-    if out.len() < size {
+    if out.len() < found.size {
         return Err(Refusal::Small);
     }
     if ends.len() < width {
         return Err(Refusal::Small);
     }
-    write_row(t, width, size, out, ends);
-    Ok(Some(Stored {
-        next: offset + next,
-        size,
+    write_row(t, width, found.size, out, ends);
+    Ok(Some(Span {
+        next: offset + found.next,
+        size: found.size,
     }))
 }
 

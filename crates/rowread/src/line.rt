@@ -6,6 +6,7 @@ ghost use Rattle.std.proofs.lemmas.List.Edits.{sets};
 ghost use Rattle.base.specs.Little.{long_bytes};
 ghost use Rattle.rowread.specs.Steps.{commas_in, text_in, cuts_in, marks_in, block_size, Ahead, WordSearched, LineFound, Quickly};
 
+use crate::Span;
 use crate::exact::{row_end, short_row};
 use crate::marks::{clear_first, delimiters_of, first, load};
 use base::number::LONG_BYTES;
@@ -13,13 +14,6 @@ use rfc4180::{COMMA, MAX_COLUMNS};
 
 // How many bytes are copied at once.
 pub(crate) const BLOCK: usize = 16;
-
-// What a path of one pass did: the values are written, or nothing is.
-#[derive(Clone, Copy)]
-pub(crate) enum Fast {
-    Read { next: usize, size: usize },
-    Not,
-}
 
 // What a search found: the offset of the first quote, CR or LF and how many commas are before it, or only commas.
 #[derive(Clone, Copy)]
@@ -54,42 +48,31 @@ fn search_word(t: &[u8], i: usize, commas: usize, marks: &mut [usize]) -> Found
 fn search_line(t: &[u8], marks: &mut [usize]) -> Found
     ensures { LineFound t.now marks.old marks.new result }
 {
-    let mut k: usize = 0;
-    let mut i: usize = 0;
-    while LONG_BYTES <= t.len() - i {
-        let found = search_word(t, i, k, marks);
-        let Found::Commas(n) = found else {
-            return found;
-        };
-        k = n;
-        i += LONG_BYTES;
+    let mut commas: usize = 0;
+    for k in 0..t.len() / LONG_BYTES {
+        match search_word(t, k * LONG_BYTES, commas, marks) {
+            Found::Commas(n) => commas = n,
+            stop => return stop,
+        }
     }
-    Found::Commas(k)
+    Found::Commas(commas)
 }
 
-// Copies the bytes of t from one offset to another to out; gives where they end there.
-pub(crate) fn copy_part(t: &[u8], from: usize, end: usize, out: &mut [u8], to: usize) -> usize
+// Copies the bytes of t from one offset to another to out.
+pub(crate) fn copy_part(t: &[u8], from: usize, end: usize, out: &mut [u8], to: usize)
     requires { (from ≤ end) × (end ≤ length t.now) × (to + (end - from) ≤ length out.old) }
-    ensures { (result ≡ to + (end - from)) × (out.new ≡ sets out.old to (take (end - from) (drop from t.now))) }
+    ensures { out.new ≡ sets out.old to (take (end - from) (drop from t.now)) }
 {
-    let mut i = from;
-    let mut n = to;
-    while i < end {
-        out[n] = t[i];
-        n += 1;
-        i += 1;
-    }
-    n
+    let until = to + (end - from);
+    out[to..until].copy_from_slice(&t[from..end]);
 }
 
-// Copies a block. The array in between is copied whole.
+// Copies a block.
 pub(crate) fn copy_block(t: &[u8], from: usize, out: &mut [u8], to: usize)
     requires { (from + block_size ≤ length t.now) × (to + block_size ≤ length out.old) }
     ensures { out.new ≡ sets out.old to (take block_size (drop from t.now)) }
 {
-    let mut b: [u8; BLOCK] = [0; BLOCK];
-    copy_part(t, from, from + BLOCK, &mut b, 0);
-    copy_part(&b, 0, BLOCK, out, to);
+    copy_part(t, from, from + BLOCK, out, to);
 }
 
 // Copies n bytes by blocks; up to a block after them is overwritten too.
@@ -97,10 +80,8 @@ pub(crate) fn copy_value(t: &[u8], from: usize, n: usize, out: &mut [u8], to: us
     requires { (from + n + block_size ≤ length t.now) × (to + n + block_size ≤ length out.old) }
     ensures { Ahead block_size out.old to (take n (drop from t.now)) out.new }
 {
-    let mut i: usize = 0;
-    while i < n {
-        copy_block(t, from + i, out, to + i);
-        i += BLOCK;
+    for k in 0..n.div_ceil(BLOCK) {
+        copy_block(t, from + k * BLOCK, out, to + k * BLOCK);
     }
 }
 
@@ -114,14 +95,12 @@ fn copy_line(t: &[u8], e: usize, n: usize, marks: &[usize], out: &mut [u8], ends
     copy_block(out, e - n, &mut saved, 0);
     let mut from: usize = 0;
     let mut to: usize = 0;
-    let mut k: usize = 0;
-    while k < n {
+    for k in 0..n {
         let end = marks[k];
         copy_value(t, from, end - to, out, to);
         ends[k] = end;
         from = from + (end - to) + 1;
         to = end;
-        k += 1;
     }
     copy_value(t, from, e - from, out, to);
     ends[n] = e - n;
@@ -130,37 +109,36 @@ fn copy_line(t: &[u8], e: usize, n: usize, marks: &[usize], out: &mut [u8], ends
 
 // Reads the row of `width` values at the start of t, if it has no quotes, and if a block fits after it and after its values. Where a quote comes first, or
 // a lone CR, `short_row` is asked.
-pub(crate) fn fast_row(t: &[u8], width: usize, out: &mut [u8], ends: &mut [usize]) -> Fast
+pub(crate) fn fast_row(t: &[u8], width: usize, out: &mut [u8], ends: &mut [usize]) -> Option<Span>
     ensures { Quickly t.now width out.old ends.old out.new ends.new result }
 {
     let mut marks: [usize; MAX_COLUMNS] = [0; MAX_COLUMNS];
     let found = search_line(t, &mut marks);
     let Found::Stop { end, commas } = found else {
-        return Fast::Not;
+        return None;
     };
-    let e = row_end(t, end);
-    if e == 0 {
+    let Some(e) = row_end(t, end) else {
         return short_row(t, width, out, ends);
-    }
+    };
     if commas + 1 != width {
-        return Fast::Not;
+        return None;
     }
     if MAX_COLUMNS < width {
-        return Fast::Not;
+        return None;
     }
     if ends.len() < width {
-        return Fast::Not;
+        return None;
     }
     if t.len() - end < BLOCK {
-        return Fast::Not;
+        return None;
     }
     let size = end - commas;
     if out.len() < size + BLOCK {
-        return Fast::Not;
+        return None;
     }
     copy_line(t, end, commas, &marks, out, ends);
-    Fast::Read {
+    Some(Span {
         next: end + e,
         size,
-    }
+    })
 }

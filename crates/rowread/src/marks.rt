@@ -2,7 +2,7 @@
 // bytes are tested at once, in a 64-bit number.
 ghost use Rattle.std.specs.Prelude.{◌≡◌, ◌+◌, ◌<◌, ◌≤◌, length, take, drop};
 ghost use Rattle.base.specs.Little.{little, long_bytes};
-ghost use Rattle.rowread.specs.Marks.{Bytes, is_quote, is_delimiter, HasMarks, MarksOf, FirstOf, ClearedOf, bits_of};
+ghost use Rattle.rowread.specs.Marks.{Bytes, is_quote, is_delimiter, HasMarks, MarksOf, FirstOf, ClearedOf};
 
 use base::number::{BYTE_BITS, bytes_to_u64};
 use rfc4180::{COMMA, CR, LF, QUOTE};
@@ -58,25 +58,12 @@ pub(crate) fn delimiters_of(w: u64) -> u64
     !((((low ^ QUOTES) + LOW_BITS) & (((low ^ COMMAS) + LOW_BITS) & cr_or_lf)) | w) & HIGH_BITS
 }
 
-// How many binary digits x has. LLVM makes one instruction of the loop, as long as it is a function of its own.
-fn bits(x: u64) -> usize
-    ensures { result ≡ bits_of x }
-{
-    let mut y = x;
-    let mut n: usize = 0;
-    while y != 0 {
-        y = y >> 1;
-        n += 1;
-    }
-    n
-}
-
 // The index of the first mark.
 pub(crate) fn first(m: u64) -> usize
     requires { HasMarks m × (0 < m) }
     ensures { FirstOf m result }
 {
-    bits(m ^ (m - 1)) / BYTE_BITS - 1
+    m.trailing_zeros() as usize / BYTE_BITS
 }
 
 // The marks without the first.

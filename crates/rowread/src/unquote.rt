@@ -4,7 +4,7 @@ ghost use Rattle.std.specs.Prelude.{◌≡◌, ◌+◌, ◌-◌, ◌≤◌, ◌<
 ghost use Rattle.rfc4180.specs.Read.{inner};
 ghost use Rattle.rowread.specs.Steps.{piece_of, block_size, searched_bytes, Grid, Turned, Filled, Room, Inside, ReadByMarks, slack_of};
 
-use crate::exact::Piece;
+use crate::Span;
 use crate::line::{BLOCK, copy_block};
 use crate::marks::{clear_first, first, load, quotes_of};
 use base::number::LONG_BYTES;
@@ -14,23 +14,28 @@ use rfc4180::QUOTE;
 // How many bytes a turn by marks may read.
 const SEARCHED: usize = LONG_BYTES + BLOCK;
 
-// What a turn gives: how many bytes are copied, and either the offset that follows, the word that is searched next and its marks, or the offset
-// of the quote that closes the value.
+// What a turn gives: how many bytes are copied, and what follows.
 #[derive(Clone, Copy)]
-pub(crate) struct Turn {
-    pub(crate) copied: usize,
-    pub(crate) p: usize,
-    pub(crate) i: usize,
-    pub(crate) m: u64,
-    pub(crate) closed: bool,
+pub(crate) enum Turn {
+    // The value goes on at p; the word at i is searched next, which has the marks m.
+    On {
+        copied: usize,
+        p: usize,
+        i: usize,
+        m: u64,
+    },
+    // The quote at p closes the value.
+    Closed {
+        copied: usize,
+        p: usize,
+    },
 }
 
-// A value that was read by marks, whole or in part: the offset that follows, and how many bytes it has.
+// A value that was read by marks, whole or in part.
 #[derive(Clone, Copy)]
-pub(crate) struct ByMarks {
-    pub(crate) next: usize,
-    pub(crate) size: usize,
-    pub(crate) whole: bool,
+pub(crate) enum ByMarks {
+    Whole(Span),
+    Part(Span),
 }
 
 // A turn from p on; the word at i has the marks m.
@@ -41,41 +46,35 @@ fn search_on(t: &[u8], i: usize, p: usize, m: u64) -> Turn
     let following = i + LONG_BYTES;
     if m == 0 {
         let marks = quotes_of(load(t, following));
-        return Turn {
+        return Turn::On {
             copied: following - p,
             p: following,
             i: following,
             m: marks,
-            closed: false,
         };
     }
     let q = i + first(m);
     if t[q + 1] != QUOTE {
-        return Turn {
+        return Turn::Closed {
             copied: q - p,
             p: q,
-            i,
-            m,
-            closed: true,
         };
     }
     if q + 1 < following {
         let marks = clear_first(m);
-        return Turn {
+        return Turn::On {
             copied: q + 1 - p,
             p: q + 2,
             i,
             m: clear_first(marks),
-            closed: false,
         };
     }
     let marks = quotes_of(load(t, following));
-    Turn {
+    Turn::On {
         copied: q + 1 - p,
         p: q + 2,
         i: following,
         m: clear_first(marks),
-        closed: false,
     }
 }
 
@@ -94,27 +93,34 @@ fn unquote_by_marks(t: &[u8], from: usize, out: &mut [u8], to: usize, write: boo
         if write {
             copy_block(t, p, out, n);
         }
-        n += x.copied;
-        p = x.p;
-        if x.closed {
-            return ByMarks {
-                next: p + 1,
-                size: n - to,
-                whole: true,
-            };
+        match x {
+            Turn::On {
+                copied,
+                p: following,
+                i: word,
+                m: marks,
+            } => {
+                n += copied;
+                p = following;
+                i = word;
+                m = marks;
+            }
+            Turn::Closed { copied, p: quote } => {
+                return ByMarks::Whole(Span {
+                    next: quote + 1,
+                    size: n + copied - to,
+                });
+            }
         }
-        i = x.i;
-        m = x.m;
     }
-    ByMarks {
+    ByMarks::Part(Span {
         next: p,
         size: n - to,
-        whole: false,
-    }
+    })
 }
 
 // Unquotes what is left of a value byte by byte; if `write`, to out.
-fn unquote_bytes(t: &[u8], from: usize, out: &mut [u8], to: usize, write: bool) -> Piece
+fn unquote_bytes(t: &[u8], from: usize, out: &mut [u8], to: usize, write: bool) -> Option<Span>
     requires from_in_bounds { (from ≤ length t.now) × (to ≤ from) }
     requires room { Room 0 write t.now from out.old to }
     ensures { (result ≡ piece_of (length t.now) (inner (drop from t.now))) × Filled 0 write out.old to (inner (drop from t.now)) out.new × Inside t.now from result }
@@ -126,10 +132,10 @@ fn unquote_bytes(t: &[u8], from: usize, out: &mut [u8], to: usize, write: bool) 
         p += 1;
         if byte == QUOTE {
             if get8(t, p) != QUOTE {
-                return Piece::Value {
+                return Some(Span {
                     next: p,
                     size: n - to,
-                };
+                });
             }
             p += 1;
         }
@@ -138,7 +144,7 @@ fn unquote_bytes(t: &[u8], from: usize, out: &mut [u8], to: usize, write: bool) 
         }
         n += 1;
     }
-    Piece::Bad
+    None
 }
 
 // Unquotes what follows an opening quote; if `write`, to out. If `ahead`, a block after the value may be overwritten.
@@ -149,7 +155,7 @@ pub(crate) fn unquote(
     to: usize,
     write: bool,
     ahead: bool,
-) -> Piece
+) -> Option<Span>
     requires from_in_bounds { (from ≤ length t.now) × (to ≤ from) }
     requires room { Room (slack_of ahead) write t.now from out.old to }
     ensures { (result ≡ piece_of (length t.now) (inner (drop from t.now))) × Filled (slack_of ahead) write out.old to (inner (drop from t.now)) out.new }
@@ -160,19 +166,14 @@ pub(crate) fn unquote(
     if t.len() - from < SEARCHED {
         return unquote_bytes(t, from, out, to, write);
     }
-    let x = unquote_by_marks(t, from, out, to, write);
-    if x.whole {
-        return Piece::Value {
-            next: x.next,
-            size: x.size,
-        };
-    }
-    let rest = unquote_bytes(t, x.next, out, to + x.size, write);
-    let Piece::Value { next, size } = rest else {
-        return Piece::Bad;
-    };
-    Piece::Value {
-        next,
-        size: x.size + size,
+    match unquote_by_marks(t, from, out, to, write) {
+        ByMarks::Whole(v) => Some(v),
+        ByMarks::Part(read) => {
+            let rest = unquote_bytes(t, read.next, out, to + read.size, write)?;
+            Some(Span {
+                next: rest.next,
+                size: read.size + rest.size,
+            })
+        }
     }
 }

@@ -6,6 +6,7 @@ use mathlib.Core.List.{List, [], ◌∷◌}
 use Prim.Native.Nat.{ℕ, suc, ◌+◌, ◌-◌, ◌<◌, ◌≤◌}
 use native.Mathlib.Omega.{arith}
 use lib.IntN.{ℤ}
+use Rattle.std.proofs.Common.{Some, None}
 use Rattle.base.specs.Number.{pick}
 use Rattle.record.specs.declared.Source.{Source}
 use Rattle.base.specs.Lists.{many, each}
@@ -20,7 +21,7 @@ ended : ℤ → SourceTimes → List Source → ℤ
 ended now t [] = updated_of t
 ended now t (s ∷ ss) = ended now (observed now t s) ss
 
-ended_some : (now : ℤ) (c : Bool) (o : ℤ) (ss : List Source) → ended now (record { some = true; complete = c; oldest = o }) ss ≡ pick (c && each (known now) ss) (oldest o ss) unknown
+ended_some : (now : ℤ) (c : Bool) (o : ℤ) (ss : List Source) → ended now (record { complete = c; oldest = Some o }) ss ≡ pick (c && each (known now) ss) (oldest o ss) unknown
 unfolding ended each oldest
 ended_some now c o [] = ap (λ t. pick t o unknown) (sym (and-true c))
 ended_some now c o (s ∷ ss) =

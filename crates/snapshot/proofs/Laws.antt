@@ -19,7 +19,7 @@ use Rattle.header.proofs.Laws.{span-count, passed, no-refusal}
 use Rattle.bank.specs.Bank.{named}
 use Rattle.bank.proofs.Sequence.{named-passes}
 use Rattle.snapshot.specs.declared.freshness.Days.{Days}
-use Rattle.snapshot.specs.Source.{source_in, refuse, then_source, source_answer, sources_in, refuse_all, then_sources, sources_answer}
+use Rattle.snapshot.specs.Source.{source_in, then_source, source_answer, sources_in, then_sources, sources_answer}
 use Rattle.snapshot.specs.Freshness.{named_if, days_of, is_day, freshness, then_fresh, fresh_answer}
 use Rattle.std.specs.Prelude.{Ok, Err}
 
@@ -40,26 +40,26 @@ module _ (region : List ℕ) (n : ℕ) where
   unfit e = rw e
 
   module _ (i : ℕ) where
-    pub source-done : (b : Bank) → named region n ≡ Ok b → ltb i b.count ≡ true → record { outcome = (Ok tt); source = source_in region b i } ≡ source_answer region n i
+    pub source-done : (b : Bank) → named region n ≡ Ok b → ltb i b.count ≡ true → Ok (source_in region b i) ≡ source_answer region n i
     unfolding source_answer
     source-done b h e = sym (ap (then_source region i) h ∙ rw e)
 
-    pub source-past : (b : Bank) → named region n ≡ Ok b → ltb i b.count ≡ false → refuse NoSuchSource ≡ source_answer region n i
+    pub source-past : (b : Bank) → named region n ≡ Ok b → ltb i b.count ≡ false → Err NoSuchSource ≡ source_answer region n i
     unfolding source_answer
     source-past b h e = sym (ap (then_source region i) h ∙ rw e)
 
-    pub source-bad : (r : Refusal) → named region n ≡ Err r → refuse r ≡ source_answer region n i
+    pub source-bad : (r : Refusal) → named region n ≡ Err r → Err r ≡ source_answer region n i
     unfolding source_answer
     source-bad r h = sym (ap (then_source region i) h)
 
   pub sources-done : (b : Bank) (l : List ℕ) (t : List Source) → named region n ≡ Ok b → l ≡ bank_of region b.number
-      → t ≡ records_of b.version l b.count ++ fill no_source (3 - b.count) → record { outcome = (Ok tt); sources = t } ≡ sources_answer region n
+      → t ≡ records_of b.version l b.count ++ fill no_source (3 - b.count) → Ok t ≡ sources_answer region n
   unfolding sources_answer sources_in
   sources-done b l t h e f =
-      ap (λ (x : List Source). record { outcome = (Ok tt); sources = x }) (f ∙ ap (λ (x : List ℕ). records_of b.version x b.count ++ fill no_source (3 - b.count)) e)
+      ap Ok (f ∙ ap (λ (x : List ℕ). records_of b.version x b.count ++ fill no_source (3 - b.count)) e)
       ∙ sym (ap (then_sources region) h)
 
-  pub sources-bad : (r : Refusal) → named region n ≡ Err r → refuse_all r ≡ sources_answer region n
+  pub sources-bad : (r : Refusal) → named region n ≡ Err r → Err r ≡ sources_answer region n
   unfolding sources_answer
   sources-bad r h = sym (ap (then_sources region) h)
 

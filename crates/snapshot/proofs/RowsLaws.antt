@@ -33,25 +33,24 @@ unfolding numbers_of
 its-number region n b e = ap (λ (x : Bank). x.number) (passed n (bank_of region n) b (named-passes region n b e).header).numbers
 
 -- a source that was asked for and is there
-record There (region : List ℕ) (n i : ℕ) : Type 0 where
+record There (region : List ℕ) (n i : ℕ) (s : Source) : Type 0 where
   bank : Bank
   is-named : named region n ≡ Ok bank
   below : ltb i bank.count ≡ true
-  is-source : (source_answer region n i).source ≡ source_in region bank i
+  is-source : s ≡ source_in region bank i
 
 module _ (region : List ℕ) (n i : ℕ) where
-  there-by : (v : Result Bank Refusal) → named region n ≡ v → (then_source region i v).outcome ≡ Ok tt → There region n i
-  unfolding source_answer
-  there-by (Err r) e q = absurd (let z : ◌≡◌ {A = ℕ} 0 1 = cc in omega arith)
-  there-by (Ok b) e q = go (ltb i b.count) refl q
+  there-by : (s : Source) (v : Result Bank Refusal) → named region n ≡ v → then_source region i v ≡ Ok s → There region n i s
+  there-by s (Err r) e q = absurd (let z : ◌≡◌ {A = ℕ} 0 1 = cc in omega arith)
+  there-by s (Ok b) e q = go (ltb i b.count) refl q
     where
-      go : (s : Bool) → ltb i b.count ≡ s → (then_source region i (Ok b)).outcome ≡ Ok tt → There region n i
-      go true h j = record { bank = b; is-named = e; below = h; is-source = ap (λ (x : Result Bank Refusal). (then_source region i x).source) e ∙ rw h }
+      go : (w : Bool) → ltb i b.count ≡ w → pick w (Ok (source_in region b i)) (Err NoSuchSource) ≡ Ok s → There region n i s
+      go true h j = record { bank = b; is-named = e; below = h; is-source = cc }
       go false h j = absurd (let z : ◌≡◌ {A = ℕ} 0 1 = cc in omega arith)
 
-  there : (source_answer region n i).outcome ≡ Ok tt → There region n i
+  there : (s : Source) → source_answer region n i ≡ Ok s → There region n i s
   unfolding source_answer
-  there q = there-by (named region n) refl q
+  there s q = there-by s (named region n) refl q
 
   module _ (t : ℕ) where
     pub no-region : leb t last_table ≡ false → eqb (length region) region_size ≡ false → Err Region ≡ block_answer region n i t
@@ -82,21 +81,21 @@ module _ (region : List ℕ) (n i t : ℕ) (h : leb t last_table ≡ true) where
   unfolding named_if
   if-named v e = rw h e
 
-  pub is_block : (source_answer region n i).outcome ≡ Ok tt → Ok (get_or (source_answer region n i).source.tables t no_block) ≡ block_answer region n i t
+  pub is_block : (s : Source) → source_answer region n i ≡ Ok s → Ok (get_or s.tables t no_block) ≡ block_answer region n i t
   unfolding block_answer
-  is_block q =
-      let s = there region n i q in
-      ap (λ (x : Source). Ok (get_or x.tables t no_block)) s.is-source ∙ sym (ap (then_block region i t) (if-named (Ok s.bank) s.is-named) ∙ rw s.below)
+  is_block s q =
+      let x = there region n i s q in
+      ap (λ (y : Source). Ok (get_or y.tables t no_block)) x.is-source ∙ sym (ap (then_block region i t) (if-named (Ok x.bank) x.is-named) ∙ rw x.below)
 
-  pub refused : (r : Refusal) → (source_answer region n i).outcome ≡ Err r → Err r ≡ block_answer region n i t
+  pub refused : (r : Refusal) → source_answer region n i ≡ Err r → Err r ≡ block_answer region n i t
   unfolding source_answer block_answer
   refused r q = by (named region n) refl q
     where
-      by : (v : Result Bank Refusal) → named region n ≡ v → (then_source region i v).outcome ≡ Err r → Err r ≡ then_block region i t (named_if (leb t last_table) region n)
+      by : (v : Result Bank Refusal) → named region n ≡ v → then_source region i v ≡ Err r → Err r ≡ then_block region i t (named_if (leb t last_table) region n)
       by (Err x) e j = let k : x ≡ r = cc in sym (ap (then_block region i t) (if-named (Err x) e) ∙ ap Err k)
       by (Ok b) e j = go (ltb i b.count) refl j
         where
-          go : (s : Bool) → ltb i b.count ≡ s → (then_source region i (Ok b)).outcome ≡ Err r → Err r ≡ then_block region i t (named_if (leb t last_table) region n)
+          go : (s : Bool) → ltb i b.count ≡ s → pick s (Ok (source_in region b i)) (Err NoSuchSource) ≡ Err r → Err r ≡ then_block region i t (named_if (leb t last_table) region n)
           go true l m = absurd (let z : ◌≡◌ {A = ℕ} 0 1 = cc in omega arith)
           go false l m = let k : NoSuchSource ≡ r = cc in sym (ap (then_block region i t) (if-named (Ok b) e) ∙ rw l (ap Err k))
 

@@ -9,7 +9,7 @@ use Rattle.row.specs.Columns.{columns_of, column_count, names_line}
 use Rattle.rowread.specs.Claims.{AllFit, table_of}
 use Rattle.snapshot.specs.Rows.{table_in, bank_row_answer, values_in}
 use Rattle.base.specs.Table.{last_table}
-use Rattle.rowread.specs.Stored.{stored}
+use Rattle.rowread.specs.Stored.{stored, stored}
 
 abbrev Text : Type 0
 Text = List ℕ

@@ -12,7 +12,7 @@ use Rattle.row.specs.Columns.{column_count}
 use Rattle.rowread.specs.Stored.{values_at, read_answer}
 use Rattle.base.specs.Table.{last_table}
 use Rattle.refusal.specs.declared.Refusal.{Refusal}
-use Rattle.rowread.specs.declared.Stored.{Stored}
+use Rattle.rowread.specs.declared.Span.{Span}
 
 -- the bytes of a block of bank n: its offset counts from the data, which follow the header sector
 unfoldable pub bytes_of : List ℕ → ℕ → Block → List ℕ
@@ -31,13 +31,13 @@ unfoldable pub block_answer : List ℕ → ℕ → ℕ → ℕ → Result Block 
 block_answer region n i t = then_block region i t (named_if (leb t last_table) region n)
 
 -- 6 for a source at or past the count; then the answer of the reader: 14, 9, no row at the table's end, or the row
-abbrev pub then_row : List ℕ → ℕ → ℕ → ℕ → ℕ → ℕ → Result Bank Refusal → Result (Option Stored) Refusal
+abbrev pub then_row : List ℕ → ℕ → ℕ → ℕ → ℕ → ℕ → Result Bank Refusal → Result (Option Span) Refusal
 then_row region i t offset capacity slots (Ok b) =
     pick (ltb i b.count) (read_answer (table_in region b i t) (column_count t) offset capacity slots) (Err NoSuchSource)
 then_row region i t offset capacity slots (Err r) = Err r
 
 -- 1, 2 (bank and table), 3 to 6, 6 at or past the count, 14, 9
-unfoldable pub bank_row_answer : List ℕ → ℕ → ℕ → ℕ → ℕ → ℕ → ℕ → Result (Option Stored) Refusal
+unfoldable pub bank_row_answer : List ℕ → ℕ → ℕ → ℕ → ℕ → ℕ → ℕ → Result (Option Span) Refusal
 bank_row_answer region n i t offset capacity slots = then_row region i t offset capacity slots (named_if (leb t last_table) region n)
 
 -- the values of the row at an offset; the outputs get them only if the answer is `Stored`

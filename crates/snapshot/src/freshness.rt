@@ -36,12 +36,11 @@ pub struct Freshness {
     pub updated: i64,
 }
 
-// Of the sources used so far: whether there is one, whether each has a known time, and the oldest time.
+// Of the sources used so far: whether each has a known time, and the oldest time.
 #[derive(Clone, Copy)]
 struct SourceTimes {
-    some: bool,
     complete: bool,
-    oldest: i64,
+    oldest: Option<i64>,
 }
 
 fn has_day(start: u32, end: u32, date: u32) -> bool
@@ -98,22 +97,22 @@ fn observed(now: i64, t: SourceTimes, s: Source) -> SourceTimes
     ensures { result ≡ Steps.observed now t s }
 {
     let u = s.updated;
-    let complete = t.complete & known(now, u);
-    let oldest = if t.some { older(t.oldest, u) } else { u };
+    let oldest = match t.oldest {
+        Some(o) => older(o, u),
+        None => u,
+    };
     SourceTimes {
-        some: true,
-        complete,
-        oldest,
+        complete: t.complete & known(now, u),
+        oldest: Some(oldest),
     }
 }
 
 fn updated_of(t: SourceTimes) -> i64
     ensures { result ≡ Steps.updated_of t }
 {
-    if t.some & t.complete {
-        t.oldest
-    } else {
-        i64::MIN
+    match t.oldest {
+        Some(oldest) if t.complete => oldest,
+        _ => i64::MIN,
     }
 }
 
@@ -143,19 +142,15 @@ fn updated_in(l: &[u8], version: u32, n: usize, days: Days, at: i64) -> i64
     ensures { result ≡ Fresh.updated_at at (Fresh.used (Fresh.days_of days) (records_of version l.now n)) }
 {
     let size = source_size(version);
-    let times = SourceTimes {
-        some: false,
-        complete: true,
-        oldest: 0,
+    let mut x = Seen {
+        times: SourceTimes {
+            complete: true,
+            oldest: None,
+        },
+        days,
     };
-    let mut x = Seen { times, days };
-    let mut offset = RECORDS_OFFSET;
-    let mut i = 0;
-    while i < n {
-        let s = record_at(l, version, offset);
-        x = after_source(at, x, s);
-        offset += size;
-        i += 1;
+    for i in 0..n {
+        x = after_source(at, x, record_at(l, version, RECORDS_OFFSET + i * size));
     }
     updated_of(x.times)
 }
@@ -190,12 +185,7 @@ pub fn fresh(region: &[u8], number: u32, days: Days, at: i64) -> Result<Freshnes
     ensures { result ≡ Fresh.fresh_answer region.now number days at }
 {
     let fits = are_days(days);
-    let h = header_if(fits, region, number);
-    match h {
-        Ok(b) => {
-            let f = fresh_in(region, b, days, at);
-            Ok(f)
-        }
-        Err(r) => Err(r),
-    }
+    let b = header_if(fits, region, number)?;
+    let f = fresh_in(region, b, days, at);
+    Ok(f)
 }

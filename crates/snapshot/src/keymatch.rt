@@ -28,12 +28,7 @@ pub fn same_key(
     ensures { result ≡ Keys.key_match_answer region.now number identity.now texts.now lengths.now }
 {
     let fit = picks_fit(texts, lengths);
-    let h = header_if(fit, region, number);
-    match h {
-        Ok(b) => {
-            let stored = key_in(region, b);
-            key::same_key(stored, identity, texts, lengths)
-        }
-        Err(r) => Err(r),
-    }
+    let b = header_if(fit, region, number)?;
+    let stored = key_in(region, b);
+    key::same_key(stored, identity, texts, lengths)
 }

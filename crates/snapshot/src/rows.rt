@@ -12,7 +12,7 @@ use record::{Block, Source};
 use refusal::Refusal;
 use region::{REGION_SIZE, SECTOR_SIZE, bank_of};
 use row::column_count;
-use rowread::{Stored, read_row};
+use rowread::{Span, read_row};
 
 // The block of a table.
 fn block_of(s: Source, table: u32) -> Block
@@ -43,16 +43,8 @@ pub fn table_block(region: &[u8], number: u32, source: u32, table: u32) -> Resul
         }
         return Err(Refusal::Argument);
     }
-    let a = crate::source::source(region, number, source);
-    let o = a.outcome;
-    match o {
-        Ok(()) => {
-            let s = a.source;
-            let b = block_of(s, table);
-            Ok(b)
-        }
-        Err(r) => Err(r),
-    }
+    let s = crate::source::source(region, number, source)?;
+    Ok(block_of(s, table))
 }
 
 // Reads the row at an offset of a table of a bank's source: its values, joined, to out, and where each ends to ends.
@@ -64,18 +56,13 @@ pub fn bank_row(
     offset: usize,
     out: &mut [u8],
     ends: &mut [usize],
-) -> Result<Option<Stored>, Refusal>
+) -> Result<Option<Span>, Refusal>
     ensures { (result ≡ bank_row_answer region.now number source table offset (length out.old) (length ends.old)) × (out.new ≡ after result (joined (values_in region.now number source table offset)) out.old) × (ends.new ≡ after result (ends_of 0 (values_in region.now number source table offset)) ends.old) }
 {
-    let a = table_block(region, number, source, table);
-    match a {
-        Ok(b) => {
-            let stored = bytes_of(region, number, b);
-            let width = column_count(table);
-            read_row(stored, width, offset, out, ends)
-        }
-        Err(r) => Err(r),
-    }
+    let b = table_block(region, number, source, table)?;
+    let stored = bytes_of(region, number, b);
+    let width = column_count(table);
+    read_row(stored, width, offset, out, ends)
 }
 
 // What holds of the rows of a bank. The function does nothing: its contract is what is proved of the definitions

@@ -11,30 +11,6 @@ use record::{Source, no_source, source_size};
 use refusal::Refusal;
 use region::bank_of;
 
-// A source; zeros on a refusal.
-#[derive(Clone, Copy)]
-pub struct SourceAnswer {
-    pub outcome: Result<(), Refusal>,
-    pub source: Source,
-}
-
-// The sources below the count, and zeros after them; only zeros on a refusal.
-#[derive(Clone, Copy)]
-pub struct Records {
-    pub outcome: Result<(), Refusal>,
-    pub sources: [Source; SOURCES],
-}
-
-fn refuse(r: Refusal) -> SourceAnswer
-    ensures { result ≡ Sources.refuse r }
-{
-    let source = no_source();
-    SourceAnswer {
-        outcome: Err(r),
-        source,
-    }
-}
-
 fn source_in(region: &[u8], b: Bank, i: u32) -> Source
     ensures { result ≡ Sources.source_in region.now b i }
 {
@@ -44,34 +20,14 @@ fn source_in(region: &[u8], b: Bank, i: u32) -> Source
 }
 
 // The source at an index.
-pub fn source(region: &[u8], number: u32, i: u32) -> SourceAnswer
+pub fn source(region: &[u8], number: u32, i: u32) -> Result<Source, Refusal>
     ensures { result ≡ Sources.source_answer region.now number i }
 {
-    let h = header(region, number);
-    match h {
-        Ok(b) => {
-            if i < b.count {
-                let source = source_in(region, b, i);
-                return SourceAnswer {
-                    outcome: Ok(()),
-                    source,
-                };
-            }
-            refuse(Refusal::Source)
-        }
-        Err(r) => refuse(r),
+    let b = header(region, number)?;
+    if i < b.count {
+        return Ok(source_in(region, b, i));
     }
-}
-
-fn refuse_all(r: Refusal) -> Records
-    ensures { result ≡ Sources.refuse_all r }
-{
-    let z = no_source();
-    let sources = [z; SOURCES];
-    Records {
-        outcome: Err(r),
-        sources,
-    }
+    Err(Refusal::Source)
 }
 
 // A bank's first n records, and zeros after them.
@@ -80,31 +36,18 @@ fn records_at(l: &[u8], version: u32, n: usize) -> [Source; SOURCES]
     ensures { result ≡ records_of version l.now n ++ fill no_source (max_sources - n) }
 {
     let size = source_size(version);
-    let z = no_source();
-    let mut t = [z; SOURCES];
-    let mut i = 0;
-    while i < n {
-        let s = record_at(l, version, RECORDS_OFFSET + i * size);
-        t[i] = s;
-        i += 1;
+    let mut t = [no_source(); SOURCES];
+    for i in 0..n {
+        t[i] = record_at(l, version, RECORDS_OFFSET + i * size);
     }
     t
 }
 
-// All sources of a bank.
-pub fn sources(region: &[u8], number: u32) -> Records
+// All sources of a bank: those below its count, and zeros after them.
+pub fn sources(region: &[u8], number: u32) -> Result<[Source; SOURCES], Refusal>
     ensures { result ≡ Sources.sources_answer region.now number }
 {
-    let h = header(region, number);
-    match h {
-        Ok(b) => {
-            let l = bank_of(region, b.number);
-            let sources = records_at(l, b.version, b.count as usize);
-            Records {
-                outcome: Ok(()),
-                sources,
-            }
-        }
-        Err(r) => refuse_all(r),
-    }
+    let b = header(region, number)?;
+    let l = bank_of(region, b.number);
+    Ok(records_at(l, b.version, b.count as usize))
 }

@@ -1,7 +1,7 @@
 -- A filter of another size is refused and unchanged; else the four positions of the id's CRC are read and set (`insert-is`, `insert-left`).
 use Rattle.std.proofs.Common.{true, false}
 use Rattle.bloom.proofs.insert.Goals as goal
-use Rattle.std.proofs.Common.{sym, ◌∙◌}
+use Rattle.std.proofs.Common.{refl, sym, ◌∙◌}
 use Rattle.bloom.proofs.Calls.{insert-refused, insert-kept, insert-is, insert-left}
 
 pub returns-then-not-fits : goal.returns-then-not-fits
@@ -18,6 +18,6 @@ returns c =
     let h = c.crc32 in
     let p = c.positions-p in
     let s = c.set_all in (
-      insert-is a.bits.now a.id.now e h.result h.ensures _ p.ensures.0 _ _ s.ensures.0 c.answer.ensures,
+      insert-is a.bits.now a.id.now e h.result h.ensures _ p.ensures.0 _ _ s.ensures.0 refl,
       insert-left a.bits.now a.id.now e h.result h.ensures _ p.ensures.0 _ s.ensures.1,
     )

@@ -1,7 +1,7 @@
 -- A filter of another size is refused; else the answer is whether the four positions of the id's CRC are all set (`query-is`).
 use Rattle.std.proofs.Common.{true, false}
 use Rattle.bloom.proofs.query.Goals as goal
-use Rattle.std.proofs.Common.{sym, ◌∙◌}
+use Rattle.std.proofs.Common.{refl, sym, ◌∙◌}
 use Rattle.bloom.proofs.Calls.{query-refused, query-is}
 
 pub returns-then-not-fits : goal.returns-then-not-fits
@@ -14,4 +14,4 @@ returns c =
     let a = c.args in
     let f = c.fits in
     let p = c.positions-p in
-    query-is a.bits.now a.id.now (sym f.ensures.0 ∙ c.if-not-fits.false) c.crc32.result c.crc32.ensures _ p.ensures.0 _ _ c.all_set.ensures c.answer.ensures
+    query-is a.bits.now a.id.now (sym f.ensures.0 ∙ c.if-not-fits.false) c.crc32.result c.crc32.ensures _ p.ensures.0 _ _ c.all_set.ensures refl

@@ -1,4 +1,4 @@
--- Where the sector fits, blanking its bytes in the region is the model's erase (`erased-is`); else the model changes nothing either
+-- Where the sector fits, filling its bytes with 255 in the region is the model's erase (`erased-is`); else the model changes nothing either
 -- (`after-not`).
 use Rattle.std.proofs.Common.{true, ◌+◌, ◌-◌, ◌*◌, false}
 use Rattle.region.specs.Region.{bank_size}
@@ -7,7 +7,7 @@ use mathlib.Core.Path.{sym, ◌∙◌}
 use native.Mathlib.Omega.{arith}
 use Rattle.flash.specs.Flash.{erase}
 use Rattle.flash.proofs.Laws.{after-not}
-use Rattle.flash.proofs.Steps.{erased-is}
+use Rattle.flash.proofs.Steps.{blank-all, erased-is}
 use Rattle.region.specs.Region.{sector_size}
 
 pub returns-then-lies_within : goal.returns-then-lies_within
@@ -17,7 +17,7 @@ returns-then-lies_within c =
     let a = l.args in
     let w = l.lies_within.ensures.1 t.if-lies_within.true in
     let i = a.bank * bank_size + a.at in
-    erased-is a.region.now a.bank a.at (i + sector_size - i) c.blank_all.new.s w.0 w.1 w.2 (omega arith) c.blank_all.ensures
+    erased-is a.region.now a.bank a.at (i + sector_size - i) c.fill.new.self w.0 w.1 w.2 (omega arith) (c.fill.ensures.after (λ y h. h) ∙ blank-all _)
 
 pub returns-else-lies_within : goal.returns-else-lies_within
 returns-else-lies_within c =

@@ -6,9 +6,8 @@ use native.Mathlib.Omega.{arith}
 use mathlib.Core.Path.{refl, sym, ap, ◌∙◌}
 use lib.ListN.{drop, length-take, length-drop}
 use Rattle.rfc4180.specs.Csv.{max_row}
-use Rattle.rowread.specs.declared.exact.Scan.TheVariants.{Whole}
 use Rattle.rowread.specs.Stored.{part_at}
-use Rattle.rowread.specs.Steps.{scan_of}
+use Rattle.rowread.specs.Steps.{spanned, scan_of}
 use Rattle.rowread.proofs.Calls.{scan-inside, since, read_past, read-end, read-broken, is_row, row-bytes, read_short, read-few, read_whole, read-quick}
 
 pub returns-then-table-offset : goal.returns-then-table-offset
@@ -23,13 +22,13 @@ returns-then-offset-table c =
     let w = read-end a.table.now a.width a.offset a.out.now a.ends.now c.if-table-offset.false c.if-offset-table.true in
     (w.is, w.bytes, w.marks)
 
-pub returns-in-Read : goal.returns-in-Read
-returns-in-Read c =
+pub returns-in-Some : goal.returns-in-Some
+returns-in-Some c =
     let a = c.args in
     let h : a.offset ≤ length a.table.now = c.if-table-offset.false in
     let n : a.offset ≡ length a.table.now → ⊥ = c.if-offset-table.false in
     let e = c.part-t.ensures in
-    let x = rw e at (rw c.in-Read.is at c.fast_row-quick.ensures) in
+    let x = rw e at (rw c.in-Some.is at c.fast_row-quick.ensures) in
     let w = read-quick a.table.now a.width a.offset a.out.now a.ends.now h n x in
     (w.is, w.bytes, w.marks)
 
@@ -45,8 +44,8 @@ returns-in_default-scan c =
     let w = since (m.0 ∙ k.0) (m.1 ∙ k.1) (read-broken a.table.now a.width a.offset _ _ h n (sym c.in_default-scan.is ∙ d.0 ∙ ap (scan_of a.width) e)) in
     (w.is, w.bytes, w.marks)
 
-pub returns-then-out-size : goal.returns-then-out-size
-returns-then-out-size c =
+pub returns-then-out-found : goal.returns-then-out-found
+returns-then-out-found c =
     let a = c.args in
     let h : a.offset ≤ length a.table.now = c.if-table-offset.false in
     let n : a.offset ≡ length a.table.now → ⊥ = c.if-offset-table.false in
@@ -54,8 +53,8 @@ returns-then-out-size c =
     let k = rw c.in_default.is at c.fast_row-quick.ensures in
     let d = c.row-scan.ensures in
     let m = d.1.kept refl in
-    let q : Whole c.in-Whole.next c.in-Whole.size ≡ scan_of a.width (part_at a.table.now a.offset) = sym c.in-Whole.is ∙ d.0 ∙ ap (scan_of a.width) e in
-    let w = since (m.0 ∙ k.0) (m.1 ∙ k.1) (read_short a.table.now a.width a.offset _ _ h n c.in-Whole.next c.in-Whole.size q c.if-out-size.true) in
+    let q : spanned c.in-Some-scan.found.next c.in-Some-scan.found.size ≡ scan_of a.width (part_at a.table.now a.offset) = sym c.in-Some-scan.is ∙ d.0 ∙ ap (scan_of a.width) e in
+    let w = since (m.0 ∙ k.0) (m.1 ∙ k.1) (read_short a.table.now a.width a.offset _ _ h n c.in-Some-scan.found.next c.in-Some-scan.found.size q c.if-out-found.true) in
     (w.is, w.bytes, w.marks)
 
 pub returns-then-ends-width : goal.returns-then-ends-width
@@ -67,8 +66,8 @@ returns-then-ends-width c =
     let k = rw c.in_default.is at c.fast_row-quick.ensures in
     let d = c.row-scan.ensures in
     let m = d.1.kept refl in
-    let q : Whole c.in-Whole.next c.in-Whole.size ≡ scan_of a.width (part_at a.table.now a.offset) = sym c.in-Whole.is ∙ d.0 ∙ ap (scan_of a.width) e in
-    let w = since (m.0 ∙ k.0) (m.1 ∙ k.1) (read-few a.table.now a.width a.offset _ _ h n c.in-Whole.next c.in-Whole.size q c.if-out-size.false c.if-ends-width.true) in
+    let q : spanned c.in-Some-scan.found.next c.in-Some-scan.found.size ≡ scan_of a.width (part_at a.table.now a.offset) = sym c.in-Some-scan.is ∙ d.0 ∙ ap (scan_of a.width) e in
+    let w = since (m.0 ∙ k.0) (m.1 ∙ k.1) (read-few a.table.now a.width a.offset _ _ h n c.in-Some-scan.found.next c.in-Some-scan.found.size q c.if-out-found.false c.if-ends-width.true) in
     (w.is, w.bytes, w.marks)
 
 pub write_row-requires : goal.write_row-requires
@@ -80,9 +79,9 @@ write_row-requires c =
     let k = rw c.in_default.is at c.fast_row-quick.ensures in
     let d = c.row-scan.ensures in
     let m = d.1.kept refl in
-    let q : Whole c.in-Whole.next c.in-Whole.size ≡ scan_of a.width (part_at a.table.now a.offset) = sym c.in-Whole.is ∙ d.0 ∙ ap (scan_of a.width) e in
-    let y = row-bytes a.table.now a.width a.offset a.out.now a.ends.now h n c.in-Whole.next c.in-Whole.size q in
-    rw e (is_row a.table.now a.width a.offset a.out.now a.ends.now h n c.in-Whole.next c.in-Whole.size q, omega (arith, y), c.if-out-size.false, c.if-ends-width.false)
+    let q : spanned c.in-Some-scan.found.next c.in-Some-scan.found.size ≡ scan_of a.width (part_at a.table.now a.offset) = sym c.in-Some-scan.is ∙ d.0 ∙ ap (scan_of a.width) e in
+    let y = row-bytes a.table.now a.width a.offset a.out.now a.ends.now h n c.in-Some-scan.found.next c.in-Some-scan.found.size q in
+    rw e (is_row a.table.now a.width a.offset a.out.now a.ends.now h n c.in-Some-scan.found.next c.in-Some-scan.found.size q, omega (arith, y), c.if-out-found.false, c.if-ends-width.false)
 
 pub overflow_add-result-2 : goal.overflow_add-result-2
 overflow_add-result-2 c =
@@ -93,7 +92,7 @@ overflow_add-result-2 c =
     let k = rw c.in_default.is at c.fast_row-quick.ensures in
     let d = c.row-scan.ensures in
     let m = d.1.kept refl in
-    let x = scan-inside a.width _ c.in-Whole.next c.in-Whole.size (sym c.in-Whole.is ∙ d.0) in
+    let x = scan-inside a.width _ c.in-Some-scan.found.next c.in-Some-scan.found.size (sym c.in-Some-scan.is ∙ d.0) in
     omega (arith, x, ap length e, length-take max_row (drop a.offset a.table.now), length-drop a.offset a.table.now, h)
 
 pub returns : goal.returns
@@ -105,7 +104,7 @@ returns c =
     let k = rw c.in_default.is at c.fast_row-quick.ensures in
     let d = c.row-scan.ensures in
     let m = d.1.kept refl in
-    let q : Whole c.in-Whole.next c.in-Whole.size ≡ scan_of a.width (part_at a.table.now a.offset) = sym c.in-Whole.is ∙ d.0 ∙ ap (scan_of a.width) e in
+    let q : spanned c.in-Some-scan.found.next c.in-Some-scan.found.size ≡ scan_of a.width (part_at a.table.now a.offset) = sym c.in-Some-scan.is ∙ d.0 ∙ ap (scan_of a.width) e in
     let v = c.write_row.ensures in
-    let w = since (m.0 ∙ k.0) (m.1 ∙ k.1) (read_whole a.table.now a.width a.offset _ _ h n c.in-Whole.next c.in-Whole.size q c.if-out-size.false c.if-ends-width.false _ _ (v.0 ∙ rw e) (v.1 ∙ rw e)) in
+    let w = since (m.0 ∙ k.0) (m.1 ∙ k.1) (read_whole a.table.now a.width a.offset _ _ h n c.in-Some-scan.found.next c.in-Some-scan.found.size q c.if-out-found.false c.if-ends-width.false _ _ (v.0 ∙ rw e) (v.1 ∙ rw e)) in
     (w.is, w.bytes, w.marks)

@@ -9,7 +9,7 @@ use Rattle.bankcore.specs.BankAnswers.{of_bank_row, no_bank_row, as_bank_row}
 use Rattle.bankcore.specs.RowAnswers.{of_read}
 use Rattle.bankcore.proofs.Laws.{as_row}
 use Rattle.refusal.specs.declared.Refusal.{Refusal}
-use Rattle.rowread.specs.declared.Stored.{Stored}
+use Rattle.rowread.specs.declared.Span.{Span}
 
 pub returns-in-Ok : goal.returns-in-Ok
 returns-in-Ok c =
@@ -33,6 +33,6 @@ returns-in-Err c =
     let values = values_in a.region.now a.bank a.source a.table a.place in
     record {
       value = c.no_bank_row.ensures ∙ ap no_bank_row c.number_u32.ensures ∙ ap of_bank_row k;
-      out_after = ap (λ (x : Result (Option Stored) Refusal). after x (joined values) a.out.now) k;
-      ends_after = ap (λ (x : Result (Option Stored) Refusal). after x (ends_of 0 values) a.ends.now) k;
+      out_after = ap (λ (x : Result (Option Span) Refusal). after x (joined values) a.out.now) k;
+      ends_after = ap (λ (x : Result (Option Span) Refusal). after x (ends_of 0 values) a.ends.now) k;
     }

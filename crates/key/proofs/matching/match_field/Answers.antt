@@ -1,16 +1,12 @@
--- The length byte, then the text: `then_to` where the byte matches, `then-not` where it differs.
+-- The length byte, then the text (`then_left`).
 use Rattle.std.proofs.Common.{[], ◌∷◌, length, ◌%◌}
+use Rattle.std.proofs.lemmas.Slice.Eq.{strip_prefix_is}
+use Rattle.std.proofs.lemmas.Bool.Decides.{Decides-eqb}
 use Rattle.key.proofs.matching.match_field.Goals as goal
-use mathlib.Core.Path.{◌∙◌, sym}
-use Rattle.key.proofs.Stretch.{then_to, then-not}
-
-pub returns-in_default : goal.returns-in_default
-returns-in_default c =
-    let a = c.args in
-    sym (then-not a.stored.now a.at (length a.s.now % 256 ∷ []) a.s.now (sym c.match_byte.ensures ∙ c.in_default.is))
+use Rattle.key.proofs.Left.{then_left}
 
 pub returns : goal.returns
 returns c =
     let a = c.args in
-    c.match_bytes.ensures
-    ∙ sym (then_to a.stored.now a.at (length a.s.now % 256 ∷ []) a.s.now _ (sym c.match_byte.ensures ∙ c.in-To.is))
+    let rest = c.in_ok-match_byte.field-0.now in
+    then_left a.stored.now (length a.s.now % 256 ∷ []) a.s.now rest c.in_ok-match_byte.ensures c.strip_prefix.result (strip_prefix_is Decides-eqb rest a.s.now c.strip_prefix.result c.strip_prefix.ensures.cases)

@@ -1,46 +1,38 @@
--- The invariant: the first k sorted picks match, up to offset `to`. A pick more is `goes_on`, one that differs `stops`.
-use Rattle.std.proofs.Common.{[], map, ◌<◌, length}
-use Rattle.key.specs.Layout.{entry}
+-- A pick more is `goes_on`, one that differs `stops`.
+use Rattle.std.proofs.Common.{[], map, ◌<◌, length, get_or, refl, arith}
 use Rattle.key.proofs.matching.match_picks.Goals as goal
-use mathlib.Core.Path.{ap, ◌∙◌, sym}
-use native.Mathlib.Omega.{arith}
-use lib.ListN.{get_or, length-map}
-use Rattle.key.specs.Picks.{pick_of}
-use Rattle.key.specs.Steps.{between}
+use lib.ListN.{length-map}
+use Rattle.key.specs.Layout.{entry, joined}
+use Rattle.key.specs.Steps.{pick_in}
 use Rattle.key.proofs.Insert.{below_at, map_at}
-use Rattle.key.proofs.Put.{joined-none}
-use Rattle.key.proofs.Stretch.{nothing-to-match, goes_on, stops}
+use Rattle.key.proofs.Left.{goes_on, stops}
 
-pub loop-k-init : goal.loop-k-init
-loop-k-init c =
-    let a = c.args in
-    (omega arith, sym (nothing-to-match a.stored.now a.at _ (ap length (joined-none entry (map (pick_of (between a.texts.now a.starts.now)) a.sorted.now)))))
+pub loop-i-init : goal.loop-i-init
+unfolding joined
+loop-i-init c = refl
 
 pub match_pick-requires : goal.match_pick-requires
 match_pick-requires c =
-    let s = c in
-    let l = c.loop-k in
-    let b = below_at s.args.n s.args.sorted.now l.k s.requires.2 (omega arith) in
-    (s.requires.0, omega (arith, s.requires.1, b))
+    let b = below_at c.args.n c.args.sorted.now c.loop-i.i-index c.requires.2 (omega arith) in
+    (c.requires.0, omega (arith, c.requires.1, b))
 
-pub returns-in_default : goal.returns-in_default
-returns-in_default c =
+pub returns-in_err-rest : goal.returns-in_err-rest
+returns-in_err-rest c =
     let a = c.args in
-    let l = c.loop-k in
-    let f = pick_of (between a.texts.now a.starts.now) in
+    let l = c.loop-i in
+    let f = pick_in a.texts.now a.starts.now in
     let w = length-map a.sorted.now f in
-    let h : l.k < length a.sorted.now = omega arith in
-    stops entry [] (map f a.sorted.now) l.k (omega arith) (f (get_or a.sorted.now l.k 0)) (map_at f a.sorted.now l.k h) a.stored.now a.at l.to l.invariant.1
-    (sym c.match_pick.ensures ∙ c.in_default.is)
+    let h : l.i-index < length a.sorted.now = omega arith in
+    rw c.from_residual.ensures
+    (stops entry [] (map f a.sorted.now) l.i-index (omega arith) (f (get_or a.sorted.now l.i-index 0)) (map_at f a.sorted.now l.i-index h) a.stored.now l.rest.now l.invariant
+    c.in_err-rest.ensures)
 
-pub loop-k-preserved : goal.loop-k-preserved
-loop-k-preserved c =
+pub loop-i-preserved : goal.loop-i-preserved
+loop-i-preserved c =
     let a = c.args in
-    let l = c.loop-k in
-    let f = pick_of (between a.texts.now a.starts.now) in
+    let l = c.loop-i in
+    let f = pick_in a.texts.now a.starts.now in
     let w = length-map a.sorted.now f in
-    let h : l.k < length a.sorted.now = omega arith in (
-      omega arith,
-      goes_on entry [] (map f a.sorted.now) l.k (omega arith) (f (get_or a.sorted.now l.k 0)) (map_at f a.sorted.now l.k h) a.stored.now a.at l.to l.invariant.1 _
-          (sym c.match_pick.ensures ∙ c.in-To.is),
-    )
+    let h : l.i-index < length a.sorted.now = omega arith in
+    goes_on entry [] (map f a.sorted.now) l.i-index (omega arith) (f (get_or a.sorted.now l.i-index 0)) (map_at f a.sorted.now l.i-index h) a.stored.now l.rest.now l.invariant
+    c.in_ok-rest.rest.now c.in_ok-rest.ensures

@@ -1,55 +1,48 @@
--- The invariant: inserting the pick leaves the first k as they are and inserts it among the rest. It goes before the first one that is
--- larger, nowhere if it is there, else to the end.
-use Rattle.std.proofs.Common.{map, ◌<◌, length, get_or}
-use Rattle.key.specs.Steps.{between}
-use Rattle.key.proofs.picks.index_of.Goals as goal
-use native.Mathlib.Omega.{arith}
+-- The pick goes before the first one that is larger, nowhere if it is there, else to the end.
+use Rattle.std.proofs.Common.{◌≡◌, map, ◌<◌, length, get_or, arith}
 use lib.ListN.{length-map}
-use Rattle.key.specs.Picks.{pick_of}
-use Rattle.key.proofs.Insert.{below_at, map_at}
-use Rattle.key.proofs.Insert.{goes_end, goes_before, goes-nowhere, goes_on}
+use Rattle.key.specs.Steps.{pick_in}
+use Rattle.key.proofs.picks.index_of.Goals as goal
+use Rattle.key.proofs.Insert.{below_at, map_at, goes_end, goes_before, goes-nowhere, goes_on}
 
-pub order_picks-o-requires : goal.order_picks-o-requires
-order_picks-o-requires c =
-    let s = c in
+pub order_picks-requires : goal.order_picks-requires
+order_picks-requires c =
     let l = c.loop-k in
-    let b = below_at s.args.n s.args.sorted.now l.k s.requires.3 (omega arith) in
-    (s.requires.0, omega (arith, s.requires.1, s.requires.2), omega (arith, s.requires.1, b))
+    let b = below_at c.args.n c.args.sorted.now l.k c.requires.3 (omega arith) in
+    (c.requires.0, omega (arith, c.requires.1, c.requires.2), omega (arith, c.requires.1, b))
 
-pub returns-then-o-eq-SAME : goal.returns-then-o-eq-SAME
-returns-then-o-eq-SAME c =
-    let s = c in
-    let a = s.args in
+pub returns-in-Less : goal.returns-in-Less
+returns-in-Less c =
+    let a = c.args in
     let l = c.loop-k in
-    let f = pick_of (between a.texts.now a.starts.now) in
+    let f = pick_in a.texts.now a.starts.now in
     let w = length-map a.sorted.now f in
     let h : l.k < length a.sorted.now = omega arith in
-    goes-nowhere (f a.i) (map f a.sorted.now) l.k l.invariant.1 (omega arith) (f (get_or a.sorted.now l.k 0)) (map_at f a.sorted.now l.k h) c.order_picks-o.result c.order_picks-o.ensures (omega arith)
+    goes_before (f a.i) (map f a.sorted.now) l.k l.invariant (omega arith) (f (get_or a.sorted.now l.k 0)) (map_at f a.sorted.now l.k h) c.order_picks.result c.order_picks.ensures c.in-Less.is
 
-pub returns-then-o-eq-LESS : goal.returns-then-o-eq-LESS
-returns-then-o-eq-LESS c =
-    let s = c in
-    let a = s.args in
+pub returns-in-Equal : goal.returns-in-Equal
+returns-in-Equal c =
+    let a = c.args in
     let l = c.loop-k in
-    let f = pick_of (between a.texts.now a.starts.now) in
+    let f = pick_in a.texts.now a.starts.now in
     let w = length-map a.sorted.now f in
     let h : l.k < length a.sorted.now = omega arith in
-    goes_before (f a.i) (map f a.sorted.now) l.k l.invariant.1 (omega arith) (f (get_or a.sorted.now l.k 0)) (map_at f a.sorted.now l.k h) c.order_picks-o.result c.order_picks-o.ensures (omega arith)
+    goes-nowhere (f a.i) (map f a.sorted.now) l.k l.invariant (omega arith) (f (get_or a.sorted.now l.k 0)) (map_at f a.sorted.now l.k h) c.order_picks.result c.order_picks.ensures c.in-Equal.is
 
 pub loop-k-preserved : goal.loop-k-preserved
 loop-k-preserved c =
-    let s = c in
-    let a = s.args in
+    let a = c.args in
     let l = c.loop-k in
-    let f = pick_of (between a.texts.now a.starts.now) in
+    let f = pick_in a.texts.now a.starts.now in
     let w = length-map a.sorted.now f in
     let h : l.k < length a.sorted.now = omega arith in
-    (omega arith, goes_on (f a.i) (map f a.sorted.now) l.k l.invariant.1 (omega arith) (f (get_or a.sorted.now l.k 0)) (map_at f a.sorted.now l.k h) c.order_picks-o.result c.order_picks-o.ensures (λ z. omega arith) (λ z. omega arith))
+    goes_on (f a.i) (map f a.sorted.now) l.k l.invariant (omega arith) (f (get_or a.sorted.now l.k 0)) (map_at f a.sorted.now l.k h) c.order_picks.result c.order_picks.ensures c.in-Greater.is
 
 pub returns : goal.returns
 returns c =
     let a = c.args in
     let l = c.loop-k in
-    let f = pick_of (between a.texts.now a.starts.now) in
+    let f = pick_in a.texts.now a.starts.now in
     let w = length-map a.sorted.now f in
-    goes_end (f a.i) (map f a.sorted.now) l.k l.invariant.1 (omega arith) (omega arith)
+    let e : l.k ≡ length a.sorted.now = omega arith in
+    rw e at (goes_end (f a.i) (map f a.sorted.now) l.k l.invariant (omega arith) (omega arith))

@@ -1,26 +1,11 @@
--- The invariant: the offsets before i are stored, and `at` is offset i. A length that reaches past the end gives the end.
-use Rattle.std.proofs.Common.{◌≡◌, ◌+◌, ◌≤◌, ◌<◌, length, get_or, ℕ, List}
+-- One more offset is stored; a length that reaches past the end gives the end.
+use Rattle.std.proofs.Common.{◌≡◌, get_or, ℕ, Option, ap, ◌∙◌, arith, below_more, get_or-set_same, get_or-set_other}
 use Rattle.key.proofs.picks.offsets_of.Goals as goal
-use Rattle.key.proofs.picks.offsets_of.Goals.{then-i-lengths+then-n-texts, then-i-lengths+else-n-texts, else-i-lengths}
-use mathlib.Core.Path.{refl, ◌∙◌}
-use mathlib.Core.Logic.{⊎_elim}
-use native.Mathlib.Omega.{arith}
-use lib.ListN.{set, length-set}
-use lib.Seq.{get_or-set_same, get_or-set_other}
-use Rattle.key.specs.Steps.{offset_of}
-use Rattle.key.proofs.TextOffsets.{split, offset-none, offset-next, offset-within, offset-past}
-
--- one more offset is stored
-stored : (b l s : List ℕ) (i at : ℕ) → i < length s → at ≡ offset_of b l i → ((k : ℕ) → k < i → get_or s k 0 ≡ offset_of b l k)
-    → (k : ℕ) → k < i + 1 → get_or (set s i at) k 0 ≡ offset_of b l k
-stored b l s i at h e f k w =
-    ⊎_elim
-    (λ (v : k < i). get_or-set_other s i k at 0 (λ z. omega arith) ∙ f k v)
-    (λ (v : i ≤ k). let z : k ≡ i = omega arith in rw z (get_or-set_same s i at 0 h ∙ e))
-    (split k i)
+use Rattle.std.specs.Option.{unwrap_or}
+use Rattle.key.proofs.TextOffsets.{offset-none, offset-next, offset-within}
 
 pub loop-i-init : goal.loop-i-init
-loop-i-init c = (omega arith, refl, offset-none c.args.texts.now c.args.lengths.now, λ k h. absurd (omega arith))
+loop-i-init c = (offset-none c.args.texts.now c.args.lengths.now, λ k h. absurd (omega arith))
 
 pub overflow_sub-texts : goal.overflow_sub-texts
 overflow_sub-texts c = omega (arith, offset-within c.args.texts.now c.args.lengths.now c.loop-i.i)
@@ -28,15 +13,11 @@ overflow_sub-texts c = omega (arith, offset-within c.args.texts.now c.args.lengt
 pub loop-i-preserved : goal.loop-i-preserved
 loop-i-preserved c =
     let l = c.loop-i in
-    let a = c.args in
-    let n = offset-next a.texts.now a.lengths.now l.i in
-    let inside = offset-within a.texts.now a.lengths.now l.i in (
-      omega arith,
-      simp length-set l.invariant.1,
-      elim c.if-i-lengths.branch [
-        | then-i-lengths+then-n-texts w ↦ omega arith
-        | then-i-lengths+else-n-texts w ↦ omega arith
-        | else-i-lengths w ↦ omega (arith, offset-past a.texts.now a.lengths.now l.i (omega arith))
-      ],
-      stored a.texts.now a.lengths.now l.starts l.i l.at (omega arith) l.invariant.2 l.invariant.3,
+    let b = c.args.texts.now in
+    let s = c.args.lengths.now in
+    let n : c.unwrap_or-n.result ≡ get_or s l.i 0 = c.unwrap_or-n.ensures ∙ ap (λ (o : Option ℕ). unwrap_or o 0) c.copied.ensures ∙ c.get.ensures.lookup.4 (omega arith) 0 in (
+      omega (arith, offset-next b s l.i, offset-within b s l.i),
+      below_more _ _
+          (λ k h. let e : k ≡ l.i → ⊥ = λ z. omega arith in get_or-set_other l.starts l.i k l.at 0 e ∙ l.invariant.1 k h)
+          (get_or-set_same l.starts l.i l.at 0 (omega arith) ∙ l.invariant.0),
     )

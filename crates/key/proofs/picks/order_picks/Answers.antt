@@ -1,34 +1,33 @@
--- The invariant: the fields before f are equal, so the order is that of the rests. The first different field decides (`found`).
-use Rattle.key.specs.Steps.{between}
+-- The first different field decides (`found`).
+use Rattle.std.proofs.Common.{◌∙◌, arith}
+use Rattle.key.specs.Steps.{pick_in, between}
 use Rattle.key.proofs.picks.order_picks.Goals as goal
-use native.Mathlib.Omega.{arith}
-use Rattle.key.specs.Picks.{pick_of}
 use Rattle.key.proofs.TextOffsets.{five}
-use Rattle.key.proofs.Walk.{found, further, all_same}
+use Rattle.key.proofs.Walk.{text-answer, ne-true, ne-false, found, further, all_same}
 
-pub returns-then-o-ne-SAME : goal.returns-then-o-ne-SAME
-returns-then-o-ne-SAME c =
+pub returns-then-is_ne : goal.returns-then-is_ne
+returns-then-is_ne c =
     let l = c.loop-f in
     let a = c.args in
-    let p = pick_of (between a.texts.now a.starts.now) a.i in
-    let q = pick_of (between a.texts.now a.starts.now) a.j in
-    let o = c.order-o in
+    let p = pick_in a.texts.now a.starts.now a.i in
+    let q = pick_in a.texts.now a.starts.now a.j in
+    let o = c.cmp-o in
     let hp = five (between a.texts.now a.starts.now) a.i in
     let hq = five (between a.texts.now a.starts.now) a.j in
-    let e = rw (c.field-a.ensures, c.field-b.ensures) at o.ensures in
-    found p q l.f o.result (omega arith) (omega arith) l.invariant.1 e (omega arith)
+    let e = rw (c.field-a.ensures, c.field-b.ensures) at (o.ensures ∙ text-answer c.field-a.result.now c.field-b.result.now) in
+    found p q l.f o.result (omega arith) (omega arith) l.invariant e (ne-true o.result c.if-is_ne.ensures)
 
 pub loop-f-preserved : goal.loop-f-preserved
 loop-f-preserved c =
     let l = c.loop-f in
     let a = c.args in
-    let p = pick_of (between a.texts.now a.starts.now) a.i in
-    let q = pick_of (between a.texts.now a.starts.now) a.j in
-    let o = c.order-o in
+    let p = pick_in a.texts.now a.starts.now a.i in
+    let q = pick_in a.texts.now a.starts.now a.j in
+    let o = c.cmp-o in
     let hp = five (between a.texts.now a.starts.now) a.i in
     let hq = five (between a.texts.now a.starts.now) a.j in
-    let e = rw (c.field-a.ensures, c.field-b.ensures) at o.ensures in
-    (omega arith, further p q l.f o.result (omega arith) (omega arith) l.invariant.1 e (omega arith))
+    let e = rw (c.field-a.ensures, c.field-b.ensures) at (o.ensures ∙ text-answer c.field-a.result.now c.field-b.result.now) in
+    further p q l.f o.result (omega arith) (omega arith) l.invariant e (ne-false o.result c.if-is_ne.ensures)
 
 pub returns : goal.returns
 returns c =
@@ -36,4 +35,4 @@ returns c =
     let a = c.args in
     let hp = five (between a.texts.now a.starts.now) a.i in
     let hq = five (between a.texts.now a.starts.now) a.j in
-    all_same (pick_of (between a.texts.now a.starts.now) a.i) (pick_of (between a.texts.now a.starts.now) a.j) l.f (omega arith) (omega arith) l.invariant.1
+    all_same (pick_in a.texts.now a.starts.now a.i) (pick_in a.texts.now a.starts.now a.j) l.f (omega arith) (omega arith) l.invariant

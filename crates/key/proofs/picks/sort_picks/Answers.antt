@@ -1,17 +1,11 @@
--- The invariant: the first m numbers mean the sorted, distinct picks from i on. Each turn inserts one more, from the last to the first
--- (`one_more`).
-use Rattle.std.proofs.Common.{◌≡◌, ◌+◌, ◌-◌}
-use Rattle.key.specs.Steps.{between}
+-- Each turn inserts one more pick, from the last to the first (`one_more`).
+use Rattle.std.proofs.Common.{◌≡◌, ◌+◌, ◌-◌, arith}
+use Rattle.key.specs.Steps.{pick_in}
 use Rattle.key.proofs.picks.sort_picks.Goals as goal
-use mathlib.Core.Path.{refl, ◌∙◌}
-use native.Mathlib.Omega.{arith}
-use Rattle.key.specs.Picks.{pick_of}
 use Rattle.key.proofs.Insert.{none_yet, one_more}
 
 pub loop-i-init : goal.loop-i-init
-loop-i-init c =
-    let a = c.args in
-    (omega arith, omega arith, refl, none_yet (pick_of (between a.texts.now a.starts.now)) a.n a.order.now)
+loop-i-init c = (omega arith, none_yet (pick_in c.args.texts.now c.args.starts.now) c.args.n c.args.order.now)
 
 pub loop-i-preserved : goal.loop-i-preserved
 loop-i-preserved c =
@@ -19,9 +13,7 @@ loop-i-preserved c =
     let l = c.loop-i in
     let q = c.insert_pick-m in
     let e : l.i - 1 + 1 ≡ l.i = omega arith in
-    let o = l.invariant.3 in (
-      omega arith,
+    let o = l.invariant.1 in (
       omega (arith, q.ensures.0),
-      q.auto.order ∙ l.invariant.2,
-      one_more (pick_of (between a.texts.now a.starts.now)) a.n (l.i - 1) (omega arith) l.order q.new.order l.m q.result (rw e o) q.ensures.1,
+      one_more (pick_in a.texts.now a.starts.now) a.n (l.i - 1) (omega arith) l.order q.new.order l.m q.result (rw e o) q.ensures.1,
     )

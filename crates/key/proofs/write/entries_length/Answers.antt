@@ -11,42 +11,42 @@ use Rattle.key.proofs.Insert.{below_at, map_at}
 use Rattle.key.proofs.Put.{joined-none, step-length}
 
 -- one more pick is counted
-step : (c : goal.After-entry_length-bytes) → (let a = c.args in let l = c.loop-k in
-    l.bytes + c.entry_length-bytes.result ≡ length (joined entry (take (l.k + 1) (map (pick_of (between a.texts.now a.starts.now)) a.sorted.now))))
+step : (c : goal.After-entry_length-bytes) → (let a = c.args in let l = c.loop-i in
+    l.bytes + c.entry_length-bytes.result ≡ length (joined entry (take (l.i-index + 1) (map (pick_of (between a.texts.now a.starts.now)) a.sorted.now))))
 step c =
     let a = c.args in
-    let l = c.loop-k in
+    let l = c.loop-i in
     let f = pick_of (between a.texts.now a.starts.now) in
     let w = length-map a.sorted.now f in
-    let h : l.k < length a.sorted.now = omega arith in
-    let e = step-length entry [] (map f a.sorted.now) l.k (omega arith) (f (get_or a.sorted.now l.k 0)) (map_at f a.sorted.now l.k h) in
-    omega (arith, e, c.entry_length-bytes.ensures, l.invariant.1)
+    let h : l.i-index < length a.sorted.now = omega arith in
+    let e = step-length entry [] (map f a.sorted.now) l.i-index (omega arith) (f (get_or a.sorted.now l.i-index 0)) (map_at f a.sorted.now l.i-index h) in
+    omega (arith, e, c.entry_length-bytes.ensures, l.invariant.0)
 
 small : (c : goal.After-entry_length-bytes) → c.entry_length-bytes.result ≤ longest_entry
 small c =
     let s = c in
-    let l = c.loop-k in
-    let b = below_at s.args.n s.args.sorted.now l.k s.requires.2 (omega arith) in
-    omega (arith, c.entry_length-bytes.ensures, s.requires.4 (get_or s.args.sorted.now l.k 0) b)
+    let l = c.loop-i in
+    let b = below_at s.args.n s.args.sorted.now l.i-index s.requires.2 (omega arith) in
+    omega (arith, c.entry_length-bytes.ensures, s.requires.4 (get_or s.args.sorted.now l.i-index 0) b)
 
-pub loop-k-init : goal.loop-k-init
-loop-k-init c =
+pub loop-i-init : goal.loop-i-init
+loop-i-init c =
     let a = c.args in
     let e = ap length (joined-none entry (map (pick_of (between a.texts.now a.starts.now)) a.sorted.now)) in
-    (omega arith, omega arith, omega arith)
+    (omega arith, omega arith)
 
 pub entry_length-bytes-requires : goal.entry_length-bytes-requires
 entry_length-bytes-requires c =
     let s = c in
-    let l = c.loop-k in
-    let b = below_at s.args.n s.args.sorted.now l.k s.requires.2 (omega arith) in
-    (s.requires.0, omega (arith, s.requires.1), s.requires.4 (get_or s.args.sorted.now l.k 0) b)
+    let l = c.loop-i in
+    let b = below_at s.args.n s.args.sorted.now l.i-index s.requires.2 (omega arith) in
+    (s.requires.0, omega (arith, s.requires.1), s.requires.4 (get_or s.args.sorted.now l.i-index 0) b)
 
 pub overflow_add-bytes : goal.overflow_add-bytes
 overflow_add-bytes c = omega (arith, step c, small c, c.requires.3)
 
-pub loop-k-preserved : goal.loop-k-preserved
-loop-k-preserved c =
+pub loop-i-preserved : goal.loop-i-preserved
+loop-i-preserved c =
     let h = c.requires.3 in
-    let l = c.loop-k in
-    (omega arith, step c, omega (arith, small c))
+    let l = c.loop-i in
+    (step c, omega (arith, small c))

@@ -1,15 +1,11 @@
--- `bytes` is the length of the first k entries joined, at most 141 k; the picks left fall.
+-- `bytes` is the length of the first entries joined, those before the index, at most 141 for each.
 use mathlib.Core.Path.{◌≡◌}
 use mathlib.Core.List.{map}
-use Prim.Native.Nat.{◌*◌, ◌-◌, ◌≤◌}
+use Prim.Native.Nat.{◌*◌, ◌≤◌}
 use lib.ListN.{length, take}
-use Rattle.key.specs.Picks.{pick_of}
-use Rattle.key.specs.Layout.{joined, entry}
-use Rattle.key.specs.Steps.{between}
+use Rattle.key.specs.Layout.{joined, entry, longest_entry}
+use Rattle.key.specs.Steps.{pick_in}
 use Rattle.key.proofs.write.entries_length.Given as goal
 
-abbrev pub invariant-loop-k : goal.invariant-loop-k
-invariant-loop-k l = (l.k ≤ length l.sorted) × (l.bytes ≡ length (joined entry (take l.k (map (pick_of (between l.texts l.starts)) l.sorted)))) × (l.bytes ≤ 141 * l.k)
-
-abbrev pub decreases-loop-k : goal.decreases-loop-k
-decreases-loop-k l = length l.sorted - l.k
+abbrev pub invariant-loop-i : goal.invariant-loop-i
+invariant-loop-i l = (l.bytes ≡ length (joined entry (take l.i-index (map (pick_in l.texts l.starts) l.sorted)))) × (l.bytes ≤ longest_entry * l.i-index)

@@ -4,7 +4,7 @@ use Rattle.std.proofs.Common.{◌≡◌, ◌+◌, ◌≤◌, ◌<◌, length, �
 use Rattle.leaf.specs.Bytes.{written}
 use Rattle.key.specs.Layout.{entry, joined}
 use Rattle.key.proofs.write.put_pick.Goals as goal
-use mathlib.Core.Path.{refl, ap, ◌∙◌, sym}
+use mathlib.Core.Path.{ap, ◌∙◌, sym}
 use native.Mathlib.Omega.{arith}
 use lib.ListN.{take, get_or}
 use Rattle.key.specs.Picks.{pick_of}
@@ -25,22 +25,22 @@ pub loop-f-init : goal.loop-f-init
 loop-f-init c =
     let a = c.args in
     let e = joined-none field (pick_of (between a.texts.now a.starts.now) a.i) in
-    (omega arith, refl, omega (arith, ap length e), sym (ap (written a.out.now a.at) e ∙ put-none a.out.now a.at (omega arith)))
+    (omega (arith, ap length e), sym (ap (written a.out.now a.at) e ∙ put-none a.out.now a.at (omega arith)))
 
 pub put_field-requires : goal.put_field-requires
 put_field-requires c =
     let a = c.args in
-    omega (arith, enough a.texts.now a.starts.now a.i c.loop-f.f c.field-t.result.now (omega arith) c.field-t.ensures, c.loop-f.invariant.2, c.requires.2)
+    omega (arith, enough a.texts.now a.starts.now a.i c.loop-f.f c.field-t.result.now (omega arith) c.field-t.ensures, c.loop-f.invariant.0, c.requires.2)
 
 pub overflow_add-to : goal.overflow_add-to
 overflow_add-to c =
     let a = c.args in
-    omega (arith, enough a.texts.now a.starts.now a.i c.loop-f.f c.field-t.result.now (omega arith) c.field-t.ensures, c.loop-f.invariant.2, c.requires.2)
+    omega (arith, enough a.texts.now a.starts.now a.i c.loop-f.f c.field-t.result.now (omega arith) c.field-t.ensures, c.loop-f.invariant.0, c.requires.2)
 
 pub overflow_add-to-in-loop-f : goal.overflow_add-to-in-loop-f
 overflow_add-to-in-loop-f c =
     let a = c.args in
-    omega (arith, enough a.texts.now a.starts.now a.i c.loop-f.f c.field-t.result.now (omega arith) c.field-t.ensures, c.loop-f.invariant.2, c.requires.2)
+    omega (arith, enough a.texts.now a.starts.now a.i c.loop-f.f c.field-t.result.now (omega arith) c.field-t.ensures, c.loop-f.invariant.0, c.requires.2)
 
 pub loop-f-preserved : goal.loop-f-preserved
 loop-f-preserved c =
@@ -50,11 +50,9 @@ loop-f-preserved c =
     let w = five (between a.texts.now a.starts.now) a.i in
     let t = c.field-t in
     let q = c.put_field in (
-      omega arith,
-      q.auto.out ∙ l.invariant.1,
       omega (arith, step-length field [] p l.f (omega arith) t.result.now t.ensures),
       step-put field [] p l.f (omega arith) t.result.now t.ensures a.out.now l.out q.new.out a.at l.to
-          (omega arith) l.invariant.2 l.invariant.3 q.ensures,
+          (omega arith) l.invariant.0 l.invariant.1 q.ensures,
     )
 
 pub returns : goal.returns
@@ -63,4 +61,4 @@ returns c =
     let l = c.loop-f in
     let w = five (between a.texts.now a.starts.now) a.i in
     let e = joined-all field (pick_of (between a.texts.now a.starts.now) a.i) l.f (omega arith) in
-    (l.invariant.2 ∙ ap (λ (r : List ℕ). a.at + length r) e, l.invariant.3 ∙ ap (written a.out.now a.at) e)
+    (l.invariant.0 ∙ ap (λ (r : List ℕ). a.at + length r) e, l.invariant.1 ∙ ap (written a.out.now a.at) e)

@@ -3,7 +3,7 @@ use Rattle.std.proofs.Common.{map, ◌<◌, length, []}
 use Rattle.leaf.specs.Bytes.{written}
 use Rattle.key.specs.Layout.{entry}
 use Rattle.key.proofs.write.put_picks.Goals as goal
-use mathlib.Core.Path.{refl, ap, ◌∙◌, sym}
+use mathlib.Core.Path.{ap, ◌∙◌, sym}
 use native.Mathlib.Omega.{arith}
 use lib.ListN.{get_or, length-map}
 use Rattle.key.specs.Picks.{pick_of}
@@ -11,37 +11,35 @@ use Rattle.key.specs.Steps.{between}
 use Rattle.key.proofs.Insert.{below_at, map_at}
 use Rattle.key.proofs.Put.{put-none, joined-none, step-length, step_fits, step-put}
 
-pub loop-k-init : goal.loop-k-init
-loop-k-init c =
+pub loop-i-init : goal.loop-i-init
+loop-i-init c =
     let a = c.args in
     let e = joined-none entry (map (pick_of (between a.texts.now a.starts.now)) a.sorted.now) in
-    (omega arith, refl, omega (arith, ap length e), sym (ap (written a.out.now a.at) e ∙ put-none a.out.now a.at (omega arith)))
+    (omega (arith, ap length e), sym (ap (written a.out.now a.at) e ∙ put-none a.out.now a.at (omega arith)))
 
 pub put_pick-to-requires : goal.put_pick-to-requires
 put_pick-to-requires c =
     let s = c in
     let a = s.args in
-    let l = c.loop-k in
+    let l = c.loop-i in
     let f = pick_of (between a.texts.now a.starts.now) in
     let w = length-map a.sorted.now f in
-    let h : l.k < length a.sorted.now = omega arith in
-    let b = below_at a.n a.sorted.now l.k s.requires.2 h in
-    let r = step_fits entry [] (map f a.sorted.now) l.k (omega arith) (f (get_or a.sorted.now l.k 0)) (map_at f a.sorted.now l.k h) in
-    (s.requires.0, omega (arith, s.requires.1, b), omega (arith, r, s.requires.3, l.invariant.1, l.invariant.2))
+    let h : l.i-index < length a.sorted.now = omega arith in
+    let b = below_at a.n a.sorted.now l.i-index s.requires.2 h in
+    let r = step_fits entry [] (map f a.sorted.now) l.i-index (omega arith) (f (get_or a.sorted.now l.i-index 0)) (map_at f a.sorted.now l.i-index h) in
+    (s.requires.0, omega (arith, s.requires.1, b), omega (arith, r, s.requires.3, l.invariant.0))
 
-pub loop-k-preserved : goal.loop-k-preserved
-loop-k-preserved c =
+pub loop-i-preserved : goal.loop-i-preserved
+loop-i-preserved c =
     let s = c in
     let a = s.args in
-    let l = c.loop-k in
+    let l = c.loop-i in
     let q = c.put_pick-to in
     let f = pick_of (between a.texts.now a.starts.now) in
     let w = length-map a.sorted.now f in
-    let h : l.k < length a.sorted.now = omega arith in
-    let e = map_at f a.sorted.now l.k h in
-    let g = f (get_or a.sorted.now l.k 0) in (
-      omega arith,
-      q.auto.out ∙ l.invariant.1,
-      omega (arith, q.ensures.0, l.invariant.2, step-length entry [] (map f a.sorted.now) l.k (omega arith) g e),
-      step-put entry [] (map f a.sorted.now) l.k (omega arith) g e a.out.now l.out q.new.out a.at l.to s.requires.3 l.invariant.2 l.invariant.3 q.ensures.1,
+    let h : l.i-index < length a.sorted.now = omega arith in
+    let e = map_at f a.sorted.now l.i-index h in
+    let g = f (get_or a.sorted.now l.i-index 0) in (
+      omega (arith, q.ensures.0, l.invariant.0, step-length entry [] (map f a.sorted.now) l.i-index (omega arith) g e),
+      step-put entry [] (map f a.sorted.now) l.i-index (omega arith) g e a.out.now l.out q.new.out a.at l.to s.requires.3 l.invariant.0 l.invariant.1 q.ensures.1,
     )

@@ -2,7 +2,7 @@
 -- exactly (`copy_part`), or not at all.
 use Rattle.std.proofs.Common.{◌≡◌, ◌+◌, ◌-◌, ◌≤◌, length, drop, ℕ, true, List}
 use Rattle.rfc4180.specs.Read.{plain_value, field_at}
-use Rattle.rowread.specs.Steps.{piece_of, slack_of}
+use Rattle.rowread.specs.Steps.{spanned, piece_of, slack_of}
 use Rattle.rowread.proofs.exact.value.Goals as goal
 use Rattle.rowread.proofs.exact.value.Goals.{After-text_end-end}
 use native.Mathlib.Omega.{arith}
@@ -10,7 +10,6 @@ use mathlib.Core.Path.{refl, sym, ap, ◌∙◌}
 use lib.Dec.{leb}
 use lib.ListN.{take, get_or}
 use Rattle.rfc4180.specs.Csv.{quote}
-use Rattle.rowread.specs.declared.exact.Piece.TheVariants.{Value}
 use mathlib.Core.Logic.{inl, inr}
 use Rattle.rowread.specs.Steps.{value_of}
 use Rattle.base.proofs.Bools.{and_left, and_right}
@@ -52,7 +51,7 @@ module _ (c : After-text_end-end) where
   part-is : take (c.text_end-end.result - c.args.from) (drop c.args.from t) ≡ plain_value (drop c.args.from t)
   part-is = plain-part t c.args.from c.text_end-end.result c.text_end-end.ensures
 
-  piece_is : Value c.text_end-end.result (c.text_end-end.result - c.args.from) ≡ piece_of (length t) (field_at (drop c.args.from t))
+  piece_is : spanned c.text_end-end.result (c.text_end-end.result - c.args.from) ≡ piece_of (length t) (field_at (drop c.args.from t))
   piece_is = plain-piece t c.args.from c.text_end-end.result c.requires.from_in_bounds.0 plain c.text_end-end.ensures
 
   -- the value fits, with what may be overwritten after it
@@ -88,7 +87,7 @@ returns-then-ahead-t c =
 pub returns-else-ahead-t : goal.returns-else-ahead-t
 returns-else-ahead-t c =
     let x = (goal.at.returns-else-ahead-t c).After-text_end-end in
-    let e = c.copy_part.ensures.1 in
+    let e = c.copy_part.ensures in
     let w = ahead-exact _ c.args.out.now _ (take (c.text_end-end.result - c.args.from) (drop c.args.from (t x))) _ e in
     (piece_is x, record { kept = λ z. absurd (both_ways _ c.if-write.true z); same = w.0; ahead = λ z i. rw (value-is x, ← part-is x) w })
 

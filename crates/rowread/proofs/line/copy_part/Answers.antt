@@ -1,14 +1,12 @@
--- The invariant: storing the bytes from i to `end` at n gives what storing all of them at `to` gives.
-use Rattle.std.proofs.Common.{rules}
+-- The bytes from `to` on are those of t, the others stay.
+use Rattle.std.proofs.Common.{◌+◌, ◌-◌, take, drop, arith, length-take, length-drop}
 use Rattle.rowread.proofs.line.copy_part.Goals as goal
-use mathlib.Core.Path.{◌∙◌}
-use native.Mathlib.Omega.{arith}
-use lib.ListN.{get_or, length-set}
-use Rattle.rowread.proofs.Blocks.{part-next, sets-turn}
+use Rattle.rowread.proofs.Blocks.{part-put}
 
-pub loop-i-preserved : goal.loop-i-preserved
-loop-i-preserved c =
-    let l = c.loop-i in
-    let t = c.args.t.now in
-    let q = part-next t l.i c.args.end (search rules) c.requires.1 in
-    (omega arith, omega arith, omega (arith, l.invariant.0, l.invariant.2), simp length-set l.invariant.3, l.invariant.4 ∙ sets-turn l.out l.n (get_or t l.i 0) _ _ q)
+pub returns : goal.returns
+returns c =
+    let a = c.args in
+    let s = take (a.end - a.from) (drop a.from a.t.now) in
+    let n = length-take (a.end - a.from) (drop a.from a.t.now) in
+    let m = length-drop a.from a.t.now in
+    part-put a.out.now a.to (a.to + (a.end - a.from) - a.to) c.copy_from_slice.new.self s (omega (arith, n, m)) (omega (arith, n, m)) c.copy_from_slice.ensures.after

@@ -55,7 +55,7 @@ pub overflow_add-result : goal.overflow_add-result
 overflow_add-result c =
     let t = c.args.t.now in
     let e = c.in-Stop.end in
-    omega (arith, end_fits t e c.row_end-e.ensures c.if-e-eq0.false)
+    omega (arith, end_fits t e c.in-Some.ensures.0 (λ z. omega (arith, c.in-Some.ensures.1, z)))
 
 pub returns : goal.returns
 returns c =
@@ -64,6 +64,5 @@ returns c =
     let e = c.in-Stop.end in
     let n = c.in-Stop.commas in
     let w = c.copy_line.ensures in
-    let r = c.row_end-e in
     let l : e ≡ length (line_of t) = line-stop t e x.1.0 x.1.1 ∙ sym x.0.line in
-    line-holds t e r.result n c.args.width c.args.out.now c.args.ends.now _ _ l r.ensures c.if-e-eq0.false x.0.many c.if-commas-width.false (omega (arith, c.if-out-size.false)) c.if-ends-width.false w.0 w.1
+    line-holds t e c.in-Some.e n c.args.width c.args.out.now c.args.ends.now _ _ l c.in-Some.ensures.0 (λ z. omega (arith, c.in-Some.ensures.1, z)) x.0.many c.if-commas-width.false (omega (arith, c.if-out-size.false)) c.if-ends-width.false w.0 w.1

@@ -1,17 +1,21 @@
--- The invariant is `At`: the words before i were searched.
-use Rattle.std.proofs.Common.{take}
+-- A word more was searched (`At`).
+use Rattle.std.proofs.Common.{◌≡◌, ◌+◌, ◌*◌, take, arith, length-take}
 use Rattle.rowread.proofs.line.search_line.Goals as goal
-use native.Mathlib.Omega.{arith}
-use lib.ListN.{length-take}
 use Rattle.rowread.proofs.Search.{at-start}
 use Rattle.rowread.proofs.Lines.{text-size}
 
-pub loop-i-init : goal.loop-i-init
-loop-i-init c = at-start c.args.t.now c.args.marks.now
+pub loop-k-init : goal.loop-k-init
+loop-k-init c = at-start c.args.t.now c.args.marks.now
 
-pub search_word-found-requires-clause-commas_le_i :
-    goal.search_word-found-requires-clause-commas_le_i
-search_word-found-requires-clause-commas_le_i c =
-    let l = c.loop-i in
+pub search_word-requires-clause-commas_le_i :
+    goal.search_word-requires-clause-commas_le_i
+search_word-requires-clause-commas_le_i c =
+    let l = c.loop-k in
     let t = c.args.t.now in
-    omega (arith, l.invariant.many, text-size (take l.i t), length-take l.i t)
+    omega (arith, l.invariant.many, text-size (take (l.k * 8) t), length-take (l.k * 8) t)
+
+pub loop-k-preserved : goal.loop-k-preserved
+loop-k-preserved c =
+    let l = c.loop-k in
+    let z : l.k * 8 + 8 ≡ (l.k + 1) * 8 = omega arith in
+    rw z at (c.in-Commas.ensures c.args.marks.now l.invariant)

@@ -1,11 +1,7 @@
--- The words before i were searched (`At`). The measure is how many bytes are left.
-use Prim.Native.Nat.{◌-◌}
-use lib.ListN.{length}
+-- The first k words were searched (`At`).
+use Prim.Native.Nat.{◌*◌}
 use Rattle.rowread.specs.Steps.{At}
 use Rattle.rowread.proofs.line.search_line.Given as goal
 
-abbrev pub invariant-loop-i : goal.invariant-loop-i
-invariant-loop-i l = At l.t l.initial.marks l.marks l.i l.k
-
-abbrev pub decreases-loop-i : goal.decreases-loop-i
-decreases-loop-i l = length l.t - l.i
+abbrev pub invariant-loop-k : goal.invariant-loop-k
+invariant-loop-k l = At l.t l.initial.marks l.marks (l.k * 8) l.commas

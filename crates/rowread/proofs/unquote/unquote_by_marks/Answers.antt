@@ -4,7 +4,7 @@ use Rattle.std.proofs.Common.{◌≡◌, ◌+◌, ◌-◌, ◌≤◌, length, dr
 use Rattle.rowread.proofs.unquote.unquote_by_marks.Goals as goal
 use native.Mathlib.Omega.{arith}
 use Rattle.rowread.proofs.unquote.unquote_by_marks.Goals.{then-write, else-write}
-use mathlib.Core.Path.{refl, ◌∙◌}
+use mathlib.Core.Path.{◌∙◌}
 use lib.ListN.{take, length-take, length-drop}
 use lib.Seq.{sets}
 use Rattle.rowread.specs.Marks as M
@@ -28,14 +28,14 @@ copy_block-requires c =
     let u = l.invariant.2 in
     (omega (arith, h, l.invariant.1.high, l.invariant.0), block-fits c.args.write c.args.t.now l.p l.out l.n (omega (arith, u.grows, u.upto, c.requires.searched_bytes_in_bounds.1)) u.inside (un-room u c.requires.room) c.if-write.true)
 
-pub returns-then-x : goal.returns-then-x
-returns-then-x c =
+pub returns-in-Closed : goal.returns-in-Closed
+returns-in-Closed c =
     let a = c.args in
     let t = a.t.now in
     let l = c.loop-i in
     let h = c.loop-i-test.true in
-    let x = c.search_on-x.result in
-    let e = c.search_on-x.ensures in
+    let x = c.in-Closed in
+    let e = rw x.is at c.search_on-x.ensures in
     let u = l.invariant.2 in
     let o = c.if-write.out in
     let put : (a.write ≡ false → o ≡ l.out) × (a.write ≡ true → o ≡ sets l.out l.n (take 16 (drop l.p t))) =
@@ -43,11 +43,9 @@ returns-then-x c =
       | then-write y ↦ (λ f. absurd (both_ways a.write y.if-write.true f), λ f. y.out-is ∙ y.copy_block.ensures)
       | else-write y ↦ (λ f. y.out-is, λ f. absurd (both_ways a.write f y.if-write.false))
     ] in
-    let w = written-block a.write t l.out o l.p l.n x.copied put.0 put.1 (omega (arith, e.few)) (omega (arith, h, l.invariant.1.high, l.invariant.0)) in
-    let k : length (take x.copied (drop l.p t)) ≡ x.copied = omega (arith, length-take x.copied (drop l.p t), length-drop l.p t, e.few, h, l.invariant.1.high, l.invariant.0) in
-    let d = e.ends c.if-x.true in
-    let v = un-whole u (take x.copied (drop l.p t)) (x.p + 1) (l.n + x.copied - a.to) o d.0 (omega (arith, d.2)) (omega (arith, k, u.upto)) w in
-    (λ f. v, λ f. absurd (both_ways true refl f))
+    let w = written-block a.write t l.out o l.p l.n x.copied put.0 put.1 (omega (arith, e.0)) (omega (arith, h, l.invariant.1.high, l.invariant.0)) in
+    let k : length (take x.copied (drop l.p t)) ≡ x.copied = omega (arith, length-take x.copied (drop l.p t), length-drop l.p t, e.0, h, l.invariant.1.high, l.invariant.0) in
+    un-whole u (take x.copied (drop l.p t)) (x.quote + 1) (l.n + x.copied - a.to) o e.1 (omega (arith, e.3)) (omega (arith, k, u.upto)) w
 
 pub loop-i-preserved : goal.loop-i-preserved
 loop-i-preserved c =
@@ -55,8 +53,8 @@ loop-i-preserved c =
     let t = a.t.now in
     let l = c.loop-i in
     let h = c.loop-i-test.true in
-    let x = c.search_on-x.result in
-    let e = c.search_on-x.ensures in
+    let x = c.in-On in
+    let e = rw x.is at c.search_on-x.ensures in
     let u = l.invariant.2 in
     let o = c.if-write.out in
     let put : (a.write ≡ false → o ≡ l.out) × (a.write ≡ true → o ≡ sets l.out l.n (take 16 (drop l.p t))) =
@@ -64,7 +62,6 @@ loop-i-preserved c =
       | then-write y ↦ (λ f. absurd (both_ways a.write y.if-write.true f), λ f. y.out-is ∙ y.copy_block.ensures)
       | else-write y ↦ (λ f. y.out-is, λ f. absurd (both_ways a.write f y.if-write.false))
     ] in
-    let w = written-block a.write t l.out o l.p l.n x.copied put.0 put.1 (omega (arith, e.few)) (omega (arith, h, l.invariant.1.high, l.invariant.0)) in
-    let k : length (take x.copied (drop l.p t)) ≡ x.copied = omega (arith, length-take x.copied (drop l.p t), length-drop l.p t, e.few, h, l.invariant.1.high, l.invariant.0) in
-    let d = e.on c.if-x.false in
-    (omega (arith, d.4.inside), d.4, un-more u (take x.copied (drop l.p t)) x.p (l.n + x.copied) o d.0 (omega (arith, d.1, k)) d.2 (omega (arith, k)) w)
+    let w = written-block a.write t l.out o l.p l.n x.copied put.0 put.1 (omega (arith, e.0)) (omega (arith, h, l.invariant.1.high, l.invariant.0)) in
+    let k : length (take x.copied (drop l.p t)) ≡ x.copied = omega (arith, length-take x.copied (drop l.p t), length-drop l.p t, e.0, h, l.invariant.1.high, l.invariant.0) in
+    (omega (arith, e.5.inside), e.5, un-more u (take x.copied (drop l.p t)) x.following (l.n + x.copied) o e.1 (omega (arith, e.2, k)) e.3 (omega (arith, k)) w)

@@ -12,17 +12,17 @@ use lib.ListN.{drop, replicate}
 
 pub loop-i-init : goal.loop-i-init
 unfolding many
-loop-i-init c = (omega arith, refl)
+loop-i-init c = refl
 
 pub loop-i-preserved : goal.loop-i-preserved
 loop-i-preserved c =
     let l = c.loop-i in
     let a = c.args in
-    (omega arith, rw l.invariant.1 (many-set (record_at a.version) c.source_size-size.result a.l.now 48 l.i (replicate 3 c.no_source-z.result) no_source c.record_at-s.result (omega arith) c.record_at-s.ensures))
+    rw l.invariant (many-set (record_at a.version) c.source_size-size.result a.l.now 48 l.i (replicate 3 c.no_source-t.result) no_source c.record_at.result (omega arith) c.record_at.ensures)
 
 pub returns : goal.returns
 returns c =
     let l = c.loop-i in
     let a = c.args in
     let e : l.i ≡ a.n = omega arith in
-    rw e at l.invariant.1 ∙ (λ i. many (record_at a.version) (c.source_size-size.ensures.0 i) a.l.now 48 a.n ++ drop a.n (replicate 3 (c.no_source-z.ensures i))) ∙ ap (λ t. records_of a.version a.l.now a.n ++ t) (drop-new no_source 3 a.n)
+    rw e at l.invariant ∙ (λ i. many (record_at a.version) (c.source_size-size.ensures.0 i) a.l.now 48 a.n ++ drop a.n (replicate 3 (c.no_source-t.ensures i))) ∙ ap (λ t. records_of a.version a.l.now a.n ++ t) (drop-new no_source 3 a.n)
