@@ -28,12 +28,7 @@ use writer::{Stage, Step, Writer, did, in_range, stays, target};
 pub fn is_idle(s: Stage) -> bool
     ensures { result ≡ Commit.is_idle s }
 {
-    match s {
-        Stage::Idle => true,
-        Stage::Due(_) => false,
-        Stage::HeaderWritten => false,
-        Stage::Committed => false,
-    }
+    matches!(s, Stage::Idle)
 }
 
 fn with_header_written(w: Writer) -> Writer
@@ -75,8 +70,7 @@ pub fn routes_offset(ss: [Source; SOURCES]) -> u32
     ensures { result ≡ Commit.routes_offset ss }
 {
     let s = ss[0];
-    let ts = s.tables;
-    let b = ts[0];
+    let b = s.tables[0];
     b.offset
 }
 
@@ -161,12 +155,7 @@ pub fn commit(w: Writer, region: &mut [u8], stamp: Option<i64>, current: bool) -
 fn is_header_written(s: Stage) -> bool
     ensures { result ≡ Commit.is_header_written s }
 {
-    match s {
-        Stage::HeaderWritten => true,
-        Stage::Idle => false,
-        Stage::Due(_) => false,
-        Stage::Committed => false,
-    }
+    matches!(s, Stage::HeaderWritten)
 }
 
 fn committed(w: Writer) -> Writer

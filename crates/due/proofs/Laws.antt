@@ -7,12 +7,12 @@ use mathlib.Core.Logic.{◌⊎◌, inl, inr}
 use Prim.Native.Nat.{ℕ, ◌+◌, ◌-◌, ◌/◌, ◌%◌, ◌≤◌}
 use native.Mathlib.Omega.{arith}
 use lib.Dec.{eqb, leb, ltb}
-use lib.ListN.{length, take, drop, replicate, length-append}
-use lib.Seq.{sets, sets-eq, take_at, length-take-le, take-append-add}
+use lib.ListN.{length, take, length-append}
+use lib.Seq.{take_at, length-take-le, take-append-add}
 use borrow.Author.Tests.{eqb-true, eq-eqb, ne_eqb, ltb-true}
 use Rattle.base.specs.Number.{pick}
 use Rattle.base.specs.Lists.{fill}
-use Rattle.base.proofs.Lists.{fill-split, length-fill, drop-new}
+use Rattle.base.proofs.Lists.{fill-split, length-fill}
 use Rattle.region.specs.Region.{region_size, bank_size, capacity, sector_size, last_sector}
 use Rattle.base.proofs.Bools.{and_left, and_right}
 use Rattle.flash.specs.Flash.{Op, offset, size, after, performed}
@@ -38,14 +38,6 @@ take-fill : (d p k : ℕ) → p ≤ k → take p (fill d k) ≡ fill d p
 take-fill d p k h =
     let e : k ≡ p + (k - p) = omega arith in
     ap (λ (n : ℕ). take p (fill d n)) e ∙ ap (take p) (fill-split d p (k - p)) ∙ take_at (fill d p) (fill d (k - p)) p (length-fill d p)
-
-pub filled-end : (tail : List ℕ) (n : ℕ) → length tail ≡ tail_size → n ≤ tail_size → sets (replicate tail_size 255) 0 (take n tail) ≡ take n tail ++ fill 255 (tail_size - n)
-filled-end tail n l h =
-    let x : length (take n tail) ≡ n = length-take-le n tail (omega arith) in
-    let e : 0 + length (take n tail) ≡ n = omega (arith, x) in
-    sets-eq (take n tail) (replicate tail_size 255) 0 (omega (arith, x))
-    ∙ ap (λ (k : ℕ). take n tail ++ drop k (replicate tail_size 255)) e
-    ∙ ap (λ (r : List ℕ). take n tail ++ r) (drop-new 255 tail_size n)
 
 pub padded-is : (tail : List ℕ) (n m : ℕ) → length tail ≡ tail_size → n ≤ tail_size → m ≡ n + (4 - n % 4) % 4 → m ≤ tail_size → take m (take n tail ++ fill 255 (tail_size - n)) ≡ padded (take n tail)
 unfolding padded

@@ -32,11 +32,7 @@ fn filled(tail: &[u8], n: usize) -> [u8; TAIL_SIZE]
     ensures { result ≡ take n tail.now ++ fill erased_byte (tail_size - n) }
 {
     let mut t = [ERASED_BYTE; TAIL_SIZE];
-    let mut i = 0;
-    while i < n {
-        t[i] = tail[i];
-        i += 1;
-    }
+    t[..n].copy_from_slice(&tail[..n]);
     t
 }
 

@@ -22,11 +22,7 @@ fn put_tail(tail: &mut [u8; TAIL_SIZE], at: usize, bytes: &[u8])
     requires { at + length bytes.now ≤ tail_size }
     ensures { tail.new ≡ sets tail.old at bytes.now }
 {
-    let mut i = 0;
-    while i < bytes.len() {
-        tail[at + i] = bytes[i];
-        i += 1;
-    }
+    tail[at..at + bytes.len()].copy_from_slice(bytes);
 }
 
 // The answer, how many bytes are appended and at which offset of the tail, and what else they change.

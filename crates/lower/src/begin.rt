@@ -18,9 +18,6 @@ use writer::{
 pub fn started(active: Result<Option<Bank>, Refusal>, comparing: bool, now: i64) -> Writer
     ensures { result ≡ Lower.started active comparing now }
 {
-    let z = no_source();
-    let sources = [z; SOURCES];
-    let tail = [0u8; TAIL_SIZE];
     Writer {
         stage: Stage::Idle,
         beginning: Beginning {
@@ -42,8 +39,8 @@ pub fn started(active: Result<Option<Bank>, Refusal>, comparing: bool, now: i64)
             crc: 0,
             begun: 0,
         },
-        sources,
-        tail,
+        sources: [no_source(); SOURCES],
+        tail: [0; TAIL_SIZE],
     }
 }
 

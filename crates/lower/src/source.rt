@@ -9,7 +9,7 @@ ghost use Rattle.lower.specs.Lower as Lower;
 use crate::{is_open, may_append_parts};
 use base::table::TABLES;
 use header::{SOURCES, SOURCES_32};
-use record::{Block, Source};
+use record::{NO_BLOCK, Source};
 use refusal::Refusal;
 use writer::{
     Beginning, NO_TABLE, Parts, PartsStep, Step, Tables, Writer, is_done, parts_did, parts_of,
@@ -19,13 +19,10 @@ use writer::{
 fn emptied(s: Source) -> Source
     ensures { result ≡ Lower.emptied s }
 {
-    let b = Block {
-        offset: 0,
-        length: 0,
-        crc: 0,
-    };
-    let tables = [b; TABLES];
-    Source { tables, ..s }
+    Source {
+        tables: [NO_BLOCK; TABLES],
+        ..s
+    }
 }
 
 // Begins a source. Its record is for the sources: `sources_with` stores it.

@@ -15,7 +15,7 @@ ghost use Rattle.base.specs.Table.{last_table};
 use crate::{may_append_parts, may_begin, may_end_parts};
 use base::table::LAST_TABLE;
 use header::{SOURCES, SOURCES_32};
-use record::{Block, Source};
+use record::{Block, NO_BLOCK, Source};
 use refusal::Refusal;
 use writer::{
     Beginning, NO_TABLE, Parts, PartsStep, Step, Tables, Writer, is_done, parts_did, parts_of,
@@ -100,12 +100,10 @@ pub fn end_parts(b: Beginning, p: Parts) -> EndStep
 {
     if !may_end_parts(b, p) {
         let step = parts_stay(p, Refusal::Turn);
-        let block = Block {
-            offset: 0,
-            length: 0,
-            crc: 0,
+        return EndStep {
+            step,
+            block: NO_BLOCK,
         };
-        return EndStep { step, block };
     }
     let block = block_of(p);
     let x = p.tables;

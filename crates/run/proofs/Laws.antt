@@ -3,11 +3,10 @@
 use mathlib.Core.Path.{◌≡◌, refl, sym, ap, ◌∙◌}
 use mathlib.Core.Bool.{Bool, true, false, ◌&&◌}
 use mathlib.Core.List.{List, [], ◌∷◌, ◌++◌}
-use Prim.Native.Nat.{ℕ, ◌+◌, ◌-◌, ◌≤◌}
+use Prim.Native.Nat.{ℕ, ◌≤◌}
 use native.Mathlib.Omega.{arith}
 use lib.Dec.{eqb}
-use lib.ListN.{length, take, drop, length-drop, drop_of_length-le}
-use lib.Seq.{take_all, drop-drop}
+use lib.ListN.{length, take, drop, drop_of_length-le}
 use Rattle.base.specs.Number.{pick}
 use Rattle.refusal.specs.declared.Refusal.TheVariants.{Region, Turn}
 use Rattle.region.specs.Region.{region_size}
@@ -131,15 +130,6 @@ one-fed region w (x ∷ xs) h s e v r a b = (
 )
 
 -- ---- the loop that appends all bytes
-
-pub rest-is : (bs : List ℕ) (i : ℕ) → i ≤ length bs → take (length bs - i) (drop i bs) ≡ drop i bs
-rest-is bs i h = take_all (length bs - i) (drop i bs) (omega (arith, length-drop i bs))
-
-module _ {A : Type 0} (f g : List ℕ → A) (x : A) (bs : List ℕ) (i n : ℕ) where
-  pub fed-more : i ≤ length bs → g (drop n (take (length bs - i) (drop i bs))) ≡ f (take (length bs - i) (drop i bs)) → f (drop i bs) ≡ x → g (drop (i + n) bs) ≡ x
-  fed-more h e k =
-      let r = rest-is bs i h in
-      ap g (sym (drop-drop n i bs)) ∙ ap (λ (l : List ℕ). g (drop n l)) (sym r) ∙ e ∙ ap f r ∙ k
 
 module _ (region : List ℕ) (w : Writer) (bs : List ℕ) (i : ℕ) (h : length bs ≤ i) where
   pub fed-all-writer : (x : Writer) → ran_writer region w (appends (drop i bs)) ≡ x → w ≡ x

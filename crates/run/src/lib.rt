@@ -139,12 +139,11 @@ fn append_all_parts(
     ensures { PartsRun.Ran region.old b p tail.old (Appends.appends bytes.now) result tail.new region.new }
 {
     let mut q = p;
-    let mut i: usize = 0;
-    while i < bytes.len() {
-        let rest = &bytes[i..];
+    let mut rest = bytes;
+    while !rest.is_empty() {
         let f = append_some(b, q, tail, region, rest);
         q = f.parts;
-        i += f.n;
+        rest = &rest[f.n..];
     }
     q
 }

@@ -1,7 +1,6 @@
 -- The stored bytes at the offset are a part of the bank after its header sector; past the bank's length, or if a byte is different, it
 -- differs.
-use Rattle.std.proofs.Common.{List, ℕ, ◌+◌, length, take, Bool}
-use Rattle.base.specs.Lists.{fill}
+use Rattle.std.proofs.Common.{List, ℕ, ◌+◌, take, Bool}
 use Rattle.region.specs.Region.{sector_size}
 use Rattle.due.proofs.differs_from.Goals as goal
 use mathlib.Core.Path.{ap, ◌∙◌}

@@ -1,5 +1,5 @@
 -- One write of the padded tail on the bank that isn't active (`one-op`), which is inside; the state after it is `written-tail`.
-use Rattle.std.proofs.Common.{ℕ, ◌+◌, length, take}
+use Rattle.std.proofs.Common.{ℕ, ◌+◌, take}
 use Rattle.flash.specs.Flash.{written_in}
 use Rattle.writer.specs.Parts.{whole_of, step_with}
 use Rattle.region.specs.Region.{sector_size}

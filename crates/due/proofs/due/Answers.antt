@@ -1,5 +1,5 @@
 -- The call on a whole state is the call on its parts; the sources and the tail stay.
-use Rattle.writer.specs.Parts.{whole_of, step_with}
+use Rattle.writer.specs.Parts.{whole_of}
 use Rattle.due.proofs.due.Goals as goal
 use mathlib.Core.Path.{ap, ◌∙◌}
 use Rattle.writer.specs.declared.Parts.{Parts}

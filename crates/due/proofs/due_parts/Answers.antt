@@ -1,6 +1,5 @@
 -- One case for each guard: the region's length, the state's ranges; then what the stage has due. It holds of whatever sources the state
 -- has.
-use Rattle.std.proofs.Common.{true, false}
 use Rattle.writer.specs.Parts.{whole_of, step_with}
 use Rattle.due.proofs.due_parts.Goals as goal
 use mathlib.Core.Path.{sym, ap, ◌∙◌}

@@ -1,10 +1,8 @@
 -- One case for each operation. The ranges say that sector, offset and length are inside the bank (`erase-ranged`, `write-ranged`); a
 -- comparison does no flash operation.
 use Rattle.std.proofs.Common.{[]}
-use Rattle.base.specs.Lists.{fill}
 use Rattle.flash.specs.Flash.{performed}
 use Rattle.writer.specs.Parts.{whole_of}
-use Rattle.due.specs.Due as Due
 use Rattle.due.proofs.operate.Goals as goal
 use mathlib.Core.Path.{sym, ap, ◌∙◌}
 use Rattle.writer.specs.declared.Operation.{Operation}

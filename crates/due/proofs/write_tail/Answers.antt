@@ -1,5 +1,5 @@
 -- A length that is a multiple of 4 needs no padding (`padded-whole`); any other is filled up with 255 first (`padded-is`).
-use Rattle.std.proofs.Common.{rules, ◌≡◌, true, List, ℕ, ◌+◌, ◌-◌, length, take}
+use Rattle.std.proofs.Common.{rules, ◌≡◌, List, ℕ, ◌+◌, ◌-◌, length, take}
 use Rattle.flash.specs.Flash.{written_in}
 use Rattle.region.specs.Region.{sector_size}
 use Rattle.writer.specs.State.{tail_size}

@@ -1,4 +1,3 @@
-use Rattle.std.proofs.Common.{false}
 use Rattle.lower.proofs.begun_in.Goals as goal
 use mathlib.Core.Path.{refl}
 use Rattle.writer.specs.State.{begun_in}

@@ -1,6 +1,6 @@
 -- If the lower call appends the line, that one call does what the run does (`line-counted`); else the tail is unchanged (`tail-kept`), and the
 -- due calls come first, as in the definition.
-use Rattle.std.proofs.Common.{true, false, ◌++◌, ℕ, List}
+use Rattle.std.proofs.Common.{◌++◌, ℕ, List}
 use Rattle.run.proofs.append_short_line.Goals as goal
 use mathlib.Core.Path.{sym, subst, ◌∙◌}
 use Rattle.run.specs.Appends.{dues, appends}

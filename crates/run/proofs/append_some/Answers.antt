@@ -1,6 +1,6 @@
 -- The lower call answers how many bytes it appended. If any, the state was in order and they fit, so the chunk leaves what its bytes one by
 -- one leave (`chunk-counted`); else the tail is unchanged (`tail-kept`), and one byte is appended, which the run may refuse as well.
-use Rattle.std.proofs.Common.{true, false, ℕ, List}
+use Rattle.std.proofs.Common.{ℕ, List}
 use Rattle.run.proofs.append_some.Goals as goal
 use mathlib.Core.Path.{sym, subst, ◌∙◌}
 use Rattle.run.specs.PartsRun.{AfterAppend}

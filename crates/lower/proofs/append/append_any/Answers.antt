@@ -1,6 +1,6 @@
 -- One case for each guard: order, then capacity; else as many bytes as the tail has space for are appended. It holds of whatever sources
 -- the state has.
-use Rattle.std.proofs.Common.{true, false, []}
+use Rattle.std.proofs.Common.{[]}
 use Rattle.writer.specs.Parts.{whole_of, step_with}
 use Rattle.lower.specs.Appended.{step_appended, tail_appended}
 use Rattle.lower.proofs.append.append_any.Goals as goal

@@ -1,5 +1,4 @@
 -- While an operation is due none is appended (`appended-none`); else the first n that fit are (`appended-some`).
-use Rattle.std.proofs.Common.{true, false}
 use Rattle.writer.specs.Parts.{whole_of, step_with}
 use Rattle.lower.specs.Appended.{parts_appended, step_appended, tail_appended}
 use Rattle.lower.proofs.append.append_some.Goals as goal

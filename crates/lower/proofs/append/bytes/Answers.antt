@@ -1,4 +1,4 @@
-use Rattle.writer.specs.Parts.{whole_of, step_with}
+use Rattle.writer.specs.Parts.{whole_of}
 use Rattle.lower.proofs.append.bytes.Goals as goal
 use mathlib.Core.Path.{ap, ◌∙◌}
 use Rattle.writer.specs.declared.Parts.{Parts}

@@ -1,5 +1,5 @@
 -- Both CRCs go on over the n bytes, the tail's fill grows by n, and the stage follows: together `with_bytes`.
-use Rattle.std.proofs.Common.{ℕ, ◌+◌, length, take}
+use Rattle.std.proofs.Common.{ℕ, ◌+◌, take}
 use Rattle.std.proofs.lemmas.List.Edits.{sets}
 use Rattle.lower.proofs.append.first_appended.Goals as goal
 use mathlib.Core.Path.{refl, sym, ap, ◌∙◌}

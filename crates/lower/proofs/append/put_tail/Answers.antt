@@ -1,10 +1,10 @@
--- The invariant: the first i bytes are stored in the tail at `at` (`bytes-more`).
+-- The bytes between what is before the offset and what is after them are the bytes stored (`sets-part`).
+use Rattle.std.proofs.Common.{◌+◌, ◌-◌, length, arith}
+use Rattle.record.proofs.Laws.{sets-part}
 use Rattle.lower.proofs.append.put_tail.Goals as goal
-use native.Mathlib.Omega.{arith}
-use Rattle.base.proofs.Lists.{bytes-more}
 
-pub loop-i-preserved : goal.loop-i-preserved
-loop-i-preserved c =
+pub returns : goal.returns
+returns c =
     let a = c.args in
-    let l = c.loop-i in
-    (omega arith, rw l.invariant.1 (bytes-more a.bytes.now l.i a.at a.tail.now (omega arith)))
+    let bs = a.bytes.now in
+    rw c.copy_from_slice.ensures.after (sets-part a.tail.now bs a.at (a.at + length bs - a.at) (omega arith) (omega arith))

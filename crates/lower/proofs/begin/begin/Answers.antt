@@ -1,5 +1,5 @@
 -- The answer and the state follow from what load gives; the time is held as it is, since it fits an i64.
-use Rattle.std.proofs.Common.{w64, to_z, of_z}
+use Rattle.std.proofs.Common.{w64}
 use Rattle.lower.proofs.begin.begin.Goals as goal
 use mathlib.Core.Path.{ap, ◌∙◌}
 use mir.ValLaws.{to_z-of_z}

@@ -1,5 +1,4 @@
 -- Two cases: closed, or out of order and unchanged.
-use Rattle.std.proofs.Common.{true, false}
 use Rattle.writer.specs.Parts.{whole_of, step_with}
 use Rattle.lower.proofs.begin.close_parts.Goals as goal
 use mathlib.Core.Path.{ap, ◌∙◌}

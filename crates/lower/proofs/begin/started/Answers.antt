@@ -1,5 +1,5 @@
 -- The state field by field; new arrays are the definition's fills (`replicate-fill`).
-use Rattle.std.proofs.Common.{ℕ, false, w64, to_z, of_z}
+use Rattle.std.proofs.Common.{ℕ, false, w64}
 use Rattle.lower.proofs.begin.started.Goals as goal
 use mathlib.Core.Path.{ap, ◌∙◌}
 use mir.ValLaws.{to_z-of_z}
@@ -16,7 +16,7 @@ unfolding started
 returns c =
     let a = c.args in
     let z = to_z-of_z w64 a.now c.ranges.now in
-    let ss = ap (replicate max_sources) c.no_source-z.ensures ∙ replicate-fill no_source max_sources in
+    let ss = ap (replicate max_sources) c.no_source.ensures ∙ replicate-fill no_source max_sources in
     let ts = replicate-fill {A = ℕ} 0 tail_size in
     λ i. record {
       stage = Idle;

@@ -1,5 +1,4 @@
 -- The stage stays while an operation is due; else it follows from the contents that are closed.
-use Rattle.std.proofs.Common.{true, false}
 use Rattle.lower.proofs.begin.with_closed.Goals as goal
 use mathlib.Core.Path.{sym, ap, ◌∙◌}
 use Rattle.writer.specs.declared.Stage.{Stage}

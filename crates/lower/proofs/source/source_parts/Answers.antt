@@ -1,5 +1,4 @@
 -- Three cases: begun, full after three sources, out of order. A refused call leaves the state.
-use Rattle.std.proofs.Common.{true, false}
 use Rattle.writer.specs.Parts.{whole_of, step_with}
 use Rattle.writer.specs.State.{is_done}
 use Rattle.lower.proofs.source.source_parts.Goals as goal

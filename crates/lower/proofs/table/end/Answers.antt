@@ -1,7 +1,6 @@
 use Rattle.std.proofs.Common.{List, Bool}
 use Rattle.record.specs.declared.Source.{Source}
 use Rattle.writer.specs.Parts.{whole_of, step_with}
-use Rattle.writer.specs.State.{is_done}
 use Rattle.lower.proofs.table.end.Goals as goal
 use mathlib.Core.Path.{ap, ◌∙◌}
 use Rattle.writer.specs.declared.Parts.{Parts}

@@ -1,5 +1,5 @@
 -- Two cases: ended, or out of order and unchanged. The ranges give the bounds that `block_of` requires.
-use Rattle.std.proofs.Common.{true, false, []}
+use Rattle.std.proofs.Common.{[]}
 use Rattle.base.specs.Number.{pick}
 use Rattle.record.specs.Record.{no_block}
 use Rattle.writer.specs.Parts.{whole_of, step_with}

@@ -1,5 +1,5 @@
 -- Three cases: begun, out of order, no such table. The ranges give the bound on the position that `with_table` requires.
-use Rattle.std.proofs.Common.{true, false, []}
+use Rattle.std.proofs.Common.{[]}
 use Rattle.writer.specs.Parts.{whole_of, step_with}
 use Rattle.lower.proofs.table.table_parts.Goals as goal
 use mathlib.Core.Path.{ap, ◌∙◌}
