@@ -4,10 +4,12 @@ use mathlib.Core.Path.{◌≡◌, refl, ap, ◌∙◌, sym}
 use mathlib.Core.List.{List, [], ◌∷◌, ◌++◌, append_assoc, append-nil}
 use Prim.Native.Nat.{ℕ, suc, zero, ◌+◌, ◌*◌, ◌-◌, ◌<◌, ◌≤◌}
 use native.Mathlib.Omega.{arith}
-use native.Mathlib.Nat.{add-zero, zero-add, suc-add, suc-mul, zero-sub, zero-mul}
+use native.Mathlib.Nat.{add-zero, zero-add, suc-add, suc-mul, mul-suc, mul-zero, zero-sub, zero-mul}
 use native.Mathlib.Numerals.{add-one, unary_clauses}
 use lib.ListN.{length, set, get_or, drop, take, length-append, length-drop, replicate}
-use lib.Seq.{sets, sets-eq, take_at, drop_at, take-suc, length-take-le, set_at, drop-cons, append_snoc}
+use lib.Seq.{sets, sets-eq, take_at, drop_at, take-suc, length-take-le, set_at, drop-cons, append_snoc, drop-drop, take-take}
+use Rattle.std.proofs.lemmas.List.{drop-take}
+use Rattle.std.specs.Simd.{first_chunks}
 use Rattle.base.specs.Lists.{many, puts, fill}
 
 module _ {A : Type 0} (f : List ℕ → ℕ → A) (step : ℕ) (l : List ℕ) where
@@ -131,3 +133,35 @@ sets-mid p x v q k e f =
     let g : p ++ (x ++ q) ≡ (p ++ x) ++ q = simp append_assoc in
     let d : drop (k + length v) (p ++ (x ++ q)) ≡ q = rw g (drop_at (p ++ x) q (k + length v) (length-append p x ∙ omega arith)) in
     sets-eq v (p ++ (x ++ q)) k (omega arith) ∙ rw (take_at p (x ++ q) k e, d) (append_assoc p v q)
+
+-- what `as_chunks` gives at an index
+pub chunk-at : {A : Type 0} (d : List A) (n k : ℕ) (l : List A) (i : ℕ) → i < k → get_or (first_chunks n k l) i d ≡ take n (drop (n * i) l)
+chunk-at d n zero l i h = absurd (omega arith)
+chunk-at d n (suc k) l zero h = rw (mul-zero n)
+chunk-at d n (suc k) l (suc i) h = let g : i < k = omega arith in let e : n * i + n ≡ n + n * i = omega arith in rw (mul-suc n i) (chunk-at d n k (drop n l) i g ∙ ap (take n) (drop-drop (n * i) n l ∙ rw e))
+
+-- a part of a part
+pub part-part : {A : Type 0} (m k n i : ℕ) (l : List A) → k + m ≤ n → take m (drop k (take n (drop i l))) ≡ take m (drop (i + k) l)
+part-part {A} m k n i l h =
+    let e : n ≡ k + (n - k) = omega arith in
+    ap (λ (z : ℕ). take m (drop k (take z (drop i l)))) e
+    ∙ ap (take m) (drop-take k (n - k) (drop i l))
+    ∙ take-take m (n - k) (drop k (drop i l)) (omega arith)
+    ∙ ap (take m) (drop-drop k i l)
+
+-- a part of what `as_chunks` gives of a part, at an index
+pub chunk-part : {A : Type 0} (d : List A) (m k n j t at i : ℕ) (l : List A) → k + m ≤ n → i < j → n * i + n ≤ t
+    → take m (drop k (get_or (first_chunks n j (take t (drop at l))) i d)) ≡ take m (drop (at + (n * i + k)) l)
+chunk-part {A} d m k n j t at i l h g b =
+    ap (λ (c : List A). take m (drop k c)) (chunk-at d n j (take t (drop at l)) i g)
+    ∙ part-part m k n (n * i) (take t (drop at l)) h
+    ∙ part-part m (n * i + k) t at l (omega arith)
+
+-- what `as_chunks` gives of the first t elements, at an index
+pub chunk-of : {A : Type 0} (d : List A) (n j t i : ℕ) (l : List A) → i < j → n * i + n ≤ t → get_or (first_chunks n j (take t l)) i d ≡ take n (drop (n * i) l)
+chunk-of {A} d n j t i l h b = chunk-at d n j (take t l) i h ∙ part-part n (n * i) t 0 l b ∙ ap (λ (k : ℕ). take n (drop k l)) (zero-add (n * i))
+
+-- the same of t elements from `at` on
+pub chunk-in : {A : Type 0} (d : List A) (n j t at i : ℕ) (l : List A) → i < j → n * i + n ≤ t
+    → get_or (first_chunks n j (take t (drop at l))) i d ≡ take n (drop (at + n * i) l)
+chunk-in d n j t at i l h b = chunk-of d n j t i (drop at l) h b ∙ ap (take n) (drop-drop (n * i) at l)

@@ -3,10 +3,10 @@
 -- (Steps.antt).
 use mathlib.Core.Path.{◌≡◌, refl, sym, ap, ap₂, ◌∙◌}
 use mathlib.Core.List.{List, [], ◌∷◌, map}
-use Prim.Native.Nat.{ℕ, zero, ◌+◌, ◌-◌, ◌*◌, ◌/◌, ◌%◌, ◌^◌, ◌<◌, ◌≤◌}
+use Prim.Native.Nat.{ℕ, ◌+◌, ◌-◌, ◌*◌, ◌/◌, ◌%◌, ◌^◌, ◌<◌, ◌≤◌}
 use native.Mathlib.Nat.{mod-lt, add_comm, add_assoc, zero-add, mul-div-mul_right, lt_of_le_of_lt}
 use native.Mathlib.Omega.{arith}
-use lib.Pow.{pow_pos, pow-add, split, high, low, shr_le}
+use lib.Pow.{pow_pos, pow-add, high, low, shr_le}
 use lib.Bits.{bit_xor, xor_comm, xor_zero_r, xor_shifted, xor_block, xor_lt}
 use lib.ListN.{length, take, drop, get_or, length-drop, take-append-drop}
 use lib.Seq.{length-take-le, drop-drop, drop-cons}

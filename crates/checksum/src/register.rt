@@ -23,8 +23,6 @@ const TWO_WORDS: usize = 2 * LONG_BYTES;
 
 const FIVE_WORDS: usize = 5 * LONG_BYTES;
 
-const SEVEN_WORDS: usize = 7 * LONG_BYTES;
-
 // Pending words: what folds have added to the next two, three or five words of the input.
 #[derive(Clone, Copy)]
 struct Two {
@@ -70,15 +68,14 @@ fn steps64(x: u64) -> u32
     ensures { result ≡ steps long_bits x }
 {
     let mut r: u32 = 0;
-    let mut row = DIGITS;
-    while 0 < row {
-        row -= 1;
+    for row in (0..DIGITS).rev() {
         r = r ^ digit_steps(row, ((x >> (DIGIT_BITS * row)) % DIGIT_VALUES) as u32);
     }
     r
 }
 
 // The lowest nibble after 4 steps.
+#[tactic(auto, unfolding(crate::specs::Register::steps, crate::specs::Register::step))]
 fn after4(x: u32) -> u32
     ensures { result ≡ steps nibble_bits (x % nibbles) }
 {
@@ -139,10 +136,8 @@ fn feed_bytes(crc: u32, s: &[u8]) -> u32
     ensures { result ≡ run crc s.now }
 {
     let mut c = crc;
-    let mut k = 0;
-    while k < s.len() {
-        c = byte(c, s[k]);
-        k += 1;
+    for b in s {
+        c = byte(c, *b);
     }
     c
 }
@@ -255,11 +250,10 @@ fn fold_all(b: Begun, s: &[u8]) -> FiveAt
         d: f.d,
         e: f.e,
     };
-    let mut i = b.at;
-    while SEVEN_WORDS <= s.len() - i {
-        let q = fold_into_five(p, load(s, i));
-        p = fold_into_five(q, load(s, i + LONG_BYTES));
-        i += TWO_WORDS;
+    let (pairs, _) = s[b.at..s.len() - FIVE_WORDS].as_chunks::<TWO_WORDS>();
+    for pair in pairs {
+        let q = fold_into_five(p, load(pair, 0));
+        p = fold_into_five(q, load(pair, LONG_BYTES));
     }
     FiveAt {
         a: p.a,
@@ -267,7 +261,7 @@ fn fold_all(b: Begun, s: &[u8]) -> FiveAt
         c: p.c,
         d: p.d,
         e: p.e,
-        at: i,
+        at: b.at + TWO_WORDS * pairs.len(),
     }
 }
 
@@ -342,18 +336,18 @@ fn finish(b: Begun, s: &[u8]) -> u32
     requires added_lt_word_values { b.at ≡ length s.now → b.added < word_values }
     ensures { result ≡ run (after b.word b.added) (drop b.at s.now) }
 {
+    let (words, _) = s[b.at..].as_chunks::<LONG_BYTES>();
+    let mut left = words.iter();
     let mut c: u32 = 0;
     let mut word = b.word;
     let mut added = b.added;
-    let mut i = b.at;
     loop {
-        c = steps64(word ^ u32_to_u64(c));
-        if i == s.len() {
+        c = steps64(word ^ u64::from(c));
+        let Some(next) = left.next() else {
             return c ^ (added as u32);
-        }
-        word = load(s, i) ^ added;
+        };
+        word = load(next, 0) ^ added;
         added = 0;
-        i += LONG_BYTES;
     }
 }
 

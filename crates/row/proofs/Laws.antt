@@ -27,10 +27,8 @@ pub sets-front : (b v : List ℕ) → length v ≤ length b → take (length v) 
 sets-front b v h = ap (take (length v)) (sets-eq v b 0 (omega arith)) ∙ take-append_seam v (drop (0 + length v) b)
 
 -- k more bytes of v after the first i
-pub copy_more : (out v : List ℕ) (to i k : ℕ) → i ≤ length v → sets (sets out to (take i v)) (to + i) (take (i + k - i) (drop i v)) ≡ sets out to (take (i + k) v)
-copy_more out v to i k h =
-    let n : i + k - i ≡ k = omega arith in
-    rw n (next out (take i v) (take k (drop i v)) to i (length-take-le i v h) ∙ ap (sets out to) (sym (take-add i k v)))
+pub copy_more : (out v : List ℕ) (to i k : ℕ) → i ≤ length v → sets (sets out to (take i v)) (to + i) (take k (drop i v)) ≡ sets out to (take (i + k) v)
+copy_more out v to i k h = next out (take i v) (take k (drop i v)) to i (length-take-le i v h) ∙ ap (sets out to) (sym (take-add i k v))
 
 -- the first j bytes of v, and then those from i on: an overlap is stored twice
 pub copy-overlap : (out v : List ℕ) (to i j : ℕ) → i ≤ j → j ≤ length v → sets (sets out to (take j v)) (to + i) (drop i v) ≡ sets out to v
@@ -115,20 +113,15 @@ special-overlap v m n h =
     rw (f, g) (sym (special-split n v ∙ rw f (or-twice a b c)))
 
 -- k more bytes after the first i, none special
-pub special-more : (v : List ℕ) (i k : ℕ) → any_special (take i v) ≡ false → any_special (take (i + k - i) (drop i v)) ≡ false → any_special (take (i + k) v) ≡ false
-special-more v i k e f =
-    let n : i + k - i ≡ k = omega arith in
-    let g : any_special (take k (drop i v)) ≡ false = rw n at f in
-    ap any_special (take-add i k v) ∙ special-append (take i v) (take k (drop i v)) ∙ rw (e, g)
+pub special-more : (v : List ℕ) (i k : ℕ) → any_special (take i v) ≡ false → any_special (take k (drop i v)) ≡ false → any_special (take (i + k) v) ≡ false
+special-more v i k e f = ap any_special (take-add i k v) ∙ special-append (take i v) (take k (drop i v)) ∙ rw (e, f)
 
 pub special-inside : (v : List ℕ) (i k : ℕ) → any_special (take k (drop i v)) ≡ true → true ≡ any_special v
 special-inside v i k e = sym (special-split i v ∙ rw (special-split k (drop i v), e) (or-true (any_special (take i v))))
 
--- a part of bytes that aren't special
-pub special-part : (v : List ℕ) (i k : ℕ) → any_special v ≡ false → any_special (take k (drop i v)) ≡ false
-special-part v i k e =
-    let r = or-none (any_special (take i v)) (any_special (drop i v)) (sym (special-split i v) ∙ e) in
-    (or-none (any_special (take k (drop i v))) (any_special (drop k (drop i v))) (sym (special-split k (drop i v)) ∙ r.1)).0
+-- both parts of bytes that aren't special
+pub special-parts : (v : List ℕ) (i : ℕ) → any_special v ≡ false → (any_special (take i v) ≡ false) × (any_special (drop i v) ≡ false)
+special-parts v i e = or-none (any_special (take i v)) (any_special (drop i v)) (sym (special-split i v) ∙ e)
 
 pub special-none : (v : List ℕ) → length v ≡ 0 → false ≡ any_special v
 unfolding any_special
@@ -166,16 +159,11 @@ doubled-split (suc n) (b ∷ v) = go (eqb b quote) (doubled-split n v)
     go false e = ap (λ (l : List ℕ). b ∷ l) e
 
 -- k bytes from an offset on, and those after them
-doubled-part : (v : List ℕ) (i k : ℕ) → doubled (drop i v) ≡ doubled (take (i + k - i) (drop i v)) ++ doubled (drop (i + k) v)
-doubled-part v i k =
-    let n : i + k - i ≡ k = omega arith in
-    rw n (doubled-split k (drop i v) ∙ rw (drop-drop k i v))
+doubled-part : (v : List ℕ) (i k : ℕ) → doubled (drop i v) ≡ doubled (take k (drop i v)) ++ doubled (drop (i + k) v)
+doubled-part v i k = doubled-split k (drop i v) ∙ rw (drop-drop k i v)
 
-pub part_length : (v : List ℕ) (i k : ℕ) → k ≤ length v - i → length (take (i + k - i) (drop i v)) ≡ k
-part_length v i k h = let n : i + k - i ≡ k = omega arith in rw n (omega (arith, length-take k (drop i v), length-drop i v))
-
-pub rest-is : (v : List ℕ) (i : ℕ) → take (length v - i) (drop i v) ≡ drop i v
-rest-is v i = take_all (length v - i) (drop i v) (omega (arith, length-drop i v))
+pub part_length : (v : List ℕ) (i k : ℕ) → k ≤ length v - i → length (take k (drop i v)) ≡ k
+part_length v i k h = omega (arith, length-take k (drop i v), length-drop i v)
 
 pub doubled-quote : (v : List ℕ) (i : ℕ) → i < length v → get_or v i 0 ≡ quote → doubled (drop i v) ≡ quote ∷ get_or v i 0 ∷ doubled (drop (i + 1) v)
 unfolding doubled
@@ -233,11 +221,9 @@ module _ (v : List ℕ) (i q : ℕ) (h : i < length v) (z : q ≡ pick (eqb (get
           rw (a, b, set-set out (n + i) quote (get_or v i 0)) (sets-one out (n + i) (get_or v i 0) _ _ (doubled-byte v i h (eqb-false (get_or v i 0) quote e)))
 
 -- k more bytes without a quote after the first i
-pub plain_more : (v : List ℕ) (i k : ℕ) → doubled v ≡ take i v ++ doubled (drop i v) → has quote (take (i + k - i) (drop i v)) ≡ false → doubled v ≡ take (i + k) v ++ doubled (drop (i + k) v)
+pub plain_more : (v : List ℕ) (i k : ℕ) → doubled v ≡ take i v ++ doubled (drop i v) → has quote (take k (drop i v)) ≡ false → doubled v ≡ take (i + k) v ++ doubled (drop (i + k) v)
 plain_more v i k e q =
-    let n : i + k - i ≡ k = omega arith in
-    let f : has quote (take k (drop i v)) ≡ false = rw n at q in
-    let d : doubled (drop i v) ≡ take k (drop i v) ++ doubled (drop (i + k) v) = (rw n at (doubled-part v i k)) ∙ ap (λ (l : List ℕ). l ++ doubled (drop (i + k) v)) (doubled-plain (take k (drop i v)) f) in
+    let d : doubled (drop i v) ≡ take k (drop i v) ++ doubled (drop (i + k) v) = doubled-part v i k ∙ ap (λ (l : List ℕ). l ++ doubled (drop (i + k) v)) (doubled-plain (take k (drop i v)) q) in
     e ∙ ap (λ (l : List ℕ). take i v ++ l) d ∙ sym (append_assoc (take i v) (take k (drop i v)) (doubled (drop (i + k) v)))
     ∙ ap (λ (l : List ℕ). l ++ doubled (drop (i + k) v)) (sym (take-add i k v))
 
@@ -249,26 +235,19 @@ plain-left v out o to i h e f =
     (omega (arith, ap length e, length-append (take i v) (doubled (drop i v)), n), rw (f, e) (next out (take i v) (doubled (drop i v)) to i n))
 
 -- k more bytes are stored, quotes doubled, of those left from i on
-module _ (v out o : List ℕ) (i k n r : ℕ) (e : r ≡ n + length (doubled (take (i + k - i) (drop i v)))) where
+module _ (v out o : List ℕ) (i k n r : ℕ) (e : r ≡ n + length (doubled (take k (drop i v)))) where
   pub part-size : n + length (doubled (drop i v)) ≡ r + length (doubled (drop (i + k) v))
-  part-size = omega (arith, ap length (doubled-part v i k), length-append (doubled (take (i + k - i) (drop i v))) (doubled (drop (i + k) v)))
+  part-size = omega (arith, ap length (doubled-part v i k), length-append (doubled (take k (drop i v))) (doubled (drop (i + k) v)))
 
-  pub part-sets : o ≡ sets out n (doubled (take (i + k - i) (drop i v))) → sets out n (doubled (drop i v)) ≡ sets o r (doubled (drop (i + k) v))
-  part-sets f = ap (sets out n) (doubled-part v i k) ∙ sets-append out n (doubled (take (i + k - i) (drop i v))) (doubled (drop (i + k) v)) ∙ rw (f, e)
+  pub part-sets : o ≡ sets out n (doubled (take k (drop i v))) → sets out n (doubled (drop i v)) ≡ sets o r (doubled (drop (i + k) v))
+  part-sets f = ap (sets out n) (doubled-part v i k) ∙ sets-append out n (doubled (take k (drop i v))) (doubled (drop (i + k) v)) ∙ rw (f, e)
 
--- quotes counted in 64 more bytes, and in the rest
-pub count_turn : (v : List ℕ) (i n q : ℕ) → 64 ≤ length v - i → q + length (take (i + 64 - i) (drop i v)) ≡ length (doubled (take (i + 64 - i) (drop i v)))
-    → n + length (doubled (drop i v)) ≡ length (doubled v) + (length v - i) → n + q + length (doubled (drop (i + 64) v)) ≡ length (doubled v) + (length v - (i + 64))
-count_turn v i n q h e f =
-    let d = ap length (doubled-part v i 64) ∙ length-append (doubled (take (i + 64 - i) (drop i v))) (doubled (drop (i + 64) v)) in
-    omega (arith, d, e, f, part_length v i 64 h)
-
-pub count-end : (v : List ℕ) (i n q : ℕ) → i ≤ length v → q + length (take (length v - i) (drop i v)) ≡ length (doubled (take (length v - i) (drop i v)))
-    → n + length (doubled (drop i v)) ≡ length (doubled v) + (length v - i) → n + q ≡ length (doubled v)
-count-end v i n q h e f =
-    let d = ap length (rest-is v i) in
-    let g = ap (λ (l : List ℕ). length (doubled l)) (rest-is v i) in
-    omega (arith, d, e, f, g, length-drop i v)
+-- quotes counted in k more bytes
+pub count_turn : (v : List ℕ) (i k n q : ℕ) → k ≤ length v - i → q + length (take k (drop i v)) ≡ length (doubled (take k (drop i v)))
+    → n + length (doubled (drop i v)) ≡ length (doubled v) + (length v - i) → n + q + length (doubled (drop (i + k) v)) ≡ length (doubled v) + (length v - (i + k))
+count_turn v i k n q h e f =
+    let d = ap length (doubled-part v i k) ∙ length-append (doubled (take k (drop i v))) (doubled (drop (i + k) v)) in
+    omega (arith, d, e, f, part_length v i k h)
 
 pub field-quoted : (v : List ℕ) → any_special v ≡ true → field_of v ≡ quoted_of v
 unfolding field_of
@@ -316,29 +295,21 @@ drop_min n l = go (dec_lt n (length l))
     go (yes h) = let e : min n (length l) ≡ n = omega arith in rw e
     go (no h) = let a : length l ≤ min n (length l) = omega arith in let b : length l ≤ n = omega arith in drop_of_length-le l a ∙ sym (drop_of_length-le l b)
 
--- what is left to write of the values, from length k and offset `from` on
-abbrev pub left : List ℕ → List ℕ → ℕ → ℕ → List (List ℕ)
-left texts lengths k from = cut_by (drop k lengths) (drop from texts)
-
-left-turn : (texts lengths : List ℕ) (k from n : ℕ) → k < length lengths → from ≤ length texts → n ≡ min (get_or lengths k 0) (length texts - from)
-    → left texts lengths k from ≡ take (from + n - from) (drop from texts) ∷ left texts lengths (k + 1) (from + n)
+-- the values left, from length k on: the first has n bytes, at most those that are left
+cut-turn : (lengths rest : List ℕ) (k n : ℕ) → k < length lengths → n ≡ min (get_or lengths k 0) (length rest)
+    → cut_by (drop k lengths) rest ≡ take n rest ∷ cut_by (drop (k + 1) lengths) (drop n rest)
 unfolding cut_by
-left-turn texts lengths k from n h i e =
-    let m : n ≡ min (get_or lengths k 0) (length (drop from texts)) = e ∙ rw (length-drop from texts) in
-    let a : from + n - from ≡ n = omega arith in
-    let t : take n (drop from texts) ≡ take (get_or lengths k 0) (drop from texts) = rw m (take_min (get_or lengths k 0) (drop from texts)) in
-    let d : drop (from + n) texts ≡ drop (get_or lengths k 0) (drop from texts) = sym (drop-drop n from texts) ∙ rw m (drop_min (get_or lengths k 0) (drop from texts)) in
-    rw (add-one k, drop-cons lengths k 0 h, a, t, d)
+cut-turn lengths rest k n h e = rw (e, add-one k, drop-cons lengths k 0 h, take_min (get_or lengths k 0) rest, drop_min (get_or lengths k 0) rest)
 
-left-none : (texts lengths : List ℕ) (k from : ℕ) → length lengths ≤ k → left texts lengths k from ≡ []
+cut-none : (lengths rest : List ℕ) (k : ℕ) → length lengths ≤ k → cut_by (drop k lengths) rest ≡ []
 unfolding cut_by
-left-none texts lengths k from h = rw (drop_of_length-le lengths h)
+cut-none lengths rest k h = rw (drop_of_length-le lengths h)
 
-pub left-delimiter : (texts lengths : List ℕ) (k from : ℕ) → k ≤ length lengths → pick (eqb k (length lengths)) line_feed comma ≡ delimiter (left texts lengths k from)
+pub cut-delimiter : (lengths rest : List ℕ) (k : ℕ) → k ≤ length lengths → pick (eqb k (length lengths)) line_feed comma ≡ delimiter (cut_by (drop k lengths) rest)
 unfolding cut_by
-left-delimiter texts lengths k from h = go (dec_lt k (length lengths))
+cut-delimiter lengths rest k h = go (dec_lt k (length lengths))
   where
-    go : Dec (k < length lengths) → pick (eqb k (length lengths)) line_feed comma ≡ delimiter (cut_by (drop k lengths) (drop from texts))
+    go : Dec (k < length lengths) → pick (eqb k (length lengths)) line_feed comma ≡ delimiter (cut_by (drop k lengths) rest)
     go (yes i) = rw (ne_eqb k (length lengths) (λ e. omega arith), drop-cons lengths k 0 i)
     go (no i) = let e : k ≡ length lengths = omega arith in let m : length lengths ≤ k = omega arith in rw (eq-eqb k (length lengths) e, drop_of_length-le lengths m)
 
@@ -354,23 +325,20 @@ doubled-most (b ∷ v) = go (eqb b quote) (doubled-most v)
 pub quoted-size : (v : List ℕ) → any_special v ≡ true → length (field_of v) ≡ length (doubled v) + 2
 quoted-size v e = ap length (field-quoted v e) ∙ quoted-length v
 
-module _ (texts lengths : List ℕ) (k from n : ℕ) (h : k < length lengths) (i : from ≤ length texts) (e : n ≡ min (get_or lengths k 0) (length texts - from)) where
-  pub size-turn : length (row_of (left texts lengths k from)) ≡ length (field_of (take (from + n - from) (drop from texts))) + 1 + length (row_of (left texts lengths (k + 1) (from + n)))
-  size-turn = rw (left-turn texts lengths k from n h i e) (row-length (take (from + n - from) (drop from texts)) (left texts lengths (k + 1) (from + n)))
+module _ (lengths rest : List ℕ) (k n : ℕ) (h : k < length lengths) (e : n ≡ min (get_or lengths k 0) (length rest)) where
+  pub size-turn : length (row_of (cut_by (drop k lengths) rest)) ≡ length (field_of (take n rest)) + 1 + length (row_of (cut_by (drop (k + 1) lengths) (drop n rest)))
+  size-turn = rw (cut-turn lengths rest k n h e) (row-length (take n rest) (cut_by (drop (k + 1) lengths) (drop n rest)))
 
-  pub value-size : length (take (from + n - from) (drop from texts)) ≡ n
-  value-size = omega (arith, length-take (from + n - from) (drop from texts), length-drop from texts)
+  pub put-turn : (out : List ℕ) (to : ℕ) → sets out to (row_of (cut_by (drop k lengths) rest)) ≡ sets (set (sets out to (field_of (take n rest))) (to + length (field_of (take n rest))) (delimiter (cut_by (drop (k + 1) lengths) (drop n rest)))) (to + length (field_of (take n rest)) + 1) (row_of (cut_by (drop (k + 1) lengths) (drop n rest)))
+  put-turn out to = rw (cut-turn lengths rest k n h e) (row-sets out to (take n rest) (cut_by (drop (k + 1) lengths) (drop n rest)))
 
-  pub put-turn : (out : List ℕ) (to : ℕ) → sets out to (row_of (left texts lengths k from)) ≡ sets (set (sets out to (field_of (take (from + n - from) (drop from texts)))) (to + length (field_of (take (from + n - from) (drop from texts)))) (delimiter (left texts lengths (k + 1) (from + n)))) (to + length (field_of (take (from + n - from) (drop from texts))) + 1) (row_of (left texts lengths (k + 1) (from + n)))
-  put-turn out to = rw (left-turn texts lengths k from n h i e) (row-sets out to (take (from + n - from) (drop from texts)) (left texts lengths (k + 1) (from + n)))
-
-pub none-size : (texts lengths : List ℕ) (k from : ℕ) → length lengths ≤ k → length (row_of (left texts lengths k from)) ≡ 0
+pub none-size : (lengths rest : List ℕ) (k : ℕ) → length lengths ≤ k → length (row_of (cut_by (drop k lengths) rest)) ≡ 0
 unfolding row_of
-none-size texts lengths k from h = rw (left-none texts lengths k from h)
+none-size lengths rest k h = rw (cut-none lengths rest k h)
 
-pub none-sets : (texts lengths : List ℕ) (k from : ℕ) (out : List ℕ) (to : ℕ) → length lengths ≤ k → sets out to (row_of (left texts lengths k from)) ≡ out
+pub none-sets : (lengths rest : List ℕ) (k : ℕ) (out : List ℕ) (to : ℕ) → length lengths ≤ k → sets out to (row_of (cut_by (drop k lengths) rest)) ≡ out
 unfolding row_of
-none-sets texts lengths k from out to h = rw (left-none texts lengths k from h)
+none-sets lengths rest k out to h = rw (cut-none lengths rest k h)
 
 pub field_bound : (v : List ℕ) → length (field_of v) ≤ length v + length v + 2
 unfolding field_of

@@ -11,10 +11,8 @@ fn copy_each(v: &[u8], out: &mut [u8], to: usize)
     requires { to + length v.now ≤ length out.old }
     ensures { out.new ≡ sets out.old to v.now }
 {
-    let mut i: usize = 0;
-    while i < v.len() {
-        out[to + i] = v[i];
-        i += 1;
+    for (i, b) in v.iter().enumerate() {
+        out[to + i] = *b;
     }
 }
 
@@ -27,7 +25,7 @@ pub(crate) fn copy_block(v: &[u8], out: &mut [u8], to: usize)
     let mut b: [u8; BLOCK] = [0; BLOCK];
     copy_each(v, &mut b, 0);
     let n = v.len();
-    copy_each(&b[0..n], out, to);
+    copy_each(&b[..n], out, to);
 }
 
 // Copies v, which has n to 2n bytes, to out at an offset: the first n, then the last n.
@@ -36,7 +34,7 @@ fn copy_ends(v: &[u8], n: usize, out: &mut [u8], to: usize)
     ensures { out.new ≡ sets out.old to v.now }
 {
     let last = v.len() - n;
-    copy_block(&v[0..n], out, to);
+    copy_block(&v[..n], out, to);
     copy_block(&v[last..v.len()], out, to + last);
 }
 
@@ -75,11 +73,9 @@ pub(crate) fn copy(v: &[u8], out: &mut [u8], to: usize)
         return;
     }
     let last = n - BLOCK;
-    let mut i: usize = 0;
-    while i < last {
-        let end = i + BLOCK;
-        copy_block(&v[i..end], out, to + i);
-        i = end;
+    let (blocks, _) = v[..n - 1].as_chunks::<BLOCK>();
+    for (i, block) in blocks.iter().enumerate() {
+        copy_block(block, out, to + BLOCK * i);
     }
-    copy_block(&v[last..n], out, to + last);
+    copy_block(&v[last..], out, to + last);
 }

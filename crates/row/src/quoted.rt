@@ -15,7 +15,7 @@ use rfc4180::QUOTE;
 fn doubling_adds(byte: u8) -> usize
     ensures { result ≡ pick (eqb byte quote) 1 0 }
 {
-    if byte == QUOTE { 1 } else { 0 }
+    usize::from(byte == QUOTE)
 }
 
 // Writes bytes to out at an offset, quotes doubled; gives where they end. For each byte a quote is written first; a quote then follows
@@ -25,15 +25,12 @@ fn put_each(v: &[u8], out: &mut [u8], to: usize) -> usize
     ensures { (result ≡ to + length (doubled v.now)) × (out.new ≡ sets out.old to (doubled v.now)) }
 {
     let mut n = to;
-    let mut i: usize = 0;
-    while i < v.len() {
-        let b = v[i];
+    for (i, b) in v.iter().enumerate() {
         out[n + i] = QUOTE;
-        n += doubling_adds(b);
-        out[n + i] = b;
-        i += 1;
+        n += doubling_adds(*b);
+        out[n + i] = *b;
     }
-    n + i
+    n + v.len()
 }
 
 // The same of a word, which is copied at once if it has no quote.
@@ -53,17 +50,14 @@ fn put_plain_blocks(v: &[u8], out: &mut [u8], to: usize) -> usize
     requires { to + length v.now ≤ length out.old }
     ensures { (result ≤ length v.now) × (doubled v.now ≡ take result v.now ++ doubled (drop result v.now)) × (out.new ≡ sets out.old to (take result v.now)) }
 {
-    let mut i: usize = 0;
-    while BLOCK <= v.len() - i {
-        let end = i + BLOCK;
-        let part = &v[i..end];
-        if has_byte(part, QUOTE) {
-            return i;
+    let (blocks, _) = v.as_chunks::<BLOCK>();
+    for (i, block) in blocks.iter().enumerate() {
+        if has_byte(block, QUOTE) {
+            return BLOCK * i;
         }
-        copy_block(part, out, to + i);
-        i = end;
+        copy_block(block, out, to + BLOCK * i);
     }
-    i
+    BLOCK * blocks.len()
 }
 
 // Writes v to out at an offset, quotes doubled; gives where it ends. From the first block with a quote on it goes by words.
@@ -71,14 +65,13 @@ fn put_doubled(v: &[u8], out: &mut [u8], to: usize) -> usize
     requires { to + length (doubled v.now) ≤ length out.old }
     ensures { (result ≡ to + length (doubled v.now)) × (out.new ≡ sets out.old to (doubled v.now)) }
 {
-    let mut i = put_plain_blocks(v, out, to);
-    let mut n = to + i;
-    while WORD <= v.len() - i {
-        let end = i + WORD;
-        n = put_word(&v[i..end], out, n);
-        i = end;
+    let plain = put_plain_blocks(v, out, to);
+    let (words, rest) = v[plain..].as_chunks::<WORD>();
+    let mut n = to + plain;
+    for word in words {
+        n = put_word(word, out, n);
     }
-    put_each(&v[i..v.len()], out, n)
+    put_each(rest, out, n)
 }
 
 // Writes v quoted to out at an offset; gives where it ends.

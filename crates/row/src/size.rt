@@ -39,8 +39,7 @@ pub(crate) fn longest_fits(bytes: usize, values: usize, capacity: usize) -> bool
 pub(crate) fn cut(left: usize, n: u32) -> usize
     ensures { result ≡ min n left }
 {
-    let m = n as usize;
-    if m < left { m } else { left }
+    left.min(n as usize)
 }
 
 // How many of at most 64 bytes are quotes, which is what doubling adds.
@@ -49,12 +48,10 @@ fn quotes(v: &[u8]) -> u8
     ensures { result + length v.now ≡ length (doubled v.now) }
 {
     let mut n: u8 = 0;
-    let mut i: usize = 0;
-    while i < v.len() {
-        if v[i] == QUOTE {
+    for b in v {
+        if *b == QUOTE {
             n += 1;
         }
-        i += 1;
     }
     n
 }
@@ -64,14 +61,12 @@ fn doubled_size(v: &[u8]) -> usize
     requires { length v.now ≤ max_row }
     ensures { result ≡ length (doubled v.now) }
 {
+    let (parts, rest) = v.as_chunks::<COUNTED>();
     let mut n = v.len();
-    let mut i: usize = 0;
-    while COUNTED <= v.len() - i {
-        let end = i + COUNTED;
-        n += quotes(&v[i..end]) as usize;
-        i = end;
+    for part in parts {
+        n += usize::from(quotes(part));
     }
-    n + quotes(&v[i..v.len()]) as usize
+    n + usize::from(quotes(rest))
 }
 
 // How many bytes a value's field has.
@@ -90,20 +85,17 @@ pub(crate) fn row_size(texts: &[u8], lengths: &[u32]) -> usize
     ensures { result ≡ min (max_row + 1) (length (row_of (passed_values texts.now lengths.now))) }
 {
     let mut total: usize = 0;
-    let mut from: usize = 0;
-    let mut k: usize = 0;
-    while k < lengths.len() {
-        let n = cut(texts.len() - from, lengths[k]);
-        if MAX_ROW < n {
+    let mut rest = texts;
+    for n in lengths {
+        let (value, others) = rest.split_at(cut(rest.len(), *n));
+        if MAX_ROW < value.len() {
             return TOO_LONG;
         }
-        let end = from + n;
-        total = total + field_size(&texts[from..end]) + 1;
+        total += field_size(value) + 1;
         if MAX_ROW < total {
             return TOO_LONG;
         }
-        from = end;
-        k += 1;
+        rest = others;
     }
     total
 }

@@ -14,10 +14,8 @@ pub(crate) fn has_byte(v: &[u8], byte: u8) -> bool
     ensures { result ≡ has byte v.now }
 {
     let mut found = false;
-    let mut i: usize = 0;
-    while i < v.len() {
-        found = found | (v[i] == byte);
-        i += 1;
+    for b in v {
+        found |= *b == byte;
     }
     found
 }
@@ -35,7 +33,7 @@ fn special_in_ends(v: &[u8], n: usize) -> bool
     ensures { result ≡ any_special v.now }
 {
     let last = v.len() - n;
-    special_in_block(&v[0..n]) | special_in_block(&v[last..v.len()])
+    special_in_block(&v[..n]) | special_in_block(&v[last..])
 }
 
 // The same of fewer than 16 bytes. Of 1, 2 or 3 bytes the first, the middle and the last are all.
@@ -67,14 +65,11 @@ pub(crate) fn any_special(v: &[u8]) -> bool
     if n < BLOCK {
         return special_in_short(v);
     }
-    let last = n - BLOCK;
-    let mut i: usize = 0;
-    while i < last {
-        let end = i + BLOCK;
-        if special_in_block(&v[i..end]) {
+    let (blocks, _) = v[..n - 1].as_chunks::<BLOCK>();
+    for block in blocks {
+        if special_in_block(block) {
             return true;
         }
-        i = end;
     }
-    special_in_block(&v[last..n])
+    special_in_block(&v[n - BLOCK..])
 }

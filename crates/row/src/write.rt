@@ -49,16 +49,13 @@ pub(crate) fn put_row(texts: &[u8], lengths: &[u32], test: bool, out: &mut [u8])
     ensures { (result ≡ length (row_of (passed_values texts.now lengths.now))) × (out.new ≡ sets out.old 0 (row_of (passed_values texts.now lengths.now))) }
 {
     let mut to: usize = 0;
-    let mut from: usize = 0;
-    let mut k: usize = 0;
-    while k < lengths.len() {
-        let n = cut(texts.len() - from, lengths[k]);
-        let end = from + n;
-        let last = put_field(&texts[from..end], test, out, to);
-        k += 1;
-        out[last] = end_byte(k, lengths.len());
+    let mut rest = texts;
+    for (k, n) in lengths.iter().enumerate() {
+        let (value, others) = rest.split_at(cut(rest.len(), *n));
+        let last = put_field(value, test, out, to);
+        out[last] = end_byte(k + 1, lengths.len());
         to = last + 1;
-        from = end;
+        rest = others;
     }
     to
 }

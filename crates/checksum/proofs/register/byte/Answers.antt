@@ -1,4 +1,3 @@
-use Rattle.checksum.specs.Register.{steps}
 use Rattle.checksum.proofs.register.byte.Goals as goal
 use Rattle.checksum.proofs.TableLaws.{byte-steps}
 

@@ -3,7 +3,7 @@
 use Rattle.std.proofs.Common.{◌≡◌, ◌+◌, ◌*◌, ◌^◌, drop, ℕ}
 use Rattle.std.specs.Int.Bits.{bit_xor}
 use Rattle.checksum.specs.Register.{run}
-use Rattle.checksum.specs.Pending.{three, two}
+use Rattle.checksum.specs.Pending.{three}
 use Rattle.checksum.proofs.register.five_to_three.Goals as goal
 use mathlib.Core.Path.{refl, sym, ap, ◌∙◌}
 use native.Mathlib.Omega.{arith}

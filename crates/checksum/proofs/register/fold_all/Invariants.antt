@@ -1,12 +1,8 @@
-use mathlib.Core.Path.{◌≡◌}
-use Prim.Native.Nat.{◌+◌, ◌-◌, ◌%◌, ◌≤◌}
-use lib.ListN.{length, drop}
+-- The pending words so far, run over what follows the pairs that are folded, give what the first ones give on all that follows them.
+use Rattle.std.proofs.Common.{◌≡◌, ◌+◌, ◌*◌, drop}
 use Rattle.checksum.specs.Register.{run}
 use Rattle.checksum.specs.Pending.{five}
 use Rattle.checksum.proofs.register.fold_all.Given as goal
 
-abbrev pub invariant-loop-i : goal.invariant-loop-i
-invariant-loop-i l = (l.i + 40 ≤ length l.s) × ((length l.s - l.i) % 8 ≡ 0) × (run (five l.p.a l.p.b l.p.c l.p.d l.p.e) (drop l.i l.s) ≡ run (five l.initial.p.a l.initial.p.b l.initial.p.c l.initial.p.d l.initial.p.e) (drop l.initial.i l.s))
-
-abbrev pub decreases-loop-i : goal.decreases-loop-i
-decreases-loop-i l = length l.s - l.i
+abbrev pub invariant-loop-pair : goal.invariant-loop-pair
+invariant-loop-pair l = run (five l.p.a l.p.b l.p.c l.p.d l.p.e) (drop (l.b.at + 16 * l.pair-index) l.s) ≡ run (five l.initial.p.a l.initial.p.b l.initial.p.c l.initial.p.d l.initial.p.e) (drop l.b.at l.s)

@@ -1,4 +1,3 @@
-use Rattle.checksum.specs.Pending.{five}
 use Rattle.checksum.proofs.register.fold_into_five.Goals as goal
 use native.Mathlib.Omega.{arith}
 use Rattle.checksum.proofs.Fold.{into-five-fold}

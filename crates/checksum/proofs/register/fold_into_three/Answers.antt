@@ -1,4 +1,3 @@
-use Rattle.checksum.specs.Pending.{three}
 use Rattle.checksum.proofs.register.fold_into_three.Goals as goal
 use native.Mathlib.Omega.{arith}
 use Rattle.checksum.proofs.Fold.{into-three-fold}

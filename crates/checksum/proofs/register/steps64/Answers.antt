@@ -1,5 +1,4 @@
--- The invariant: the digits from `row` on have made the steps that are left of x once the digits below are shifted out. One turn is
--- `digit_split`.
+-- One turn is `digit_split`.
 use Rattle.std.proofs.Common.{◌≡◌, ◌+◌, ◌-◌, ◌*◌, ◌^◌, ◌<◌, ℕ, ◌/◌}
 use Rattle.std.specs.Int.Bits.{bit_xor}
 use Rattle.checksum.specs.Register.{steps}
@@ -13,7 +12,7 @@ use Rattle.checksum.proofs.TableLaws.{digit_split}
 
 pub loop-row-init : goal.loop-row-init
 unfolding steps
-loop-row-init c = (omega arith, sym (div-eq_of_lt (lt_of_lt_of_le c.ranges.x.fits (pow_mono {i = 64} {j = 70} (omega arith)))))
+loop-row-init c = sym (div-eq_of_lt (lt_of_lt_of_le c.ranges.x.fits (pow_mono {i = 64} {j = 70} (omega arith))))
 
 pub loop-row-preserved : goal.loop-row-preserved
 loop-row-preserved c =
@@ -24,9 +23,7 @@ loop-row-preserved c =
     let j = l.row - 1 in
     let up : 64 - 7 * (l.row - 1) - 7 ≡ 64 - 7 * l.row = omega arith in
     let down : 7 * (l.row - 1) + 7 ≡ 7 * l.row = omega arith in
-    let all : 64 ≡ 64 - 7 * (l.row - 1) + 7 * (l.row - 1) = omega arith in (
-      omega arith,
-      xor_comm l.r d.result
-          ∙ ap₂ bit_xor d.ensures (l.invariant.1 ∙ sym (ap₂ steps up (shr-shr x (7 * j) 7 ∙ ap (λ (i : ℕ). x / 2 ^ i) down)))
-          ∙ digit_split (64 - 7 * j) (x / 2 ^ (7 * j)) (shr_lt (64 - 7 * j) (7 * j) (subst (λ (i : ℕ). x < 2 ^ i) all start.ranges.x.fits)),
-    )
+    let all : 64 ≡ 64 - 7 * (l.row - 1) + 7 * (l.row - 1) = omega arith in
+    xor_comm l.r d.result
+    ∙ ap₂ bit_xor d.ensures (l.invariant ∙ sym (ap₂ steps up (shr-shr x (7 * j) 7 ∙ ap (λ (i : ℕ). x / 2 ^ i) down)))
+    ∙ digit_split (64 - 7 * j) (x / 2 ^ (7 * j)) (shr_lt (64 - 7 * j) (7 * j) (subst (λ (i : ℕ). x < 2 ^ i) all start.ranges.x.fits))

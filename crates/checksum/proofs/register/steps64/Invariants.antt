@@ -1,10 +1,7 @@
-use mathlib.Core.Path.{◌≡◌}
-use Prim.Native.Nat.{◌-◌, ◌*◌, ◌/◌, ◌^◌, ◌≤◌}
+-- The digits from `row` on have made the steps that are left of x once the digits below are shifted out.
+use Rattle.std.proofs.Common.{◌≡◌, ◌-◌, ◌*◌, ◌/◌, ◌^◌}
 use Rattle.checksum.specs.Register.{steps}
 use Rattle.checksum.proofs.register.steps64.Given as goal
 
 abbrev pub invariant-loop-row : goal.invariant-loop-row
-invariant-loop-row l = (l.row ≤ 10) × (l.r ≡ steps (64 - 7 * l.row) (l.x / 2 ^ (7 * l.row)))
-
-abbrev pub decreases-loop-row : goal.decreases-loop-row
-decreases-loop-row l = l.row
+invariant-loop-row l = l.r ≡ steps (64 - 7 * l.row) (l.x / 2 ^ (7 * l.row))

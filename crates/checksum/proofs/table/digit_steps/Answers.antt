@@ -1,5 +1,5 @@
 -- The two entries in the row `row % 5` are those of the row and of the row 5 after or before it (`first_entry`, `second-entry`).
-use Rattle.std.proofs.Common.{ℕ, ◌/◌, ◌%◌, true, false}
+use Rattle.std.proofs.Common.{ℕ, ◌/◌, ◌%◌}
 use Rattle.checksum.proofs.table.digit_steps.Goals as goal
 use mathlib.Core.Path.{ap, ◌∙◌}
 use Prim.Native.Nat.{◌^◌}

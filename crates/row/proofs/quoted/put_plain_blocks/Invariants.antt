@@ -1,14 +1,8 @@
--- The first i bytes are stored and have no quote, so doubling leaves them as they are. The measure is how many bytes are left.
-use mathlib.Core.Path.{◌≡◌}
-use mathlib.Core.List.{◌++◌}
-use Prim.Native.Nat.{◌≤◌, ◌-◌}
-use lib.ListN.{length, take, drop}
-use lib.Seq.{sets}
+-- The first blocks are stored and have no quote, so doubling leaves them as they are.
+use Rattle.std.proofs.Common.{◌≡◌, ◌*◌, ◌++◌, length, take, drop}
+use Rattle.std.proofs.lemmas.List.Edits.{sets}
 use Rattle.rfc4180.specs.Write.{doubled}
 use Rattle.row.proofs.quoted.put_plain_blocks.Given as goal
 
 abbrev pub invariant-loop-i : goal.invariant-loop-i
-invariant-loop-i l = (l.i ≤ length l.v) × (length l.out ≡ length l.initial.out) × (doubled l.v ≡ take l.i l.v ++ doubled (drop l.i l.v)) × (l.out ≡ sets l.initial.out l.to (take l.i l.v))
-
-abbrev pub decreases-loop-i : goal.decreases-loop-i
-decreases-loop-i l = length l.v - l.i
+invariant-loop-i l = (length l.out ≡ length l.initial.out) × (doubled l.v ≡ take (16 * l.i) l.v ++ doubled (drop (16 * l.i) l.v)) × (l.out ≡ sets l.initial.out l.to (take (16 * l.i) l.v))

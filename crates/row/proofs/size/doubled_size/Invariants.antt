@@ -1,12 +1,7 @@
--- n is the length of all bytes and of the quotes before i. The measure is how many bytes are left.
-use mathlib.Core.Path.{◌≡◌}
-use Prim.Native.Nat.{◌≤◌, ◌-◌, ◌+◌}
-use lib.ListN.{length, drop}
+-- n is the length of all bytes and of the quotes in the parts so far.
+use Rattle.std.proofs.Common.{◌≡◌, ◌+◌, ◌-◌, ◌*◌, length, drop}
 use Rattle.rfc4180.specs.Write.{doubled}
 use Rattle.row.proofs.size.doubled_size.Given as goal
 
-abbrev pub invariant-loop-i : goal.invariant-loop-i
-invariant-loop-i l = (l.i ≤ length l.v) × (l.n + length (doubled (drop l.i l.v)) ≡ length (doubled l.v) + (length l.v - l.i))
-
-abbrev pub decreases-loop-i : goal.decreases-loop-i
-decreases-loop-i l = length l.v - l.i
+abbrev pub invariant-loop-part : goal.invariant-loop-part
+invariant-loop-part l = l.n + length (doubled (drop (64 * l.part-index) l.v)) ≡ length (doubled l.v) + (length l.v - 64 * l.part-index)

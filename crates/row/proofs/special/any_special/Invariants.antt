@@ -1,13 +1,7 @@
--- None of the first i bytes is special. The measure is how many bytes are left.
-use mathlib.Core.Path.{◌≡◌}
-use mathlib.Core.Bool.{false}
-use Prim.Native.Nat.{◌≤◌, ◌-◌}
-use lib.ListN.{length, take}
+-- No byte of the first blocks is special.
+use Rattle.std.proofs.Common.{◌≡◌, ◌*◌, false, take}
 use Rattle.rfc4180.specs.Write.{any_special}
 use Rattle.row.proofs.special.any_special.Given as goal
 
-abbrev pub invariant-loop-i : goal.invariant-loop-i
-invariant-loop-i l = (l.i ≤ length l.v) × (any_special (take l.i l.v) ≡ false)
-
-abbrev pub decreases-loop-i : goal.decreases-loop-i
-decreases-loop-i l = length l.v - l.i
+abbrev pub invariant-loop-block : goal.invariant-loop-block
+invariant-loop-block l = any_special (take (16 * l.block-index) l.v) ≡ false

@@ -1,16 +1,14 @@
--- The invariant: the byte is among all exactly if it was found before i or is among the rest (`has-turn`, `has_end`).
-use Rattle.row.proofs.special.has_byte.Goals as goal
-use native.Mathlib.Omega.{arith}
+-- One turn is `has-turn`; `has_end` is the end.
+use Rattle.std.proofs.Common.{arith}
 use Rattle.row.proofs.Laws.{has-turn, has_end}
+use Rattle.row.proofs.special.has_byte.Goals as goal
 
-pub loop-i-preserved : goal.loop-i-preserved
-loop-i-preserved c =
-    let a = c.args in
-    let l = c.loop-i in
-    (omega arith, has-turn a.byte a.v.now l.i l.found l.invariant.1 (omega arith))
+pub loop-b-preserved : goal.loop-b-preserved
+loop-b-preserved c =
+    let l = c.loop-b in
+    has-turn c.args.byte c.args.v.now l.b-index l.found l.invariant (omega arith)
 
 pub returns : goal.returns
 returns c =
-    let a = c.args in
-    let l = c.loop-i in
-    has_end a.byte a.v.now l.i l.found l.invariant.1 (omega arith)
+    let l = c.loop-b in
+    has_end c.args.byte c.args.v.now l.b-index l.found l.invariant (omega arith)

@@ -1,71 +1,78 @@
--- The invariant: storing the row of the values left from `to` on gives what storing the whole row at 0 gives. A turn is a field and the byte
--- after it (`put-turn`). If the texts have no special byte, neither has a value (`special-part`).
-use Rattle.std.proofs.Common.{◌≡◌, ◌+◌, ◌≤◌, length, ℕ, ◌-◌, ◌<◌, List}
-use Rattle.std.proofs.lemmas.List.Edits.{sets}
-use Rattle.rfc4180.specs.Write.{field_of}
-use Rattle.row.proofs.write.put_row.Goals as goal
+-- A turn is a field and the byte after it (`put-turn`). If the texts have no special byte, neither has a value (`special-parts`).
+use Rattle.std.proofs.Common.{◌≡◌, ◌+◌, ◌<◌, ◌≤◌, min, List, ℕ, length, take, drop, get_or, arith}
 use mathlib.Core.Path.{sym, ap, ◌∙◌}
-use native.Mathlib.Omega.{arith}
-use lib.ListN.{take, drop, length-set}
+use lib.ListN.{length-set}
 use lib.Seq.{length-sets}
-use Rattle.rfc4180.specs.Write.{delimiter}
-use Rattle.row.proofs.Laws.{special-part, left, left-delimiter, size-turn, put-turn, none-size, none-sets}
+use Rattle.std.proofs.lemmas.List.Edits.{sets}
+use Rattle.rfc4180.specs.Write.{field_of, delimiter}
+use Rattle.row.specs.Write.{cut_by}
+use Rattle.row.proofs.Laws.{special-parts, cut-delimiter, size-turn, put-turn, none-size, none-sets}
+use Rattle.row.proofs.write.put_row.Goals as goal
 
 pub put_field-last-requires : goal.put_field-last-requires
 put_field-last-requires c =
     let a = c.args in
     let l = c.loop-k in
-    let n = c.cut-n.result in
-    let q = c.cut-n.ensures in
-    let v : List ℕ = take (l.from + n - l.from) (drop l.from a.texts.now) in
+    let n = c.cut.result in
+    let v : List ℕ = take n l.rest.now in
     let h : l.k < length a.lengths.now = c.loop-k-test.true in
-    let z = size-turn a.texts.now a.lengths.now l.k l.from n h l.invariant.1 q in
-    (λ e. special-part a.texts.now l.from (l.from + n - l.from) (c.requires.0 e), omega (arith, c.requires.1, l.invariant.2, l.invariant.3, z))
+    let e : n ≡ min (get_or a.lengths.now l.k 0) (length l.rest.now) = c.cut.ensures in
+    let s = c.split_at.ensures.front in
+    let z = size-turn a.lengths.now l.rest.now l.k n h e in
+    rw s (λ e. (special-parts l.rest.now n (l.invariant.plain e)).0, omega (arith, c.requires.1, l.invariant.same_length, l.invariant.size, z))
 
 pub bounds-out-last : goal.bounds-out-last
 bounds-out-last c =
     let a = c.args in
     let l = c.loop-k in
-    let n = c.cut-n.result in
-    let q = c.cut-n.ensures in
-    let v : List ℕ = take (l.from + n - l.from) (drop l.from a.texts.now) in
+    let n = c.cut.result in
+    let v : List ℕ = take n l.rest.now in
     let h : l.k < length a.lengths.now = c.loop-k-test.true in
-    let z = size-turn a.texts.now a.lengths.now l.k l.from n h l.invariant.1 q in
-    let f = c.put_field-last.ensures in
-    omega (arith, c.requires.1, l.invariant.2, l.invariant.3, z, f.0, simp length-sets at (ap length f.1))
+    let e : n ≡ min (get_or a.lengths.now l.k 0) (length l.rest.now) = c.cut.ensures in
+    let s = c.split_at.ensures.front in
+    let z = size-turn a.lengths.now l.rest.now l.k n h e in
+    let f = rw s at c.put_field-last.ensures in
+    omega (arith, c.requires.1, l.invariant.same_length, l.invariant.size, z, f.0, simp length-sets at (ap length f.1))
 
 pub overflow_add-to : goal.overflow_add-to
 overflow_add-to c =
     let a = c.args in
     let l = c.loop-k in
-    let n = c.cut-n.result in
-    let q = c.cut-n.ensures in
-    let v : List ℕ = take (l.from + n - l.from) (drop l.from a.texts.now) in
+    let n = c.cut.result in
+    let v : List ℕ = take n l.rest.now in
     let h : l.k < length a.lengths.now = c.loop-k-test.true in
-    let z = size-turn a.texts.now a.lengths.now l.k l.from n h l.invariant.1 q in
-    let f = c.put_field-last.ensures in
-    omega (arith, c.requires.1, l.invariant.2, l.invariant.3, z, f.0)
+    let e : n ≡ min (get_or a.lengths.now l.k 0) (length l.rest.now) = c.cut.ensures in
+    let s = c.split_at.ensures.front in
+    let z = size-turn a.lengths.now l.rest.now l.k n h e in
+    let f = rw s at c.put_field-last.ensures in
+    omega (arith, c.requires.1, l.invariant.same_length, l.invariant.size, z, f.0)
 
 pub loop-k-preserved : goal.loop-k-preserved
 loop-k-preserved c =
     let a = c.args in
     let l = c.loop-k in
-    let n = c.cut-n.result in
-    let q = c.cut-n.ensures in
-    let v : List ℕ = take (l.from + n - l.from) (drop l.from a.texts.now) in
+    let n = c.cut.result in
+    let v : List ℕ = take n l.rest.now in
     let h : l.k < length a.lengths.now = c.loop-k-test.true in
-    let z = size-turn a.texts.now a.lengths.now l.k l.from n h l.invariant.1 q in
-    let f = c.put_field-last.ensures in
+    let e : n ≡ min (get_or a.lengths.now l.k 0) (length l.rest.now) = c.cut.ensures in
+    let s = c.split_at.ensures.front in
+    let z = size-turn a.lengths.now l.rest.now l.k n h e in
+    let f = rw s at c.put_field-last.ensures in
     let o = sets l.out l.to (field_of v) in
-    let d = left-delimiter a.texts.now a.lengths.now (l.k + 1) (l.from + n) (omega arith) in
-    let m : length o ≡ length a.out.now = length-sets l.out l.to (field_of v) ∙ l.invariant.2 in
-    let g = length-set o (l.to + length (field_of v)) (delimiter (left a.texts.now a.lengths.now (l.k + 1) (l.from + n))) in
-    rw (f.1, f.0, c.end_byte.ensures, d)
-    (omega arith, omega (arith, q), g ∙ m, omega (arith, l.invariant.3, z), l.invariant.4 ∙ put-turn a.texts.now a.lengths.now l.k l.from n h l.invariant.1 q l.out l.to)
+    let d = cut-delimiter a.lengths.now (drop n l.rest.now) (l.k + 1) (omega arith) in
+    let m : length o ≡ length a.out.now = length-sets l.out l.to (field_of v) ∙ l.invariant.same_length in
+    let g = length-set o (l.to + length (field_of v)) (delimiter (cut_by (drop (l.k + 1) a.lengths.now) (drop n l.rest.now))) in
+    rw (c.split_at.ensures.back, f.1, f.0, c.end_byte.ensures, d)
+    (record {
+      plain = λ e. (special-parts l.rest.now n (l.invariant.plain e)).1;
+      same_length = g ∙ m;
+      size = omega (arith, l.invariant.size, z);
+      stored = l.invariant.stored ∙ put-turn a.lengths.now l.rest.now l.k n h e l.out l.to;
+    })
 
 pub returns : goal.returns
 returns c =
     let a = c.args in
     let l = c.loop-k in
     let h : length a.lengths.now ≤ l.k = c.loop-k-test.false in
-    (omega (arith, l.invariant.3, none-size a.texts.now a.lengths.now l.k l.from h), sym (l.invariant.4 ∙ none-sets a.texts.now a.lengths.now l.k l.from l.out l.to h))
+    (omega (arith, l.invariant.size, none-size a.lengths.now l.rest.now l.k h), sym (l.invariant.stored ∙ none-sets a.lengths.now l.rest.now l.k l.out l.to h))

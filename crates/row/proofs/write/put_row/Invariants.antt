@@ -1,15 +1,17 @@
--- Storing the row of the values left from `to` on gives what storing the whole row at 0 gives. The measure is how many values are left.
-use mathlib.Core.Path.{◌≡◌}
-use Prim.Native.Nat.{◌≤◌, ◌-◌, ◌+◌}
-use lib.ListN.{length}
-use lib.Seq.{sets}
-use Rattle.rfc4180.specs.Write.{row_of}
-use Rattle.row.specs.Write.{passed_values}
-use Rattle.row.proofs.Laws.{left}
+-- Storing the row of the values left from `to` on gives what storing the whole row at 0 gives.
+use Rattle.std.proofs.Common.{◌≡◌, ◌+◌, false, length, drop}
+use Rattle.std.proofs.lemmas.List.Edits.{sets}
+use Rattle.rfc4180.specs.Write.{row_of, any_special}
+use Rattle.row.specs.Write.{cut_by, passed_values}
 use Rattle.row.proofs.write.put_row.Given as goal
 
 abbrev pub invariant-loop-k : goal.invariant-loop-k
-invariant-loop-k l = (l.k ≤ length l.lengths) × (l.from ≤ length l.texts) × (length l.out ≡ length l.initial.out) × (l.to + length (row_of (left l.texts l.lengths l.k l.from)) ≡ length (row_of (passed_values l.texts l.lengths))) × (sets l.initial.out 0 (row_of (passed_values l.texts l.lengths)) ≡ sets l.out l.to (row_of (left l.texts l.lengths l.k l.from)))
-
-abbrev pub decreases-loop-k : goal.decreases-loop-k
-decreases-loop-k l = length l.lengths - l.k
+invariant-loop-k l =
+    let left = row_of (cut_by (drop l.k l.lengths) l.rest) in
+    let row = row_of (passed_values l.texts l.lengths) in
+    record {
+      plain : l.test ≡ false → any_special l.rest ≡ false;
+      same_length : length l.out ≡ length l.initial.out;
+      size : l.to + length left ≡ length row;
+      stored : sets l.initial.out 0 row ≡ sets l.out l.to left;
+    }
