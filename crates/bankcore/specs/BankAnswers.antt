@@ -9,7 +9,7 @@ use Rattle.record.specs.Record.{source_bytes, record_size}
 use Rattle.header.specs.declared.Bank.{Bank}
 use Rattle.bank.specs.declared.turns.Progress.TheVariants.{Hashed, Yes}
 use Rattle.bank.specs.declared.turns.Turn.{Turn}
-use Rattle.snapshot.specs.declared.source.SourceAnswer.{SourceAnswer}
+use Rattle.record.specs.declared.Source.{Source}
 use Rattle.snapshot.specs.Freshness.{unknown}
 use Rattle.bankcore.specs.declared.bank_calls.BankNumbers.{BankNumbers}
 use Rattle.bankcore.specs.declared.bank_calls.BankRowNumbers.{BankRowNumbers}
@@ -91,13 +91,13 @@ of_turn t =
     }
 
 -- a source is given as its record of version 3 in a lent output; 9 if that is shorter
-abbrev pub refusal_of : ℕ → Result Unit Refusal → ℕ
-refusal_of capacity (Ok tt) = pick (leb record_size capacity) 0 (number_of Small)
+abbrev pub refusal_of : ℕ → Result Source Refusal → ℕ
+refusal_of capacity (Ok s) = pick (leb record_size capacity) 0 (number_of Small)
 refusal_of capacity (Err r) = number_of r
 
-abbrev pub output_of : List ℕ → SourceAnswer → Result Unit Refusal → List ℕ
-output_of out a (Ok tt) = written out 0 (source_bytes a.source)
-output_of out a (Err r) = out
+abbrev pub output_of : List ℕ → Result Source Refusal → List ℕ
+output_of out (Ok s) = written out 0 (source_bytes s)
+output_of out (Err r) = out
 
 -- a row of a bank: found is 1 if one was read; at the table's end all are 0
 abbrev pub no_bank_row : ℕ → BankRowNumbers

@@ -409,15 +409,13 @@ fn refusal_of_capacity(capacity: usize) -> u32
 //   refusals: 1, 2, 3, 4, 5, 6, 6 by the index, 9
 #[unsafe(no_mangle)]
 pub extern "C" fn tt_source(region: &[u8], bank: u32, index: u32, out: &mut [u8]) -> u32
-    ensures value { result ≡ Answers.refusal_of (length out.old) (Sources.source_answer region.now bank index).outcome }
-    ensures out_after { out.new ≡ Answers.output_of out.old (Sources.source_answer region.now bank index) (Sources.source_answer region.now bank index).outcome }
+    ensures value { result ≡ Answers.refusal_of (length out.old) (Sources.source_answer region.now bank index) }
+    ensures out_after { out.new ≡ Answers.output_of out.old (Sources.source_answer region.now bank index) }
 {
     let small = refusal_of_capacity(out.len());
-    let a = snapshot::source::source(region, bank, index);
-    let o = a.outcome;
-    match o {
-        Ok(()) => {
-            record::encode(a.source, out, 0);
+    match snapshot::source::source(region, bank, index) {
+        Ok(s) => {
+            record::encode(s, out, 0);
             small
         }
         Err(r) => number_u32(r),
