@@ -1,17 +1,18 @@
--- The call `unchanged`, case by case; and two lists compared element by element: comparing one more at the end extends the result.
-use mathlib.Core.Path.{◌≡◌, sym, ap, ◌∙◌}
-use mathlib.Core.Bool.{Bool, true, false, ◌&&◌, and-true, and_assoc}
-use mathlib.Core.List.{List, [], ◌∷◌, ◌++◌}
-use Prim.Native.Nat.{ℕ, suc, ◌+◌, ◌*◌, ◌≤◌, ◌<◌}
+-- The call `unchanged`, case by case; and two lists compared element by element: as std compares them, and by index.
+use mathlib.Core.Path.{◌≡◌, refl, sym, ap, ◌∙◌}
+use mathlib.Core.Bool.{Bool, true, false, ◌&&◌}
+use mathlib.Core.List.{List, [], ◌∷◌}
+use Prim.Native.Nat.{ℕ, zero, suc, ◌+◌, ◌*◌, ◌≤◌, ◌<◌}
 use native.Mathlib.Omega.{arith}
 use native.Mathlib.Numerals.{add-one}
-use native.Mathlib.Nat.{mul_comm, mul-le-mul_right}
-use lib.ListN.{length, take, get_or}
-use lib.Seq.{take-suc, length-take-le}
+use native.Mathlib.Nat.{add-mul, one-mul}
+use Rattle.std.specs.List.{list_all, range_with_len}
+use Rattle.std.specs.Cmp.Lexicographic.{pointwise}
+use lib.ListN.{length, take, drop, get_or}
+use lib.Seq.{drop-cons}
 use borrow.Author.Tests.{eq-eqb, ne_eqb}
 use Rattle.base.specs.Number.{pick}
 use Rattle.base.specs.Lists.{many}
-use Rattle.base.proofs.Lists.{many_more, length-many}
 use Rattle.refusal.specs.declared.Refusal.TheVariants.{Region, Turn}
 use Rattle.region.specs.Region.{region_size}
 use Rattle.writer.specs.declared.Writer.{Writer}
@@ -40,28 +41,28 @@ module _ (region : List ℕ) (w : Writer) where
 
 -- ---- one by one
 
--- a record's offset, for three at most
-pub bound : (i n : ℕ) → n ≤ 384 → i * n ≤ i * 384
-bound i n h = rw (mul_comm i n, mul_comm i 384) (mul-le-mul_right i h)
-
 no_length : (n : ℕ) → suc n ≡ 0 → ⊥
 no_length n e = omega arith
 
 module _ {A : Type 0} (f : A → A → Bool) where
-  same-last : (xs ys : List A) (x y : A) → length xs ≡ length ys → same_each f (xs ++ (x ∷ [])) (ys ++ (y ∷ [])) ≡ (same_each f xs ys && f x y)
+  -- two lists of one length, compared as std compares
+  pub same-pointwise : (xs ys : List A) → length xs ≡ length ys → pointwise f xs ys ≡ same_each f xs ys
   unfolding same_each
-  same-last [] [] x y e = and-true (f x y)
-  same-last [] (b ∷ ys) x y e = absurd (no_length (length ys) (sym e))
-  same-last (a ∷ xs) [] x y e = absurd (no_length (length xs) e)
-  same-last (a ∷ xs) (b ∷ ys) x y e = ap (λ t. f a b && t) (same-last xs ys x y (omega arith)) ∙ sym (and_assoc (f a b) (same_each f xs ys) (f x y))
+  same-pointwise [] [] e = refl
+  same-pointwise [] (b ∷ ys) e = absurd (no_length (length ys) (sym e))
+  same-pointwise (a ∷ xs) [] e = absurd (no_length (length xs) e)
+  same-pointwise (a ∷ xs) (b ∷ ys) e = ap (λ t. f a b && t) (same-pointwise xs ys (omega arith))
 
-  pub same-take : (xs ys : List A) (j : ℕ) (z : A) → j < length xs → j < length ys → (same_each f (take j xs) (take j ys) && f (get_or xs j z) (get_or ys j z)) ≡ same_each f (take (j + 1) xs) (take (j + 1) ys)
-  same-take xs ys j z h k =
-      rw (add-one, take-suc xs j z h, take-suc ys j z k)
-      (sym (same-last (take j xs) (take j ys) (get_or xs j z) (get_or ys j z) (length-take-le j xs (omega arith) ∙ sym (length-take-le j ys (omega arith)))))
-
-  pub same-many : (g : List ℕ → ℕ → A) (step : ℕ) (l : List ℕ) (at : ℕ) (xs : List A) (j : ℕ) (z : A) → j < length xs
-      → (same_each f (take j xs) (many g step l at j) && f (get_or xs j z) (g l (at + j * step))) ≡ same_each f (take (j + 1) xs) (many g step l at (j + 1))
-  same-many g step l at xs j z h =
-      rw (add-one, take-suc xs j z h, many_more g step l at j)
-      (sym (same-last (take j xs) (many g step l at j) (get_or xs j z) (g l (at + j * step)) (length-take-le j xs (omega arith) ∙ sym (length-many g step l at j))))
+  -- a list compared with what is read, by index
+  pub same-read : (g : List ℕ → ℕ → A) (step : ℕ) (l : List ℕ) (at : ℕ) (xs : List A) (z : A) (k n : ℕ) → k + n ≤ length xs
+      → list_all (λ i. f (get_or xs i z) (g l (at + i * step))) (range_with_len k n) ≡ same_each f (take n (drop k xs)) (many g step l (at + k * step) n)
+  unfolding same_each many
+  same-read g step l at xs z k zero h = refl
+  same-read g step l at xs z k (suc n) h =
+      let e : at + (k + 1) * step ≡ at + k * step + step = omega (arith, add-mul k 1 step, one-mul step) in
+      let lt : k < length xs = omega arith in
+      rw (drop-cons xs k z lt)
+      (ap (λ t. f (get_or xs k z) (g l (at + k * step)) && t)
+      (same-read g step l at xs z (k + 1) n (omega arith)
+      ∙ ap (λ (m : ℕ). same_each f (take n (drop (k + 1) xs)) (many g step l m n)) e
+      ∙ ap (λ (m : ℕ). same_each f (take n (drop m xs)) (many g step l (at + k * step + step) n)) (add-one k)))

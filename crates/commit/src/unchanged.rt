@@ -6,40 +6,17 @@ ghost use Rattle.writer.specs.declared.Answer.TheVariants as Answers;
 ghost use Rattle.commit.specs.Unchanged as Unchanged;
 
 use crate::{is_idle, key_length, routes_offset};
-use base::table::TABLES;
 use header::{Bank, RECORDS_OFFSET, SOURCES, record_at};
-use record::{Block, Source, source_size};
+use record::{Source, source_size};
 use refusal::Refusal;
 use region::{REGION_SIZE, bank_of};
 use writer::{Answer, Step, Writer, in_range, stays};
-
-fn same_block(a: Block, b: Block) -> bool
-    ensures { result ≡ Unchanged.same_block a b }
-{
-    (a.offset == b.offset) & ((a.length == b.length) & (a.crc == b.crc))
-}
-
-fn same_blocks(xs: [Block; TABLES], ys: [Block; TABLES]) -> bool
-    ensures { result ≡ Unchanged.same_each Unchanged.same_block xs ys }
-{
-    let mut same = true;
-    let mut j = 0;
-    while j < TABLES {
-        let x = xs[j];
-        let y = ys[j];
-        same = same & same_block(x, y);
-        j += 1;
-    }
-    same
-}
 
 // Whether dates and blocks are equal.
 fn same_source(a: Source, b: Source) -> bool
     ensures { result ≡ Unchanged.same_source a b }
 {
-    let xs = a.tables;
-    let ys = b.tables;
-    (a.start == b.start) & ((a.end == b.end) & same_blocks(xs, ys))
+    (a.start == b.start) & ((a.end == b.end) & (a.tables == b.tables))
 }
 
 // Whether the first n sources have the dates and blocks of a bank's first n records.
@@ -48,15 +25,7 @@ fn same_sources(ss: [Source; SOURCES], n: usize, l: &[u8], version: u32) -> bool
     ensures { result ≡ Unchanged.same_each Unchanged.same_source (take n ss) (records_of version l.now n) }
 {
     let size = source_size(version);
-    let mut same = true;
-    let mut i = 0;
-    while i < n {
-        let a = ss[i];
-        let b = record_at(l, version, RECORDS_OFFSET + i * size);
-        same = same & same_source(a, b);
-        i += 1;
-    }
-    same
+    (0..n).all(|i| same_source(ss[i], record_at(l, version, RECORDS_OFFSET + i * size)))
 }
 
 fn same_bank(region: &[u8], w: Writer, b: Bank) -> bool

@@ -133,7 +133,7 @@ pub const MAX_VALIDATOR: u8 = 64;
 
 // Where a table's bytes are in the data, and their CRC.
 #[repr(C)]
-#[derive(Clone, Copy)]
+#[derive(Clone, Copy, PartialEq, Eq)]
 pub struct Block {
     pub offset: u32,
     pub length: u32,

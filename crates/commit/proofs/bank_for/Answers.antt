@@ -1,5 +1,5 @@
 -- The bank's fields are the definition's, each by its function's contract.
-use Rattle.std.proofs.Common.{length, w64, to_z, of_z}
+use Rattle.std.proofs.Common.{w64}
 use Rattle.commit.proofs.bank_for.Goals as goal
 use mathlib.Core.Path.{ap, ◌∙◌}
 use mir.ValLaws.{to_z-of_z}

@@ -1,6 +1,5 @@
 -- One case for each guard: region, order, current, fit; then the header is written. The number of the bank to be committed is 0 or 1, so
 -- the write is inside.
-use Rattle.std.proofs.Common.{true, false}
 use Rattle.commit.proofs.commit.Goals as goal
 use mathlib.Core.Path.{sym, ◌∙◌}
 use native.Mathlib.Omega.{arith}

@@ -1,5 +1,4 @@
 -- One case for each guard: region and order; then the commit word is written.
-use Rattle.std.proofs.Common.{true, false}
 use Rattle.commit.proofs.commit_word.Goals as goal
 use mathlib.Core.Path.{sym, ◌∙◌}
 use native.Mathlib.Omega.{arith}

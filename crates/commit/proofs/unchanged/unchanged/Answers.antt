@@ -1,5 +1,4 @@
 -- One case for each guard: region and order; then the comparison. The state stays in every case.
-use Rattle.std.proofs.Common.{true, false}
 use Rattle.commit.proofs.unchanged.unchanged.Goals as goal
 use mathlib.Core.Path.{sym, ◌∙◌}
 use mathlib.Core.Bool.{◌&&◌}
