@@ -12,7 +12,7 @@ ghost use Rattle.key.specs.Layout.{key_of, fit, key_answer, after};
 ghost use Rattle.key.specs.Match.{match_answer};
 
 use matching::match_key;
-use picks::prepare;
+use picks::{Picks, prepare};
 use refusal::Refusal;
 use write::write_key;
 
@@ -60,7 +60,9 @@ pub fn key(identity: &[u8], texts: &[u8], lengths: &[u32], out: &mut [u8]) -> Re
     let mut starts: [usize; STARTS] = [0; STARTS];
     let n = prepare(identity, texts, lengths, &mut starts)?;
     let end = n * FIELDS + 1;
-    write_key(identity, texts, &starts[0..end], n, out)
+    let starts = &starts[0..end];
+    let picks = Picks { texts, starts, n };
+    write_key(identity, &picks, out)
 }
 
 // Whether the stored key is the key of the identity and the picks.
@@ -70,7 +72,9 @@ pub fn same_key(stored: &[u8], identity: &[u8], texts: &[u8], lengths: &[u32]) -
     let mut starts: [usize; STARTS] = [0; STARTS];
     let n = prepare(identity, texts, lengths, &mut starts)?;
     let end = n * FIELDS + 1;
-    Ok(match_key(stored, identity, texts, &starts[0..end], n))
+    let starts = &starts[0..end];
+    let picks = Picks { texts, starts, n };
+    Ok(match_key(stored, identity, &picks))
 }
 
 // What holds of keys. The function does nothing: its contract is what is proved of the definitions

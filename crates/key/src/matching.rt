@@ -6,7 +6,7 @@ ghost use Rattle.base.specs.Same.{same};
 ghost use Rattle.key.specs.Steps.{Rising, pick_in, Below, Left};
 ghost use Rattle.key.specs.Order.{field_count};
 
-use crate::picks::{field, sort_picks};
+use crate::picks::Picks;
 use crate::{FIELDS, IDENTITY_MARK, MAX_PICKS};
 use base::number::BYTE_VALUES;
 
@@ -25,30 +25,24 @@ fn match_field<'a>(stored: &'a [u8], s: &[u8]) -> Option<&'a [u8]>
     match_byte(stored, (s.len() % BYTE_VALUES) as u8)?.strip_prefix(s)
 }
 
-fn match_pick<'a>(stored: &'a [u8], texts: &[u8], starts: &[usize], i: usize) -> Option<&'a [u8]>
-    requires { Rising starts.now (length texts.now) × (i * field_count + field_count < length starts.now) }
-    ensures { Left stored.now (entry (pick_in texts.now starts.now i)) result }
+fn match_pick<'a>(stored: &'a [u8], picks: &Picks, i: usize) -> Option<&'a [u8]>
+    requires { i < picks.now.n }
+    ensures { Left stored.now (entry (pick_in picks.now.texts.now picks.now.starts.now i)) result }
 {
     let mut rest = stored;
     for f in 0..FIELDS {
-        rest = match_field(rest, field(texts, starts, i, f))?;
+        rest = match_field(rest, picks.field(i, f))?;
     }
     Some(rest)
 }
 
-fn match_picks<'a>(
-    stored: &'a [u8],
-    texts: &[u8],
-    starts: &[usize],
-    n: usize,
-    sorted: &[usize],
-) -> Option<&'a [u8]>
-    requires { Rising starts.now (length texts.now) × (n * field_count < length starts.now) × Below n sorted.now }
-    ensures { Left stored.now (joined entry (map (pick_in texts.now starts.now) sorted.now)) result }
+fn match_picks<'a>(stored: &'a [u8], picks: &Picks, sorted: &[usize]) -> Option<&'a [u8]>
+    requires { Below picks.now.n sorted.now }
+    ensures { Left stored.now (joined entry (map (pick_in picks.now.texts.now picks.now.starts.now) sorted.now)) result }
 {
     let mut rest = stored;
     for i in sorted {
-        rest = match_pick(rest, texts, starts, *i)?;
+        rest = match_pick(rest, picks, *i)?;
     }
     Some(rest)
 }
@@ -67,35 +61,21 @@ fn match_prefix<'a>(stored: &'a [u8], identity: &[u8]) -> Option<&'a [u8]>
 }
 
 // The whole key: the prefix, the count byte and the sorted picks.
-fn match_parts<'a>(
-    stored: &'a [u8],
-    identity: &[u8],
-    texts: &[u8],
-    starts: &[usize],
-    n: usize,
-) -> Option<&'a [u8]>
-    requires { Rising starts.now (length texts.now) × (n * field_count < length starts.now) × (n ≤ max_picks) }
-    ensures { Left stored.now (key_of identity.now (firsts n (pick_in texts.now starts.now))) result }
+fn match_parts<'a>(stored: &'a [u8], identity: &[u8], picks: &Picks) -> Option<&'a [u8]>
+    ensures { Left stored.now (key_of identity.now (firsts picks.now.n (pick_in picks.now.texts.now picks.now.starts.now))) result }
 {
     let mut order: [usize; MAX_PICKS] = [0; MAX_PICKS];
-    let m = sort_picks(texts, starts, n, &mut order);
+    let m = picks.sort(&mut order);
     let rest = match_prefix(stored, identity)?;
     let rest = match_byte(rest, (m % BYTE_VALUES) as u8)?;
-    match_picks(rest, texts, starts, n, &order[0..m])
+    match_picks(rest, picks, &order[0..m])
 }
 
-// Whether the stored key is the key of an identity and n picks whose texts fit.
-pub(crate) fn match_key(
-    stored: &[u8],
-    identity: &[u8],
-    texts: &[u8],
-    starts: &[usize],
-    n: usize,
-) -> bool
-    requires { Rising starts.now (length texts.now) × (n * field_count < length starts.now) × (n ≤ max_picks) }
-    ensures { result ≡ same stored.now (key_of identity.now (firsts n (pick_in texts.now starts.now))) }
+// Whether the stored key is the key of an identity and the picks.
+pub(crate) fn match_key(stored: &[u8], identity: &[u8], picks: &Picks) -> bool
+    ensures { result ≡ same stored.now (key_of identity.now (firsts picks.now.n (pick_in picks.now.texts.now picks.now.starts.now))) }
 {
-    match match_parts(stored, identity, texts, starts, n) {
+    match match_parts(stored, identity, picks) {
         Some(rest) => rest.is_empty(),
         None => false,
     }

@@ -2,10 +2,10 @@
 ghost use Rattle.std.specs.Prelude.{◌≡◌, true, [], ◌∷◌, ◌++◌, map, ◌+◌, ◌-◌, ◌*◌, ◌≤◌, ◌<◌, length, take, drop, get_or};
 ghost use Rattle.key.specs.Order.{pick_order, field_count};
 ghost use Rattle.key.specs.Picks.{firsts, insert, distinct};
-ghost use Rattle.key.specs.Layout.{sized, every};
-ghost use Rattle.key.specs.Steps.{answer_of, Offsets, Rising, between, pick_in, Goes, Ordered, Below, Prepares, starts_size};
+ghost use Rattle.key.specs.Layout.{sized, every, entry, joined, max_picks, longest_entry};
+ghost use Rattle.key.specs.Steps.{answer_of, Offsets, Rising, between, pick_in, Goes, Ordered, Below, Small, Prepares, starts_size};
 
-use crate::{CODE_FIELD, FIELDS, LAST_FIELD, MAX_IDENTITY, MAX_TEXTS, NAME_FIELD};
+use crate::{CODE_FIELD, FIELDS, LAST_FIELD, MAX_IDENTITY, MAX_TEXTS, NAME_FIELD, STOP_FIELD};
 use refusal::Refusal;
 use std::cmp::Ordering;
 
@@ -48,83 +48,119 @@ fn sizes_fit(texts: &[u8], starts: &[usize], m: usize) -> bool
     true
 }
 
-// Field f of pick i, as the key has it.
-pub(crate) fn field<'a, 'b>(texts: &'a [u8], starts: &'b [usize], i: usize, f: usize) -> &'a [u8]
-    requires { Rising starts.now (length texts.now) × (i * field_count + field_count < length starts.now) × (f < field_count) }
-    ensures { result.now ≡ get_or (pick_in texts.now starts.now i) f [] }
-{
-    let first = i * FIELDS;
-    if f < NAME_FIELD {
-        return text(texts, starts, first + f);
-    }
-    let code = text(texts, starts, first + CODE_FIELD);
-    if 0 < code.len() {
-        return &texts[0..0];
-    }
-    text(texts, starts, first + NAME_FIELD)
+// Picks that are ready: their texts, cut at the offsets, and how many picks there are. Each text is within its size.
+#[derive(Clone, Copy)]
+pub(crate) struct Picks<'a> {
+    pub(crate) texts: &'a [u8],
+    pub(crate) starts: &'a [usize],
+    pub(crate) n: usize,
+    ghost rises: { Rising starts.now (length texts.now) },
+    ghost long: { n * field_count < length starts.now },
+    ghost few: { n ≤ max_picks },
+    ghost small: { Small (pick_in texts.now starts.now) n },
 }
 
-// The order of two picks.
-fn order_picks(texts: &[u8], starts: &[usize], i: usize, j: usize) -> Ordering
-    requires { Rising starts.now (length texts.now) × (i * field_count + field_count < length starts.now) × (j * field_count + field_count < length starts.now) }
-    ensures { result ≡ answer_of (pick_order (pick_in texts.now starts.now i) (pick_in texts.now starts.now j)) }
-{
-    for f in 0..FIELDS {
-        let a = field(texts, starts, i, f);
-        let b = field(texts, starts, j, f);
-        let o = a.cmp(&b);
-        if o.is_ne() {
-            return o;
+impl<'a> Picks<'a> {
+    // Field f of pick i, as the key has it.
+    pub(crate) fn field(&self, i: usize, f: usize) -> &'a [u8]
+        requires { (i < self.now.n) × (f < field_count) }
+        ensures { result.now ≡ get_or (pick_in self.now.texts.now self.now.starts.now i) f [] }
+    {
+        let first = i * FIELDS;
+        if f < NAME_FIELD {
+            return text(self.texts, self.starts, first + f);
         }
-    }
-    Ordering::Equal
-}
-
-// The index at which pick i is inserted among the sorted ones, None if it is among them.
-fn index_of(texts: &[u8], starts: &[usize], n: usize, sorted: &[usize], i: usize) -> Option<usize>
-    requires { Rising starts.now (length texts.now) × (n * field_count < length starts.now) × (i < n) × Below n sorted.now }
-    ensures { Goes (pick_in texts.now starts.now i) (map (pick_in texts.now starts.now) sorted.now) result }
-{
-    for (k, j) in sorted.iter().enumerate() {
-        match order_picks(texts, starts, i, *j) {
-            Ordering::Less => return Some(k),
-            Ordering::Equal => return None,
-            Ordering::Greater => {}
+        let code = text(self.texts, self.starts, first + CODE_FIELD);
+        if 0 < code.len() {
+            return &self.texts[0..0];
         }
+        text(self.texts, self.starts, first + NAME_FIELD)
     }
-    Some(sorted.len())
-}
 
-// Inserts pick i among the m sorted ones, unless it is there; gives how many they are then.
-fn insert_pick(
-    texts: &[u8],
-    starts: &[usize],
-    n: usize,
-    order: &mut [usize],
-    m: usize,
-    i: usize,
-) -> usize
-    requires { Rising starts.now (length texts.now) × (n * field_count < length starts.now) × (i < n) × (m < length order.old) × Below n (take m order.old) }
-    ensures { (result ≤ m + 1) × Ordered (pick_in texts.now starts.now) n (insert (pick_in texts.now starts.now i) (map (pick_in texts.now starts.now) (take m order.old))) order.new result }
-{
-    let Some(k) = index_of(texts, starts, n, &order[0..m], i) else {
-        return m;
-    };
-    order.copy_within(k..m, k + 1);
-    order[k] = i;
-    m + 1
-}
-
-// Writes the indices of the distinct picks to `order`, sorted; gives how many they are.
-pub(crate) fn sort_picks(texts: &[u8], starts: &[usize], n: usize, order: &mut [usize]) -> usize
-    requires { Rising starts.now (length texts.now) × (n * field_count < length starts.now) × (n ≤ length order.old) }
-    ensures { (result ≤ n) × Ordered (pick_in texts.now starts.now) n (distinct (firsts n (pick_in texts.now starts.now))) order.new result }
-{
-    let mut m: usize = 0;
-    for i in (0..n).rev() {
-        m = insert_pick(texts, starts, n, order, m, i);
+    // The order of two picks.
+    fn order(&self, i: usize, j: usize) -> Ordering
+        requires { (i < self.now.n) × (j < self.now.n) }
+        ensures { result ≡ answer_of (pick_order (pick_in self.now.texts.now self.now.starts.now i) (pick_in self.now.texts.now self.now.starts.now j)) }
+    {
+        for f in 0..FIELDS {
+            let a = self.field(i, f);
+            let b = self.field(j, f);
+            let o = a.cmp(&b);
+            if o.is_ne() {
+                return o;
+            }
+        }
+        Ordering::Equal
     }
-    m
+
+    // The index at which pick i is inserted among the sorted ones, None if it is among them.
+    fn index_of(&self, sorted: &[usize], i: usize) -> Option<usize>
+        requires { (i < self.now.n) × Below self.now.n sorted.now }
+        ensures { Goes (pick_in self.now.texts.now self.now.starts.now i) (map (pick_in self.now.texts.now self.now.starts.now) sorted.now) result }
+    {
+        for (k, j) in sorted.iter().enumerate() {
+            match self.order(i, *j) {
+                Ordering::Less => return Some(k),
+                Ordering::Equal => return None,
+                Ordering::Greater => {}
+            }
+        }
+        Some(sorted.len())
+    }
+
+    // Inserts pick i among the m sorted ones, unless it is there; gives how many they are then.
+    fn insert(&self, order: &mut [usize], m: usize, i: usize) -> usize
+        requires { (i < self.now.n) × (m < length order.old) × Below self.now.n (take m order.old) }
+        ensures { (result ≤ m + 1) × Ordered (pick_in self.now.texts.now self.now.starts.now) self.now.n (insert (pick_in self.now.texts.now self.now.starts.now i) (map (pick_in self.now.texts.now self.now.starts.now) (take m order.old))) order.new result }
+    {
+        let Some(k) = self.index_of(&order[0..m], i) else {
+            return m;
+        };
+        order.copy_within(k..m, k + 1);
+        order[k] = i;
+        m + 1
+    }
+
+    // Writes the indices of the distinct picks to `order`, sorted; gives how many they are.
+    pub(crate) fn sort(&self, order: &mut [usize]) -> usize
+        requires { self.now.n ≤ length order.old }
+        ensures { (result ≤ self.now.n) × Ordered (pick_in self.now.texts.now self.now.starts.now) self.now.n (distinct (firsts self.now.n (pick_in self.now.texts.now self.now.starts.now))) order.new result }
+    {
+        let mut m: usize = 0;
+        for i in (0..self.n).rev() {
+            m = self.insert(order, m, i);
+        }
+        m
+    }
+
+    // How many bytes pick i has in the key. If it has a code, the name is left out.
+    fn entry_length(&self, i: usize) -> usize
+        requires { i < self.now.n }
+        ensures { result ≡ length (entry (pick_in self.now.texts.now self.now.starts.now i)) }
+    {
+        let first = i * FIELDS;
+        let from = self.starts[first];
+        let code = self.starts[first + CODE_FIELD];
+        let stop = self.starts[first + STOP_FIELD];
+        let name = self.starts[first + NAME_FIELD];
+        let end = self.starts[first + FIELDS];
+        if code < stop {
+            return name - from + FIELDS;
+        }
+        end - from + FIELDS
+    }
+
+    // How many bytes the sorted picks have.
+    pub(crate) fn entries_length(&self, sorted: &[usize]) -> usize
+        requires { Below self.now.n sorted.now × (length sorted.now ≤ max_picks) }
+        ensures { (result ≡ length (joined entry (map (pick_in self.now.texts.now self.now.starts.now) sorted.now))) × (result ≤ longest_entry * max_picks) }
+    {
+        let mut bytes: usize = 0;
+        for i in sorted {
+            bytes += self.entry_length(*i);
+        }
+        bytes
+    }
 }
 
 // Cuts the texts at their lengths and tests them and the identity: refusals 2 and 8.

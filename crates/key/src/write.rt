@@ -6,39 +6,10 @@ ghost use Rattle.key.specs.Layout.{field as field_of, entry, joined, key_of, pre
 ghost use Rattle.key.specs.Steps.{Rising, pick_in, Below, Small};
 ghost use Rattle.key.specs.Order.{field_count};
 
-use crate::picks::{field, sort_picks};
-use crate::{CODE_FIELD, FIELDS, IDENTITY_MARK, MAX_PICKS, NAME_FIELD, PREFIX_SIZE, STOP_FIELD};
+use crate::picks::Picks;
+use crate::{FIELDS, IDENTITY_MARK, MAX_PICKS, PREFIX_SIZE};
 use base::number::BYTE_VALUES;
 use refusal::Refusal;
-
-// How many bytes pick i has in the key. If it has a code, the name is left out.
-fn entry_length(texts: &[u8], starts: &[usize], i: usize) -> usize
-    requires { Rising starts.now (length texts.now) × (i * field_count + field_count < length starts.now) × (length (entry (pick_in texts.now starts.now i)) ≤ longest_entry) }
-    ensures { result ≡ length (entry (pick_in texts.now starts.now i)) }
-{
-    let first = i * FIELDS;
-    let from = starts[first];
-    let code = starts[first + CODE_FIELD];
-    let stop = starts[first + STOP_FIELD];
-    let name = starts[first + NAME_FIELD];
-    let end = starts[first + FIELDS];
-    if code < stop {
-        return name - from + FIELDS;
-    }
-    end - from + FIELDS
-}
-
-// How many bytes the sorted picks have.
-fn entries_length(texts: &[u8], starts: &[usize], n: usize, sorted: &[usize]) -> usize
-    requires { Rising starts.now (length texts.now) × (n * field_count < length starts.now) × Below n sorted.now × (length sorted.now ≤ max_picks) × Small (pick_in texts.now starts.now) n }
-    ensures { (result ≡ length (joined entry (map (pick_in texts.now starts.now) sorted.now))) × (result ≤ longest_entry * max_picks) }
-{
-    let mut bytes: usize = 0;
-    for i in sorted {
-        bytes += entry_length(texts, starts, *i);
-    }
-    bytes
-}
 
 fn prefix_length(identity: &[u8]) -> usize
     requires { length identity.now ≤ max_identity }
@@ -52,17 +23,11 @@ fn prefix_length(identity: &[u8]) -> usize
 }
 
 // How many bytes the key of an identity and the sorted picks has.
-pub(crate) fn key_length(
-    identity: &[u8],
-    texts: &[u8],
-    starts: &[usize],
-    n: usize,
-    sorted: &[usize],
-) -> usize
-    requires { Rising starts.now (length texts.now) × (n * field_count < length starts.now) × Below n sorted.now × (length sorted.now ≤ max_picks) × Small (pick_in texts.now starts.now) n × (length identity.now ≤ max_identity) }
-    ensures { result ≡ length (prefix identity.now) + 1 + length (joined entry (map (pick_in texts.now starts.now) sorted.now)) }
+fn key_length(identity: &[u8], picks: &Picks, sorted: &[usize]) -> usize
+    requires { Below picks.now.n sorted.now × (length sorted.now ≤ max_picks) × (length identity.now ≤ max_identity) }
+    ensures { result ≡ length (prefix identity.now) + 1 + length (joined entry (map (pick_in picks.now.texts.now picks.now.starts.now) sorted.now)) }
 {
-    prefix_length(identity) + 1 + entries_length(texts, starts, n, sorted)
+    prefix_length(identity) + 1 + picks.entries_length(sorted)
 }
 
 // Copies s to out at an offset.
@@ -84,13 +49,13 @@ fn put_field(out: &mut [u8], at: usize, s: &[u8])
 }
 
 // Writes pick i; gives the offset after it.
-fn put_pick(out: &mut [u8], at: usize, texts: &[u8], starts: &[usize], i: usize) -> usize
-    requires { Rising starts.now (length texts.now) × (i * field_count + field_count < length starts.now) × (at + length (entry (pick_in texts.now starts.now i)) ≤ length out.old) }
-    ensures { (result ≡ at + length (entry (pick_in texts.now starts.now i))) × (out.new ≡ written out.old at (entry (pick_in texts.now starts.now i))) }
+fn put_pick(out: &mut [u8], at: usize, picks: &Picks, i: usize) -> usize
+    requires { (i < picks.now.n) × (at + length (entry (pick_in picks.now.texts.now picks.now.starts.now i)) ≤ length out.old) }
+    ensures { (result ≡ at + length (entry (pick_in picks.now.texts.now picks.now.starts.now i))) × (out.new ≡ written out.old at (entry (pick_in picks.now.texts.now picks.now.starts.now i))) }
 {
     let mut to = at;
     for f in 0..FIELDS {
-        let t = field(texts, starts, i, f);
+        let t = picks.field(i, f);
         put_field(out, to, t);
         to = to + 1 + t.len();
     }
@@ -98,13 +63,13 @@ fn put_pick(out: &mut [u8], at: usize, texts: &[u8], starts: &[usize], i: usize)
 }
 
 // Writes the sorted picks.
-fn put_picks(out: &mut [u8], at: usize, texts: &[u8], starts: &[usize], n: usize, sorted: &[usize])
-    requires { Rising starts.now (length texts.now) × (n * field_count < length starts.now) × Below n sorted.now × (at + length (joined entry (map (pick_in texts.now starts.now) sorted.now)) ≤ length out.old) }
-    ensures { out.new ≡ written out.old at (joined entry (map (pick_in texts.now starts.now) sorted.now)) }
+fn put_picks(out: &mut [u8], at: usize, picks: &Picks, sorted: &[usize])
+    requires { Below picks.now.n sorted.now × (at + length (joined entry (map (pick_in picks.now.texts.now picks.now.starts.now) sorted.now)) ≤ length out.old) }
+    ensures { out.new ≡ written out.old at (joined entry (map (pick_in picks.now.texts.now picks.now.starts.now) sorted.now)) }
 {
     let mut to = at;
     for i in sorted {
-        to = put_pick(out, to, texts, starts, *i);
+        to = put_pick(out, to, picks, *i);
     }
 }
 
@@ -124,26 +89,20 @@ fn put_prefix(out: &mut [u8], identity: &[u8]) -> usize
     n + PREFIX_SIZE
 }
 
-// Writes the key of an identity and n picks whose texts fit, if out has the capacity.
-pub(crate) fn write_key(
-    identity: &[u8],
-    texts: &[u8],
-    starts: &[usize],
-    n: usize,
-    out: &mut [u8],
-) -> Result<usize, Refusal>
-    requires { Rising starts.now (length texts.now) × (n * field_count < length starts.now) × (n ≤ max_picks) × (length identity.now ≤ max_identity) × Small (pick_in texts.now starts.now) n }
-    ensures { (result ≡ within (length out.old) (key_of identity.now (firsts n (pick_in texts.now starts.now)))) × (out.new ≡ after result (key_of identity.now (firsts n (pick_in texts.now starts.now))) out.old) }
+// Writes the key of an identity and the picks, if out has the capacity.
+pub(crate) fn write_key(identity: &[u8], picks: &Picks, out: &mut [u8]) -> Result<usize, Refusal>
+    requires { length identity.now ≤ max_identity }
+    ensures { (result ≡ within (length out.old) (key_of identity.now (firsts picks.now.n (pick_in picks.now.texts.now picks.now.starts.now)))) × (out.new ≡ after result (key_of identity.now (firsts picks.now.n (pick_in picks.now.texts.now picks.now.starts.now))) out.old) }
 {
     let mut order: [usize; MAX_PICKS] = [0; MAX_PICKS];
-    let m = sort_picks(texts, starts, n, &mut order);
+    let m = picks.sort(&mut order);
     let sorted = &order[0..m];
-    let total = key_length(identity, texts, starts, n, sorted);
+    let total = key_length(identity, picks, sorted);
     if out.len() < total {
         return Err(Refusal::Small);
     }
     let at = put_prefix(out, identity);
     out[at] = (m % BYTE_VALUES) as u8;
-    put_picks(out, at + 1, texts, starts, n, sorted);
+    put_picks(out, at + 1, picks, sorted);
     Ok(total)
 }

@@ -8,9 +8,9 @@ use Rattle.key.proofs.Left.{whole, differs}
 pub returns-in-Some : goal.returns-in-Some
 returns-in-Some c =
     let a = c.args in
-    whole a.stored.now (key_of a.identity.now (firsts a.n (pick_in a.texts.now a.starts.now))) c.in-Some.rest.now c.in-Some.ensures c.is_empty.result c.is_empty.ensures
+    whole a.stored.now (key_of a.identity.now (firsts a.picks.now.n (pick_in a.picks.now.texts.now a.picks.now.starts.now))) c.in-Some.rest.now c.in-Some.ensures c.is_empty.result c.is_empty.ensures
 
 pub returns-in-None : goal.returns-in-None
 returns-in-None c =
     let a = c.args in
-    differs a.stored.now (key_of a.identity.now (firsts a.n (pick_in a.texts.now a.starts.now))) c.in-None.ensures
+    differs a.stored.now (key_of a.identity.now (firsts a.picks.now.n (pick_in a.picks.now.texts.now a.picks.now.starts.now))) c.in-None.ensures

@@ -15,21 +15,21 @@ pub returns-in_err-rest : goal.returns-in_err-rest
 returns-in_err-rest c =
     let a = c.args in
     let l = c.loop-f in
-    let w = five (between a.texts.now a.starts.now) a.i in
+    let w = five (between a.picks.now.texts.now a.picks.now.starts.now) a.i in
     rw c.from_residual.ensures
-    (stops field [] (pick_in a.texts.now a.starts.now a.i) l.f (omega arith) c.field.result.now c.field.ensures a.stored.now l.rest.now l.invariant c.in_err-rest.ensures)
+    (stops field [] (pick_in a.picks.now.texts.now a.picks.now.starts.now a.i) l.f (omega arith) c.field.result.now c.field.ensures a.stored.now l.rest.now l.invariant c.in_err-rest.ensures)
 
 pub loop-f-preserved : goal.loop-f-preserved
 loop-f-preserved c =
     let a = c.args in
     let l = c.loop-f in
-    let w = five (between a.texts.now a.starts.now) a.i in
-    goes_on field [] (pick_in a.texts.now a.starts.now a.i) l.f (omega arith) c.field.result.now c.field.ensures a.stored.now l.rest.now l.invariant
+    let w = five (between a.picks.now.texts.now a.picks.now.starts.now) a.i in
+    goes_on field [] (pick_in a.picks.now.texts.now a.picks.now.starts.now a.i) l.f (omega arith) c.field.result.now c.field.ensures a.stored.now l.rest.now l.invariant
     c.in_ok-rest.rest.now c.in_ok-rest.ensures
 
 pub returns : goal.returns
 returns c =
     let a = c.args in
     let l = c.loop-f in
-    let w = five (between a.texts.now a.starts.now) a.i in
-    l.invariant ∙ ap (λ (s : List ℕ). s ++ l.rest.now) (joined-all field (pick_in a.texts.now a.starts.now a.i) l.f (omega arith))
+    let w = five (between a.picks.now.texts.now a.picks.now.starts.now) a.i in
+    l.invariant ∙ ap (λ (s : List ℕ). s ++ l.rest.now) (joined-all field (pick_in a.picks.now.texts.now a.picks.now.starts.now a.i) l.f (omega arith))

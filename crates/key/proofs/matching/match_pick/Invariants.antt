@@ -7,4 +7,4 @@ use Rattle.key.specs.Steps.{pick_in}
 use Rattle.key.proofs.matching.match_pick.Given as goal
 
 abbrev pub invariant-loop-f : goal.invariant-loop-f
-invariant-loop-f l = l.stored ≡ joined field (take l.f (pick_in l.texts l.starts l.i)) ++ l.rest
+invariant-loop-f l = l.stored ≡ joined field (take l.f (pick_in l.picks.texts.now l.picks.starts.now l.i)) ++ l.rest

@@ -12,15 +12,13 @@ unfolding joined
 loop-i-init c = refl
 
 pub match_pick-requires : goal.match_pick-requires
-match_pick-requires c =
-    let b = below_at c.args.n c.args.sorted.now c.loop-i.i-index c.requires.2 (omega arith) in
-    (c.requires.0, omega (arith, c.requires.1, b))
+match_pick-requires c = below_at c.args.picks.now.n c.args.sorted.now c.loop-i.i-index c.requires (omega arith)
 
 pub returns-in_err-rest : goal.returns-in_err-rest
 returns-in_err-rest c =
     let a = c.args in
     let l = c.loop-i in
-    let f = pick_in a.texts.now a.starts.now in
+    let f = pick_in a.picks.now.texts.now a.picks.now.starts.now in
     let w = length-map a.sorted.now f in
     let h : l.i-index < length a.sorted.now = omega arith in
     rw c.from_residual.ensures
@@ -31,7 +29,7 @@ pub loop-i-preserved : goal.loop-i-preserved
 loop-i-preserved c =
     let a = c.args in
     let l = c.loop-i in
-    let f = pick_in a.texts.now a.starts.now in
+    let f = pick_in a.picks.now.texts.now a.picks.now.starts.now in
     let w = length-map a.sorted.now f in
     let h : l.i-index < length a.sorted.now = omega arith in
     goes_on entry [] (map f a.sorted.now) l.i-index (omega arith) (f (get_or a.sorted.now l.i-index 0)) (map_at f a.sorted.now l.i-index h) a.stored.now l.rest.now l.invariant

@@ -7,4 +7,4 @@ use Rattle.key.specs.Steps.{pick_in}
 use Rattle.key.proofs.matching.match_picks.Given as goal
 
 abbrev pub invariant-loop-i : goal.invariant-loop-i
-invariant-loop-i l = l.stored ≡ joined entry (take l.i-index (map (pick_in l.texts l.starts) l.sorted)) ++ l.rest
+invariant-loop-i l = l.stored ≡ joined entry (take l.i-index (map (pick_in l.picks.texts.now l.picks.starts.now) l.sorted)) ++ l.rest

@@ -24,30 +24,30 @@ enough texts starts i f t h e =
 pub loop-f-init : goal.loop-f-init
 loop-f-init c =
     let a = c.args in
-    let e = joined-none field (pick_of (between a.texts.now a.starts.now) a.i) in
+    let e = joined-none field (pick_of (between a.picks.now.texts.now a.picks.now.starts.now) a.i) in
     (omega (arith, ap length e), sym (ap (written a.out.now a.at) e ∙ put-none a.out.now a.at (omega arith)))
 
 pub put_field-requires : goal.put_field-requires
 put_field-requires c =
     let a = c.args in
-    omega (arith, enough a.texts.now a.starts.now a.i c.loop-f.f c.field-t.result.now (omega arith) c.field-t.ensures, c.loop-f.invariant.0, c.requires.2)
+    omega (arith, enough a.picks.now.texts.now a.picks.now.starts.now a.i c.loop-f.f c.field-t.result.now (omega arith) c.field-t.ensures, c.loop-f.invariant.0, c.requires.1)
 
 pub overflow_add-to : goal.overflow_add-to
 overflow_add-to c =
     let a = c.args in
-    omega (arith, enough a.texts.now a.starts.now a.i c.loop-f.f c.field-t.result.now (omega arith) c.field-t.ensures, c.loop-f.invariant.0, c.requires.2)
+    omega (arith, enough a.picks.now.texts.now a.picks.now.starts.now a.i c.loop-f.f c.field-t.result.now (omega arith) c.field-t.ensures, c.loop-f.invariant.0, c.requires.1)
 
 pub overflow_add-to-in-loop-f : goal.overflow_add-to-in-loop-f
 overflow_add-to-in-loop-f c =
     let a = c.args in
-    omega (arith, enough a.texts.now a.starts.now a.i c.loop-f.f c.field-t.result.now (omega arith) c.field-t.ensures, c.loop-f.invariant.0, c.requires.2)
+    omega (arith, enough a.picks.now.texts.now a.picks.now.starts.now a.i c.loop-f.f c.field-t.result.now (omega arith) c.field-t.ensures, c.loop-f.invariant.0, c.requires.1)
 
 pub loop-f-preserved : goal.loop-f-preserved
 loop-f-preserved c =
     let a = c.args in
-    let p = pick_of (between a.texts.now a.starts.now) a.i in
+    let p = pick_of (between a.picks.now.texts.now a.picks.now.starts.now) a.i in
     let l = c.loop-f in
-    let w = five (between a.texts.now a.starts.now) a.i in
+    let w = five (between a.picks.now.texts.now a.picks.now.starts.now) a.i in
     let t = c.field-t in
     let q = c.put_field in (
       omega (arith, step-length field [] p l.f (omega arith) t.result.now t.ensures),
@@ -59,6 +59,6 @@ pub returns : goal.returns
 returns c =
     let a = c.args in
     let l = c.loop-f in
-    let w = five (between a.texts.now a.starts.now) a.i in
-    let e = joined-all field (pick_of (between a.texts.now a.starts.now) a.i) l.f (omega arith) in
+    let w = five (between a.picks.now.texts.now a.picks.now.starts.now) a.i in
+    let e = joined-all field (pick_of (between a.picks.now.texts.now a.picks.now.starts.now) a.i) l.f (omega arith) in
     (l.invariant.0 ∙ ap (λ (r : List ℕ). a.at + length r) e, l.invariant.1 ∙ ap (written a.out.now a.at) e)

@@ -8,4 +8,4 @@ use Rattle.key.specs.Layout.{joined, field}
 use Rattle.key.proofs.write.put_pick.Given as goal
 
 abbrev pub invariant-loop-f : goal.invariant-loop-f
-invariant-loop-f l = (l.to ≡ l.at + length (joined field (take l.f (pick_in l.texts l.starts l.i)))) × (l.out ≡ written l.initial.out l.at (joined field (take l.f (pick_in l.texts l.starts l.i))))
+invariant-loop-f l = (l.to ≡ l.at + length (joined field (take l.f (pick_in l.picks.texts.now l.picks.starts.now l.i)))) × (l.out ≡ written l.initial.out l.at (joined field (take l.f (pick_in l.picks.texts.now l.picks.starts.now l.i))))

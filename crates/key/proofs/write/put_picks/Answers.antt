@@ -14,7 +14,7 @@ use Rattle.key.proofs.Put.{put-none, joined-none, step-length, step_fits, step-p
 pub loop-i-init : goal.loop-i-init
 loop-i-init c =
     let a = c.args in
-    let e = joined-none entry (map (pick_of (between a.texts.now a.starts.now)) a.sorted.now) in
+    let e = joined-none entry (map (pick_of (between a.picks.now.texts.now a.picks.now.starts.now)) a.sorted.now) in
     (omega (arith, ap length e), sym (ap (written a.out.now a.at) e ∙ put-none a.out.now a.at (omega arith)))
 
 pub put_pick-to-requires : goal.put_pick-to-requires
@@ -22,12 +22,12 @@ put_pick-to-requires c =
     let s = c in
     let a = s.args in
     let l = c.loop-i in
-    let f = pick_of (between a.texts.now a.starts.now) in
+    let f = pick_of (between a.picks.now.texts.now a.picks.now.starts.now) in
     let w = length-map a.sorted.now f in
     let h : l.i-index < length a.sorted.now = omega arith in
-    let b = below_at a.n a.sorted.now l.i-index s.requires.2 h in
+    let b = below_at a.picks.now.n a.sorted.now l.i-index s.requires.0 h in
     let r = step_fits entry [] (map f a.sorted.now) l.i-index (omega arith) (f (get_or a.sorted.now l.i-index 0)) (map_at f a.sorted.now l.i-index h) in
-    (s.requires.0, omega (arith, s.requires.1, b), omega (arith, r, s.requires.3, l.invariant.0))
+    (b, omega (arith, r, s.requires.1, l.invariant.0))
 
 pub loop-i-preserved : goal.loop-i-preserved
 loop-i-preserved c =
@@ -35,11 +35,11 @@ loop-i-preserved c =
     let a = s.args in
     let l = c.loop-i in
     let q = c.put_pick-to in
-    let f = pick_of (between a.texts.now a.starts.now) in
+    let f = pick_of (between a.picks.now.texts.now a.picks.now.starts.now) in
     let w = length-map a.sorted.now f in
     let h : l.i-index < length a.sorted.now = omega arith in
     let e = map_at f a.sorted.now l.i-index h in
     let g = f (get_or a.sorted.now l.i-index 0) in (
       omega (arith, q.ensures.0, l.invariant.0, step-length entry [] (map f a.sorted.now) l.i-index (omega arith) g e),
-      step-put entry [] (map f a.sorted.now) l.i-index (omega arith) g e a.out.now l.out q.new.out a.at l.to s.requires.3 l.invariant.0 l.invariant.1 q.ensures.1,
+      step-put entry [] (map f a.sorted.now) l.i-index (omega arith) g e a.out.now l.out q.new.out a.at l.to s.requires.1 l.invariant.0 l.invariant.1 q.ensures.1,
     )

@@ -9,5 +9,5 @@ use Rattle.leaf.specs.Bytes.{written}
 use Rattle.key.proofs.write.put_picks.Given as goal
 
 abbrev pub invariant-loop-i : goal.invariant-loop-i
-invariant-loop-i l = (l.to ≡ l.at + length (joined entry (take l.i-index (map (pick_in l.texts l.starts) l.sorted))))
-    × (l.out ≡ written l.initial.out l.at (joined entry (take l.i-index (map (pick_in l.texts l.starts) l.sorted))))
+invariant-loop-i l = (l.to ≡ l.at + length (joined entry (take l.i-index (map (pick_in l.picks.texts.now l.picks.starts.now) l.sorted))))
+    × (l.out ≡ written l.initial.out l.at (joined entry (take l.i-index (map (pick_in l.picks.texts.now l.picks.starts.now) l.sorted))))

@@ -14,21 +14,21 @@ pub returns-then-out-total : goal.returns-then-out-total
 returns-then-out-total c =
     let s = c in
     let a = s.args in
-    let f = pick_of (between a.texts.now a.starts.now) in
-    let q = c.sort_picks-m in
+    let f = pick_of (between a.picks.now.texts.now a.picks.now.starts.now) in
+    let q = c.sort-m in
     let order = q.new.order in
     let m = q.result in
     let o = q.ensures.1 in
     let k = c.key_length-total in
-    let e = total-is f a.n order m o a.identity.now k.result k.ensures in
-    (too_small (length a.out.now) (key_of a.identity.now (firsts a.n f)) (omega (arith, e, c.if-out-total.true)), refl)
+    let e = total-is f a.picks.now.n order m o a.identity.now k.result k.ensures in
+    (too_small (length a.out.now) (key_of a.identity.now (firsts a.picks.now.n f)) (omega (arith, e, c.if-out-total.true)), refl)
 
 pub returns : goal.returns
 returns c =
     let s = c in
     let a = s.args in
-    let f = pick_of (between a.texts.now a.starts.now) in
-    let q = c.sort_picks-m in
+    let f = pick_of (between a.picks.now.texts.now a.picks.now.starts.now) in
+    let q = c.sort-m in
     let order = q.new.order in
     let m = q.result in
     let o = q.ensures.1 in
@@ -36,8 +36,8 @@ returns c =
     let p = c.put_prefix-at in
     let w = c.put_picks in
     let left = c.if-out-total.false in
-    let e = total-is f a.n order m o a.identity.now k.result k.ensures in (
-      fits_in (length a.out.now) (key_of a.identity.now (firsts a.n f)) k.result e left,
-      whole a.out.now p.new.out w.new.out a.identity.now (firsts a.n f) p.result m (omega (arith, e, left)) p.ensures.0
-          (part_count f a.n order m o) p.ensures.1 (rw (part-is f a.n order m o) at w.ensures),
+    let e = total-is f a.picks.now.n order m o a.identity.now k.result k.ensures in (
+      fits_in (length a.out.now) (key_of a.identity.now (firsts a.picks.now.n f)) k.result e left,
+      whole a.out.now p.new.out w.new.out a.identity.now (firsts a.picks.now.n f) p.result m (omega (arith, e, left)) p.ensures.0
+          (part_count f a.picks.now.n order m o) p.ensures.1 (rw (part-is f a.picks.now.n order m o) at w.ensures),
     )

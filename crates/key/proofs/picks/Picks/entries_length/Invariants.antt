@@ -5,7 +5,7 @@ use Prim.Native.Nat.{◌*◌, ◌≤◌}
 use lib.ListN.{length, take}
 use Rattle.key.specs.Layout.{joined, entry, longest_entry}
 use Rattle.key.specs.Steps.{pick_in}
-use Rattle.key.proofs.write.entries_length.Given as goal
+use Rattle.key.proofs.picks.Picks.entries_length.Given as goal
 
 abbrev pub invariant-loop-i : goal.invariant-loop-i
-invariant-loop-i l = (l.bytes ≡ length (joined entry (take l.i-index (map (pick_in l.texts l.starts) l.sorted)))) × (l.bytes ≤ longest_entry * l.i-index)
+invariant-loop-i l = (l.bytes ≡ length (joined entry (take l.i-index (map (pick_in l.self.texts.now l.self.starts.now) l.sorted)))) × (l.bytes ≤ longest_entry * l.i-index)

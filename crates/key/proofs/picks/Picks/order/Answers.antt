@@ -1,7 +1,7 @@
 -- The first different field decides (`found`).
 use Rattle.std.proofs.Common.{◌∙◌, arith}
 use Rattle.key.specs.Steps.{pick_in, between}
-use Rattle.key.proofs.picks.order_picks.Goals as goal
+use Rattle.key.proofs.picks.Picks.order.Goals as goal
 use Rattle.key.proofs.TextOffsets.{five}
 use Rattle.key.proofs.Walk.{text-answer, ne-true, ne-false, found, further, all_same}
 
@@ -9,11 +9,11 @@ pub returns-then-is_ne : goal.returns-then-is_ne
 returns-then-is_ne c =
     let l = c.loop-f in
     let a = c.args in
-    let p = pick_in a.texts.now a.starts.now a.i in
-    let q = pick_in a.texts.now a.starts.now a.j in
+    let p = pick_in a.self.now.texts.now a.self.now.starts.now a.i in
+    let q = pick_in a.self.now.texts.now a.self.now.starts.now a.j in
     let o = c.cmp-o in
-    let hp = five (between a.texts.now a.starts.now) a.i in
-    let hq = five (between a.texts.now a.starts.now) a.j in
+    let hp = five (between a.self.now.texts.now a.self.now.starts.now) a.i in
+    let hq = five (between a.self.now.texts.now a.self.now.starts.now) a.j in
     let e = rw (c.field-a.ensures, c.field-b.ensures) at (o.ensures ∙ text-answer c.field-a.result.now c.field-b.result.now) in
     found p q l.f o.result (omega arith) (omega arith) l.invariant e (ne-true o.result c.if-is_ne.ensures)
 
@@ -21,11 +21,11 @@ pub loop-f-preserved : goal.loop-f-preserved
 loop-f-preserved c =
     let l = c.loop-f in
     let a = c.args in
-    let p = pick_in a.texts.now a.starts.now a.i in
-    let q = pick_in a.texts.now a.starts.now a.j in
+    let p = pick_in a.self.now.texts.now a.self.now.starts.now a.i in
+    let q = pick_in a.self.now.texts.now a.self.now.starts.now a.j in
     let o = c.cmp-o in
-    let hp = five (between a.texts.now a.starts.now) a.i in
-    let hq = five (between a.texts.now a.starts.now) a.j in
+    let hp = five (between a.self.now.texts.now a.self.now.starts.now) a.i in
+    let hq = five (between a.self.now.texts.now a.self.now.starts.now) a.j in
     let e = rw (c.field-a.ensures, c.field-b.ensures) at (o.ensures ∙ text-answer c.field-a.result.now c.field-b.result.now) in
     further p q l.f o.result (omega arith) (omega arith) l.invariant e (ne-false o.result c.if-is_ne.ensures)
 
@@ -33,6 +33,6 @@ pub returns : goal.returns
 returns c =
     let l = c.loop-f in
     let a = c.args in
-    let hp = five (between a.texts.now a.starts.now) a.i in
-    let hq = five (between a.texts.now a.starts.now) a.j in
-    all_same (pick_in a.texts.now a.starts.now a.i) (pick_in a.texts.now a.starts.now a.j) l.f (omega arith) (omega arith) l.invariant
+    let hp = five (between a.self.now.texts.now a.self.now.starts.now) a.i in
+    let hq = five (between a.self.now.texts.now a.self.now.starts.now) a.j in
+    all_same (pick_in a.self.now.texts.now a.self.now.starts.now a.i) (pick_in a.self.now.texts.now a.self.now.starts.now a.j) l.f (omega arith) (omega arith) l.invariant
