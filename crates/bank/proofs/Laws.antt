@@ -1,4 +1,5 @@
 -- Header, validate and load, case by case, as the definitions nest them: each case's premises are what the code's branches have tested.
+use Rattle.std.specs.Result.{result_ok}
 use mathlib.Core.Path.{◌≡◌, ap, ◌∙◌, sym}
 use mathlib.Core.Bool.{true, false}
 use mathlib.Core.List.{List}
@@ -11,7 +12,7 @@ use Rattle.header.specs.declared.Bank.{Bank}
 use Rattle.region.specs.Region.{region_size, bank_of}
 use Rattle.header.specs.Header.{header_of}
 use Rattle.bank.specs.Bank.{named, data_ok, then_data, validated, first_tried, loaded}
-use Rattle.std.specs.Prelude.{Ok, Err, Some, None}
+use Rattle.std.specs.Prelude.{Ok, Err, Some, None, Result}
 
 module _ (region : List ℕ) where
   module _ (n : ℕ) where
@@ -53,6 +54,11 @@ module _ (region : List ℕ) where
   load-second r b e f g = rw (e, f, g)
 
   pub load-none : (r s : Refusal) → eqb (length region) region_size ≡ true → validated region (first_tried region) ≡ Err r → validated region (1 - first_tried region) ≡ Err s
-      → (Ok None) ≡ loaded region
+      → Ok None ≡ loaded region
   unfolding loaded
   load-none r s e f g = rw (e, f, g)
+
+  pub load-other : (r : Refusal) (v : Result Bank Refusal) → eqb (length region) region_size ≡ true → validated region (first_tried region) ≡ Err r → validated region (1 - first_tried region) ≡ v
+      → Ok (result_ok v) ≡ loaded region
+  load-other r (Ok b) e f g = load-second r b e f g
+  load-other r (Err x) e f g = load-none r x e f g

@@ -20,13 +20,12 @@ pub fn header(region: &[u8], number: u32) -> Result<Bank, Refusal>
     ensures { result ≡ Banks.named region.now number }
 {
     if region.len() != REGION_SIZE {
-        return Err(Refusal::Region);
+        Err(Refusal::Region)
+    } else if LAST_BANK < number {
+        Err(Refusal::Argument)
+    } else {
+        header_of(bank_of(region, number), number)
     }
-    if LAST_BANK < number {
-        return Err(Refusal::Argument);
-    }
-    let l = bank_of(region, number);
-    header_of(l, number)
 }
 
 // A bank's data.
@@ -81,11 +80,8 @@ pub fn load(region: &[u8]) -> Result<Option<Bank>, Refusal>
         return Err(Refusal::Region);
     }
     let first = first_tried(region);
-    let Ok(b) = validate(region, first) else {
-        let Ok(c) = validate(region, LAST_BANK - first) else {
-            return Ok(None);
-        };
-        return Ok(Some(c));
-    };
-    Ok(Some(b))
+    if let Ok(b) = validate(region, first) {
+        return Ok(Some(b));
+    }
+    Ok(validate(region, LAST_BANK - first).ok())
 }

@@ -46,11 +46,7 @@ pub fn picks_fit(texts: &[u8], lengths: &[u32]) -> bool
     ensures { result ≡ fit texts.now lengths.now }
 {
     let mut starts: [usize; STARTS] = [0; STARTS];
-    let p = prepare(&texts[0..0], texts, lengths, &mut starts);
-    match p {
-        Ok(_) => true,
-        Err(_) => false,
-    }
+    prepare(&texts[0..0], texts, lengths, &mut starts).is_ok()
 }
 
 // Writes the key of an identity and picks to out.

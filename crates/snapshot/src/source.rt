@@ -47,7 +47,7 @@ fn records_at(l: &[u8], version: u32, n: usize) -> [Source; SOURCES]
 pub fn sources(region: &[u8], number: u32) -> Result<[Source; SOURCES], Refusal>
     ensures { result ≡ Sources.sources_answer region.now number }
 {
-    let b = header(region, number)?;
-    let l = bank_of(region, b.number);
-    Ok(records_at(l, b.version, b.count as usize))
+    let bank = header(region, number)?;
+    let l = bank_of(region, bank.number);
+    Ok(records_at(l, bank.version, bank.count as usize))
 }

@@ -168,10 +168,12 @@ pub fn target(l: Result<Option<Bank>, Refusal>) -> u32
 fn active_ok(l: Result<Option<Bank>, Refusal>) -> bool
     ensures { result ≡ State.active_ok l }
 {
-    match l {
-        Ok(Some(b)) => b.number <= LAST_BANK,
-        Ok(None) => true,
-        Err(_) => false,
+    let Ok(active) = l else {
+        return false;
+    };
+    match active {
+        Some(b) => b.number <= LAST_BANK,
+        None => true,
     }
 }
 

@@ -13,7 +13,7 @@ returns-then-number-gt-LAST_BANK c =
     let a = c.args in
     no-bank a.region.now a.number (eq-eqb _ _ c.if-region-ne-REGION_SIZE.false) (lt-leb _ _ c.if-number-gt-LAST_BANK.true)
 
-pub returns : goal.returns
-returns c =
+pub returns-else-number-gt-LAST_BANK : goal.returns-else-number-gt-LAST_BANK
+returns-else-number-gt-LAST_BANK c =
     let a = c.args in
-    c.header_of.ensures ∙ ap (header_of a.number) c.bank_of-l.ensures ∙ named-is a.region.now a.number (eq-eqb _ _ c.if-region-ne-REGION_SIZE.false) (le-leb _ _ c.if-number-gt-LAST_BANK.false)
+    c.header_of.ensures ∙ ap (header_of a.number) c.bank_of.ensures ∙ named-is a.region.now a.number (eq-eqb _ _ c.if-region-ne-REGION_SIZE.false) (le-leb _ _ c.if-number-gt-LAST_BANK.false)
