@@ -1,10 +1,6 @@
 // Times and days as dates.
-use base::number::u32_to_u64;
 use leaf::date::valid_date;
-use program::number::bits;
-use program::output::{long_field, say};
-use std::io;
-use std::io::Write;
+use std::fmt;
 use std::num::{wrapping_add_u64, wrapping_sub_u64};
 
 // Seconds from 1970 to the end of the year 9999.
@@ -52,11 +48,7 @@ const MARCH: u64 = 3;
 
 const JANUARY_AFTER: u64 = 10;
 
-const TEN: u64 = 10;
-
 const HUNDRED: u64 = 100;
-
-const THOUSAND: u64 = 1000;
 
 const YEAR_UNIT: u64 = 10000;
 
@@ -68,9 +60,37 @@ struct Day {
     day: u64,
 }
 
-// Whether a time is printed as a date: from 1970 to 9999.
-pub fn has_date(z: i64) -> bool {
-    bits(z) < SECONDS_LIMIT
+impl fmt::Display for Day {
+    fn fmt<W: fmt::Write>(&self, f: &mut fmt::Formatter<W>) -> fmt::Result {
+        write!(
+            f,
+            "{:04}-{:02}-{:02}",
+            self.year % YEARS_LIMIT,
+            self.month % HUNDRED,
+            self.day % HUNDRED
+        )
+    }
+}
+
+// A time of a day.
+#[derive(Clone, Copy)]
+pub struct Time {
+    day: Day,
+    second: u64,
+}
+
+impl fmt::Display for Time {
+    fn fmt<W: fmt::Write>(&self, f: &mut fmt::Formatter<W>) -> fmt::Result {
+        let day = self.day;
+        let n = self.second;
+        write!(
+            f,
+            "{day} {:02}:{:02}:{:02}",
+            n / HOUR_SECONDS % DAY_HOURS,
+            n / MINUTE_SECONDS % MINUTE_SECONDS,
+            n % MINUTE_SECONDS
+        )
+    }
 }
 
 // The year of an era that a day of it is in.
@@ -119,46 +139,63 @@ fn day_at(n: u64) -> Day {
     }
 }
 
-fn digit<W: Write>(out: &mut W, n: u64) -> io::Result<()> {
-    long_field(out, b"", n % TEN)
-}
-
-// The last two digits of a number, after a text.
-fn two_digits<W: Write>(out: &mut W, before: &[u8], n: u64) -> io::Result<()> {
-    say(out, before)?;
-    digit(out, n / TEN)?;
-    digit(out, n)
-}
-
-fn say_day<W: Write>(out: &mut W, d: Day) -> io::Result<()> {
-    digit(out, d.year / THOUSAND)?;
-    digit(out, d.year / HUNDRED)?;
-    two_digits(out, b"", d.year)?;
-    two_digits(out, b"-", d.month)?;
-    two_digits(out, b"-", d.day)
-}
-
-// Prints a time that has a date, with what is between day and hour and what is at the end.
-pub fn say_time<W: Write>(out: &mut W, z: i64, between: &[u8], end: &[u8]) -> io::Result<()> {
-    let n = bits(z);
-    let d = day_at(n / DAY_SECONDS);
-    say_day(out, d)?;
-    two_digits(out, between, n / HOUR_SECONDS % DAY_HOURS)?;
-    two_digits(out, b":", n / MINUTE_SECONDS % MINUTE_SECONDS)?;
-    two_digits(out, b":", n % MINUTE_SECONDS)?;
-    say(out, end)
-}
-
-// Prints a day as 2026-01-01, or its number if it is no date.
-pub fn say_date<W: Write>(out: &mut W, d: u32) -> io::Result<()> {
-    let n = u32_to_u64(d);
-    if !valid_date(d) {
-        return long_field(out, b"", n);
+// The time of a number of seconds, if it is printed as a date: from 1970 to 9999.
+pub fn time_of(z: i64) -> Option<Time> {
+    let n = u64::try_from(z).ok()?;
+    if SECONDS_LIMIT <= n {
+        return None;
     }
-    let day = Day {
-        year: n / YEAR_UNIT,
-        month: n / HUNDRED,
-        day: n,
-    };
-    say_day(out, day)
+    Some(Time {
+        day: day_at(n / DAY_SECONDS),
+        second: n % DAY_SECONDS,
+    })
+}
+
+// A time in seconds, with its date if it has one.
+#[derive(Clone, Copy)]
+pub struct Dated(pub i64);
+
+impl fmt::Display for Dated {
+    fn fmt<W: fmt::Write>(&self, f: &mut fmt::Formatter<W>) -> fmt::Result {
+        let z = self.0;
+        match time_of(z) {
+            Some(time) => write!(f, "{z} ({time} UTC)"),
+            None => write!(f, "{z}"),
+        }
+    }
+}
+
+// A time that may be unknown: the lowest is.
+#[derive(Clone, Copy)]
+pub struct Known(pub i64);
+
+impl fmt::Display for Known {
+    fn fmt<W: fmt::Write>(&self, f: &mut fmt::Formatter<W>) -> fmt::Result {
+        let dated = Dated(self.0);
+        if self.0 == i64::MIN {
+            write!(f, "unknown")
+        } else {
+            write!(f, "{dated}")
+        }
+    }
+}
+
+// A day as 2026-01-01, or its number if it is no date.
+#[derive(Clone, Copy)]
+pub struct Date(pub u32);
+
+impl fmt::Display for Date {
+    fn fmt<W: fmt::Write>(&self, f: &mut fmt::Formatter<W>) -> fmt::Result {
+        let d = self.0;
+        if !valid_date(d) {
+            return write!(f, "{d}");
+        }
+        let n = u64::from(d);
+        let day = Day {
+            year: n / YEAR_UNIT,
+            month: n / HUNDRED,
+            day: n,
+        };
+        write!(f, "{day}")
+    }
 }

@@ -2,6 +2,7 @@
 #![tactic(auto)]
 
 mod clock;
+mod form;
 mod json;
 mod keytext;
 mod lines;
@@ -14,45 +15,58 @@ mod state;
 mod tables;
 mod text;
 
-use crate::options::{End, LENGTHS, Options, TEXTS_SIZE};
+use crate::form::Form;
+use crate::json::Json;
+use crate::lines::Lines;
+use crate::options::{LENGTHS, Options, TEXTS_SIZE};
+use crate::report::Wanted;
 use base::slice::part;
-use program::image::{Image, Place, REGION_OFFSET};
+use program::arguments::text as argument;
+use program::image::{Image, REGION_OFFSET};
 use program::{arguments, image, lengths, output};
 use std::io;
 use std::io::{BufWriter, Write};
 use std::rt::{Env, Files};
 
-pub const PROGRAM: [u8; 7] = *b"inspect";
+pub const PROGRAM: &[u8] = b"inspect";
 
-// Writes the identity to the start of a buffer; gives its length.
-fn identity(rt: &impl Env, at: usize, buffer: &mut [u8]) -> usize {
-    if at != 0 {
-        return arguments::read(rt, at, buffer);
-    }
-    0
+// The selection to match, if one is asked for: the identity is read into a buffer, the picks are in two.
+fn wanted<'a>(
+    rt: &impl Env,
+    o: Options,
+    buffer: &'a mut [u8],
+    texts: &'a [u8],
+    lengths: &'a [u32],
+) -> Option<Wanted<'a>> {
+    let s = o.selection?;
+    let identity: &'a [u8] = match s.identity {
+        Some(index) => argument(rt, index, buffer),
+        None => &[],
+    };
+    Some(Wanted {
+        identity,
+        texts: part(texts, 0, s.texts),
+        lengths: lengths::first(lengths, s.lengths),
+    })
 }
 
-// Where the region starts in a dump.
-fn offset(p: Place) -> usize {
-    match p {
-        Place::Given(offset) => offset,
-        Place::BySize => REGION_OFFSET,
-    }
-}
-
-// The first lines: the image's name, and the region in an image of a size; 0 if the image is a region.
-fn start<W: Write>(
+// What there is to report of an image, in a form.
+fn report_in<R: Env, W: Write, F: Form>(
+    rt: &R,
     out: &mut W,
-    place: Place,
-    json: bool,
-    name: &[u8],
-    size: u64,
+    form: &F,
+    region: &[u8],
+    size: Option<u64>,
+    o: Options,
+    buffer: &mut [u8],
+    texts: &[u8],
+    lengths: &[u32],
 ) -> io::Result<()> {
-    if json {
-        json::start(out, name, offset(place), size)
-    } else {
-        lines::start(out, name, offset(place), size)
-    }
+    let n = arguments::image_name(rt, o.images.index, buffer);
+    let offset = o.images.place.unwrap_or(REGION_OFFSET);
+    form.start(out, part(buffer, 0, n), offset, size)?;
+    let selected = wanted(rt, o, buffer, texts, lengths);
+    report::region_report(out, form, region, o, selected)
 }
 
 fn inspect<R: Env + Files + Input, W: Write, E: Write>(
@@ -64,28 +78,20 @@ fn inspect<R: Env + Files + Input, W: Write, E: Write>(
     texts: &[u8],
     lengths: &[u32],
 ) -> io::Result<()> {
-    let images = o.images;
-    let n = arguments::image_name(rt, images.index, buffer);
-    let program = PROGRAM;
-    let place = images.place;
-    let selection = o.selection;
-    let shown = o.shown;
+    let n = arguments::image_name(rt, o.images.index, buffer);
+    let name = part(buffer, 0, n);
     let mut region = image::buffer();
-    let i = image::read(rt, err, &program, part(buffer, 0, n), place, &mut region)?;
-    match i {
-        Image::Unusable => return Ok(()),
-        Image::Region => start(out, place, shown.json, part(buffer, 0, n), 0)?,
-        Image::Dump(size) => start(out, place, shown.json, part(buffer, 0, n), size)?,
+    let i = image::read(rt, err, PROGRAM, name, o.images.place, &mut region)?;
+    let size = match i {
+        None => return Ok(()),
+        Some(Image::Region) => None,
+        Some(Image::Dump(size)) => Some(size),
+    };
+    if o.json {
+        report_in(rt, out, &Json, &region, size, o, buffer, texts, lengths)
+    } else {
+        report_in(rt, out, &Lines, &region, size, o, buffer, texts, lengths)
     }
-    let m = identity(rt, selection.identity, buffer);
-    report::region_report(
-        out,
-        &region,
-        o,
-        part(buffer, 0, m),
-        part(texts, 0, selection.texts),
-        lengths::first(lengths, selection.lengths),
-    )
 }
 
 // Reads the arguments, and writes what they ask for or what is wrong with them.
@@ -97,11 +103,9 @@ fn answer<R: Env + Files + Input, W: Write, E: Write>(
     let mut buffer = arguments::buffer();
     let mut texts = [0u8; TEXTS_SIZE];
     let mut lengths = [0u32; LENGTHS];
-    let o = options::read(rt, &mut buffer, &mut texts, &mut lengths);
-    let end = o.end;
-    match end {
-        End::More => inspect(rt, out, err, o, &mut buffer, &texts, &lengths),
-        _ => message::report(rt, out, err, end, o.next, &mut buffer),
+    match options::read(rt, &mut buffer, &mut texts, &mut lengths) {
+        Ok(o) => inspect(rt, out, err, o, &mut buffer, &texts, &lengths),
+        Err(end) => message::report(rt, out, err, end, &mut buffer),
     }
 }
 
@@ -115,7 +119,6 @@ fn run<E: Write>(rt: &HostRuntime, err: &mut E) -> io::Result<()> {
 fn main(rt: HostRuntime) {
     let mut err = rt.stderr();
     let done = run(&rt, &mut err);
-    let program = PROGRAM;
     // There is nowhere to tell what standard error doesn't take.
-    let _ = output::finish(&mut err, &program, done);
+    let _ = output::finish(&mut err, PROGRAM, done);
 }

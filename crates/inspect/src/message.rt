@@ -1,28 +1,12 @@
 // The help, and what is wrong with the arguments.
 use crate::PROGRAM;
-use crate::options::End;
-use base::slice::part;
-use program::output::say;
-use program::{arguments, message};
+use program::message;
+use program::options::End;
 use std::io;
 use std::io::Write;
 use std::rt::Env;
 
-fn no_option<W: Write>(rt: &impl Env, err: &mut W, at: usize, buffer: &mut [u8]) -> io::Result<()> {
-    let n = arguments::read(rt, at, buffer);
-    let program = PROGRAM;
-    message::no_option(err, &program, part(buffer, 0, n))
-}
-
-fn no_image<W: Write>(err: &mut W) -> io::Result<()> {
-    let program = PROGRAM;
-    message::no_image(err, &program)
-}
-
-fn help<W: Write>(out: &mut W) -> io::Result<()> {
-    say(
-        out,
-        b"inspect [options] IMAGE
+const HELP: &str = "inspect [options] IMAGE
 
 Says what is in a board's two timetable banks: each bank's header, or why it is
 refused and what happened to it; the bank that load gives, its key and sources.
@@ -50,59 +34,15 @@ refused and what happened to it; the bank that load gives, its key and sources.
 
 With wrong arguments, an image of another size or one that can't be read, one
 line is on standard error and nothing on standard output.
-",
-    )
-}
-
-// What is wrong, by the index of its words.
-fn wrong_word(end: End) -> u32 {
-    match end {
-        End::Images => 0,
-        End::Offset => 1,
-        End::Bank => 2,
-        End::Now => 3,
-        End::Days => 4,
-        End::DaysAlone => 5,
-        End::Wanted => 6,
-        End::Identity => 7,
-        End::Pick => 8,
-        _ => 9,
-    }
-}
-
-fn wrong<W: Write>(err: &mut W, end: End) -> io::Result<()> {
-    let program = PROGRAM;
-    message::wrong(
-        err,
-        &program,
-        b"one image at a time|\
-          --offset needs a number of bytes, at most 16777216|\
-          --bank needs 0 or 1|\
-          --now needs a number of seconds|\
-          --days needs three numbers as D1,D2,D3|\
-          --days needs --now|\
-          --wanted needs y or n three times, as y,y,n|\
-          --identity needs a text|\
-          --pick needs five texts: line, route, stop code, stop, stop name|\
-          --rows needs a source (0, 1, 2 or all) and a table's name or all",
-        wrong_word(end),
-    )
-}
+";
 
 // Writes the help, or what is wrong with the arguments.
-pub fn report<W: Write, E: Write>(
-    rt: &impl Env,
+pub fn report<R: Env, W: Write, E: Write>(
+    rt: &R,
     out: &mut W,
     err: &mut E,
     end: End,
-    next: usize,
     buffer: &mut [u8],
 ) -> io::Result<()> {
-    match end {
-        End::More => Ok(()),
-        End::Help => help(out),
-        End::NoOption => no_option(rt, err, next, buffer),
-        End::NoImage => no_image(err),
-        _ => wrong(err, end),
-    }
+    message::report(rt, out, err, PROGRAM, HELP.as_bytes(), end, buffer)
 }

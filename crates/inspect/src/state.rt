@@ -1,16 +1,12 @@
 // What happened to a bank, from its bytes.
 use base::slice::part;
-use header::{
-    Bank, CHECKED_OFFSET, COMMIT_OFFSET, COMMIT_WORD, COUNT_OFFSET, CRC_OFFSET, DATA_CRC_OFFSET,
-    GENERATION_OFFSET, KEY_OFFSET, LENGTH_OFFSET, MAGIC, MAGIC_OFFSET, RECORDS_OFFSET, SOURCES,
-    VERSION_OFFSET, Validated, seal,
-};
+use base::table::TABLES;
+use header::{Bank, CHECKED_OFFSET, COMMIT_OFFSET, COMMIT_WORD, COUNT_OFFSET, CRC_OFFSET, DATA_CRC_OFFSET, GENERATION_OFFSET, KEY_OFFSET, LENGTH_OFFSET, MAGIC, MAGIC_OFFSET, RECORDS_OFFSET, SOURCES, VERSION_OFFSET, seal};
 use leaf::bytes::{get, get_time};
 use leaf::crc::crc32;
 use record::{Block, FIRST_VERSION, VERSION, source_size};
 use refusal::Refusal;
 use region::{BANK_SIZE, CAPACITY, ERASED_BYTE, SECTOR_SIZE, SECTOR_SIZE_32, bank_of};
-use snapshot::rows::BlockAnswer;
 use std::num::wrapping_add_u32;
 
 // The commit word of a header that is written but for it.
@@ -48,21 +44,18 @@ pub enum State {
     Data,
 }
 
-// The index of a state, by which `lines` and `json` have their words.
-pub fn index(s: State) -> u32 {
-    match s {
-        State::Good => 0,
-        State::Erased => 1,
-        State::NoHeader => 2,
-        State::HeaderInPart => 3,
-        State::NoCommitWord => 4,
-        State::CommitWordInPart => 5,
-        State::Magic => 6,
-        State::Version => 7,
-        State::Header => 8,
-        State::Numbers => 9,
-        State::Source => 10,
-        State::Data => 11,
+impl State {
+    // Whether the header's numbers are there to be shown.
+    pub fn has_numbers(self) -> bool {
+        !matches!(self, State::Erased | State::NoHeader)
+    }
+
+    // Whether the header is whole, so that its length is that of the data.
+    pub fn is_whole(self) -> bool {
+        matches!(
+            self,
+            State::Good | State::NoCommitWord | State::CommitWordInPart | State::Data
+        )
     }
 }
 
@@ -87,25 +80,8 @@ pub enum Sector {
     Other,
 }
 
-pub fn sector_index(s: Sector) -> u32 {
-    match s {
-        Sector::Erased => 0,
-        Sector::Header => 1,
-        Sector::Data => 2,
-        Sector::Damaged => 3,
-        Sector::Other => 4,
-    }
-}
-
 fn is_erased(s: &[u8]) -> bool {
-    let mut i = 0;
-    while i < s.len() {
-        if s[i] != ERASED_BYTE {
-            return false;
-        }
-        i += 1;
-    }
-    true
+    s.iter().all(|b| *b == ERASED_BYTE)
 }
 
 fn sector_bytes(l: &[u8], k: u32) -> &[u8] {
@@ -114,15 +90,12 @@ fn sector_bytes(l: &[u8], k: u32) -> &[u8] {
 
 // The last sector that isn't erased; 0 if there is none.
 fn last_written(l: &[u8]) -> u32 {
-    let mut last: u32 = 0;
-    let mut k: u32 = 0;
-    while k < SECTORS {
+    for k in (0..SECTORS).rev() {
         if !is_erased(sector_bytes(l, k)) {
-            last = k;
+            return k;
         }
-        k += 1;
     }
-    last
+    0
 }
 
 fn numbers_of(l: &[u8], number: u32) -> Bank {
@@ -196,7 +169,7 @@ fn refused(l: &[u8], r: Refusal, last: u32, b: Bank, sealed: bool) -> State {
 }
 
 // What a bank's bytes say, beside the answer of validate.
-pub fn find(region: &[u8], number: u32, v: Validated) -> Found {
+pub fn find(region: &[u8], number: u32, v: Result<Bank, Refusal>) -> Found {
     let l = bank_of(region, number);
     let last = last_written(l);
     let numbers = numbers_of(l, number);
@@ -204,8 +177,8 @@ pub fn find(region: &[u8], number: u32, v: Validated) -> Found {
     let computed_header_crc = header_crc_of(l, numbers.version);
     let sealed = header_crc == computed_header_crc;
     let state = match v {
-        Validated::Good(_) => State::Good,
-        Validated::Refused(r) => refused(l, r, last, numbers, sealed),
+        Ok(_) => State::Good,
+        Err(r) => refused(l, r, last, numbers, sealed),
     };
     Found {
         state,
@@ -214,26 +187,6 @@ pub fn find(region: &[u8], number: u32, v: Validated) -> Found {
         header_crc,
         computed_header_crc,
         computed_data_crc: crc32(0, data(l, numbers)),
-    }
-}
-
-// Whether the header's numbers are there to be shown.
-pub fn has_numbers(s: State) -> bool {
-    match s {
-        State::Erased => false,
-        State::NoHeader => false,
-        _ => true,
-    }
-}
-
-// Whether the header is whole, so that its length is that of the data.
-pub fn is_whole(s: State) -> bool {
-    match s {
-        State::Good => true,
-        State::NoCommitWord => true,
-        State::CommitWordInPart => true,
-        State::Data => true,
-        _ => false,
     }
 }
 
@@ -257,7 +210,7 @@ fn reaches(b: Block, k: u32) -> bool {
 fn damages(region: &[u8], number: u32, i: u32, t: u32, k: u32) -> bool {
     let a = snapshot::rows::table_block(region, number, i, t);
     match a {
-        BlockAnswer::Found(b) => {
+        Ok(b) => {
             if reaches(b, k) {
                 return block_crc(region, number, b) != b.crc;
             }
@@ -267,19 +220,14 @@ fn damages(region: &[u8], number: u32, i: u32, t: u32, k: u32) -> bool {
     }
 }
 
-// How many tables a bank has at most.
-const MOST_TABLES: u32 = (SOURCES * base::table::TABLES) as u32;
-
-const TABLES_32: u32 = base::table::TABLES as u32;
-
 // Whether a table with a wrong CRC has bytes in a sector.
 fn is_damaged(region: &[u8], number: u32, k: u32) -> bool {
-    let mut n: u32 = 0;
-    while n < MOST_TABLES {
-        if damages(region, number, n / TABLES_32, n % TABLES_32, k) {
-            return true;
+    for i in 0..SOURCES as u32 {
+        for t in 0..TABLES as u32 {
+            if damages(region, number, i, t, k) {
+                return true;
+            }
         }
-        n += 1;
     }
     false
 }
@@ -300,7 +248,7 @@ pub fn sector_of(region: &[u8], number: u32, s: State, b: Bank, k: u32) -> Secto
     if k == 0 {
         return Sector::Header;
     }
-    if !is_whole(s) | !is_before(b.length, k) {
+    if !s.is_whole() | !is_before(b.length, k) {
         return Sector::Other;
     }
     if is_damaged(region, number, k) {

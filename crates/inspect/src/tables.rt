@@ -1,81 +1,28 @@
 // The tables by number and by name.
-use crate::out::say_one;
-use base::slice::same_bytes;
-use program::output::say;
-use std::io;
-use std::io::Write;
+use base::table::TABLES;
 
-const ROUTES: u32 = 0;
-
-const STOPS: u32 = 1;
-
-const TRIPS: u32 = 2;
-
-const STOP_TIMES: u32 = 3;
-
-const CALENDAR: u32 = 4;
-
-const CALENDAR_DATES: u32 = 5;
-
-const FEED_INFO: u32 = 6;
-
-const TRANSFERS: u32 = 7;
-
-// One by its number, or all; unknown if the argument names none.
-#[derive(Clone, Copy)]
-pub enum Choice {
-    One(u32),
-    All,
-    Unknown,
-}
+const NAMES: [&str; TABLES] = [
+    "routes",
+    "stops",
+    "trips",
+    "stop_times",
+    "calendar",
+    "calendar_dates",
+    "feed_info",
+    "transfers",
+];
 
 // A table's name.
-pub fn say_name<W: Write>(out: &mut W, t: u32) -> io::Result<()> {
-    say_one(
-        out,
-        b"routes|stops|trips|stop_times|calendar|calendar_dates|feed_info|transfers",
-        t,
-    )
+pub fn name(t: u32) -> &'static str {
+    NAMES.get(t as usize).copied().unwrap_or("")
 }
 
-// A space and a table's name.
-pub fn say_table<W: Write>(out: &mut W, t: u32) -> io::Result<()> {
-    say(out, b" ")?;
-    say_name(out, t)
+// The number of the table that has a name.
+pub fn number(name: &[u8]) -> Option<u32> {
+    (0..TABLES as u32).find(|t| self::name(*t).as_bytes() == name)
 }
 
-pub fn table_named(s: &[u8]) -> Choice {
-    if same_bytes(s, b"routes") {
-        return Choice::One(ROUTES);
-    }
-    if same_bytes(s, b"stops") {
-        return Choice::One(STOPS);
-    }
-    if same_bytes(s, b"trips") {
-        return Choice::One(TRIPS);
-    }
-    if same_bytes(s, b"stop_times") {
-        return Choice::One(STOP_TIMES);
-    }
-    later_table_named(s)
-}
-
-fn later_table_named(s: &[u8]) -> Choice {
-    if same_bytes(s, b"calendar") {
-        return Choice::One(CALENDAR);
-    }
-    if same_bytes(s, b"calendar_dates") {
-        return Choice::One(CALENDAR_DATES);
-    }
-    if same_bytes(s, b"feed_info") {
-        return Choice::One(FEED_INFO);
-    }
-    if same_bytes(s, b"transfers") {
-        return Choice::One(TRANSFERS);
-    }
-    if same_bytes(s, b"all") {
-        Choice::All
-    } else {
-        Choice::Unknown
-    }
+// Whether a table's bit is set.
+pub fn is_set(bits: u32, t: u32) -> bool {
+    (t < u32::BITS) && (bits >> t & 1 == 1)
 }

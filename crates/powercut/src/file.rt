@@ -14,12 +14,12 @@ use std::{fs, io};
 // What a picture starts with.
 const MARK_SIZE: usize = 4;
 
-const MARK: [u8; MARK_SIZE] = *b"<svg";
+const MARK: &[u8] = b"<svg";
 
 // The new file has the picture's name with this ending.
 const ENDING_SIZE: usize = 5;
 
-const ENDING: [u8; ENDING_SIZE] = *b".part";
+const ENDING: &[u8] = b".part";
 
 // The system opens no longer path.
 const PATH_SIZE: usize = 4096;
@@ -27,59 +27,35 @@ const PATH_SIZE: usize = 4096;
 // A path with that ending.
 const NAME_SIZE: usize = PATH_SIZE + ENDING_SIZE;
 
-// What a name leads to.
-#[derive(Clone, Copy)]
-enum Found {
-    Nothing,
-    Picture,
-    Other,
-    Unread(io::Error),
-}
-
-// The picture's new file, if a picture is asked for. A file to which a write failed is closed.
-#[derive(Drop)]
-pub enum Picture<F: Write + Drop> {
-    Unasked,
-    Open(BufWriter<F>),
-    Failed,
-}
-
 fn is_picture<F: Read>(file: &mut F) -> bool {
     let mut space = [0u8; MARK_SIZE];
-    let mark = MARK;
     let n = read_full(file, &mut space).unwrap_or(0);
-    same_bytes(part(&space, 0, n), &mark)
+    same_bytes(part(&space, 0, n), MARK)
 }
 
 fn open_read<R: Files>(rt: &R, name: &[u8]) -> io::Result<R::File> {
     File::open(rt, path_of(name)?)
 }
 
-fn what_is_there<R: Files>(rt: &R, name: &[u8]) -> Found {
+// Whether a picture may be written under a name: nothing is there, or a picture is.
+fn may_be_written<R: Files>(rt: &R, name: &[u8]) -> io::Result<bool> {
     match open_read(rt, name) {
-        Ok(mut file) => {
-            if is_picture(&mut file) {
-                Found::Picture
-            } else {
-                Found::Other
-            }
-        }
+        Ok(mut file) => Ok(is_picture(&mut file)),
         Err(why) => {
             if why.kind() == ErrorKind::NotFound {
-                Found::Nothing
+                Ok(true)
             } else {
-                Found::Unread(why)
+                Err(why)
             }
         }
     }
 }
 
-// Writes the new file's name, NAME.part, to the start of a buffer; gives its length.
-fn new_name(name: &[u8], out: &mut [u8]) -> usize {
-    let ending = ENDING;
+// The new file's name, NAME.part, of which a buffer holds the bytes.
+fn new_name<'a>(name: &[u8], out: &'a mut [u8]) -> &'a [u8] {
     copy(name, out, 0);
-    copy(&ending, out, name.len());
-    wrapping_add_usize(name.len(), ENDING_SIZE)
+    copy(ENDING, out, name.len());
+    part(out, 0, wrapping_add_usize(name.len(), ENDING_SIZE))
 }
 
 fn remove<R: Files>(rt: &R, name: &[u8]) -> io::Result<()> {
@@ -106,15 +82,14 @@ fn create<R: Files + AllocGlobal, E: Write>(
     err: &mut E,
     program: &[u8],
     name: &[u8],
-) -> Picture<R::File> {
+) -> Option<BufWriter<R::File>> {
     let mut space = [0u8; NAME_SIZE];
-    let out: &mut [u8] = &mut space;
-    let n = new_name(name, out);
-    match create_new(rt, part(out, 0, n)) {
-        Ok(file) => Picture::Open(file),
+    let new = new_name(name, &mut space);
+    match create_new(rt, new) {
+        Ok(file) => Some(file),
         Err(why) => {
-            let _ = unwritten(err, program, part(out, 0, n), &why);
-            Picture::Failed
+            let _ = unwritten(err, program, new, &why);
+            None
         }
     }
 }
@@ -125,47 +100,43 @@ pub fn open<R: Files + AllocGlobal, E: Write>(
     err: &mut E,
     program: &[u8],
     name: &[u8],
-) -> Picture<R::File> {
-    let f = what_is_there(rt, name);
-    match f {
-        Found::Other => {
+) -> Option<BufWriter<R::File>> {
+    match may_be_written(rt, name) {
+        Ok(true) => create(rt, err, program, name),
+        Ok(false) => {
             let _ = crate::message::no_picture(err, name);
-            Picture::Failed
+            None
         }
-        Found::Unread(why) => {
+        Err(why) => {
             let _ = unwritten(err, program, name, &why);
-            Picture::Failed
+            None
         }
-        _ => create(rt, err, program, name),
     }
 }
 
-// The file after a write to it. One that failed is told, and what is left of it isn't tried again.
+// The file after a write to it. One that failed is told, and what is left of it isn't tried again: the file is closed.
 pub fn written<F: Write + Drop, E: Write>(
     err: &mut E,
     file: BufWriter<F>,
     done: io::Result<()>,
-) -> Picture<F> {
+) -> Option<BufWriter<F>> {
     match done {
-        Ok(()) => Picture::Open(file),
+        Ok(()) => Some(file),
         Err(why) => {
             let (_file, _left) = file.into_parts();
             let _ = failed(err, &why);
-            Picture::Failed
+            None
         }
     }
 }
 
 // Writes what is left of a picture and closes its file; whether all of it is written.
-fn is_whole<F: Write + Drop, E: Write>(err: &mut E, picture: Picture<F>) -> bool {
-    let Picture::Open(mut file) = picture else {
+fn is_whole<F: Write + Drop, E: Write>(err: &mut E, picture: Option<BufWriter<F>>) -> bool {
+    let Some(mut file) = picture else {
         return false;
     };
     let done = file.flush();
-    match written(err, file, done) {
-        Picture::Open(_file) => true,
-        _ => false,
-    }
+    written(err, file, done).is_some()
 }
 
 fn rename<R: Files>(rt: &R, from: &[u8], to: &[u8]) -> io::Result<()> {
@@ -178,18 +149,17 @@ pub fn close<R: Files, E: Write>(
     err: &mut E,
     program: &[u8],
     name: &[u8],
-    picture: Picture<R::File>,
+    picture: Option<BufWriter<R::File>>,
 ) {
     let mut space = [0u8; NAME_SIZE];
-    let out: &mut [u8] = &mut space;
-    let n = new_name(name, out);
+    let new = new_name(name, &mut space);
     if !is_whole(err, picture) {
         let _ = unfinished(err, program, name);
-        let _ = remove(rt, part(out, 0, n));
+        let _ = remove(rt, new);
         return;
     }
-    if let Err(why) = rename(rt, part(out, 0, n), name) {
+    if let Err(why) = rename(rt, new, name) {
         let _ = unwritten(err, program, name, &why);
-        let _ = remove(rt, part(out, 0, n));
+        let _ = remove(rt, new);
     }
 }

@@ -2,13 +2,13 @@
 use crate::data::make;
 use crate::kinds::{FULL_OPERATIONS, Leftover};
 use crate::update::{begin, run};
-use bank::Loaded;
 use base::number::BYTE_VALUES_32;
 use base::slice::part;
 use header::{Bank, CRC_OFFSET, GENERATION_OFFSET, RECORDS_OFFSET, SOURCES, VERSION_OFFSET, seal};
 use leaf::bytes::{get, get8, put};
 use program::bytes::{fill, put8};
 use record::source_size;
+use refusal::Refusal;
 use region::{BANK_SIZE, CAPACITY, ERASED_BYTE};
 use std::num::{wrapping_add_usize, wrapping_sub_u32};
 
@@ -35,25 +35,23 @@ const LEFT_AGAIN: u32 = 5;
 const LEFT_AGAIN_LIMIT: u32 = 134217728;
 
 // The number of the bank that is written if load gives l.
-pub fn number_after(l: Loaded) -> u32 {
+pub fn number_after(l: Result<Option<Bank>, Refusal>) -> u32 {
     match l {
-        Loaded::Found(b) => { if b.number == 0 { 1 } else { 0 } }
+        Ok(Some(b)) => { if b.number == 0 { 1 } else { 0 } }
         _ => 0,
     }
 }
 
 // Where that bank starts.
-pub fn start(l: Loaded) -> usize {
+pub fn start(l: Result<Option<Bank>, Refusal>) -> usize {
     (number_after(l) % BANKS) as usize * BANK_SIZE
 }
 
 // Copies the bank at an offset to another offset.
 fn copy_bank(region: &mut [u8], from: usize, to: usize) {
-    let mut i = 0;
-    while i < BANK_SIZE {
+    for i in 0..BANK_SIZE {
         let b = get8(region, wrapping_add_usize(from, i));
         put8(region, wrapping_add_usize(to, i), b);
-        i += 1;
     }
 }
 
@@ -67,15 +65,13 @@ fn shuffled(x: u32) -> u32 {
 // Sets the bytes of the bank at an offset to pseudorandom ones, the same at each run.
 fn shuffle_bank(region: &mut [u8], from: usize) {
     let mut x = SEED;
-    let mut i = 0;
-    while i < BANK_SIZE {
+    for i in 0..BANK_SIZE {
         x = shuffled(x);
         put8(
             region,
             wrapping_add_usize(from, i),
             (x % BYTE_VALUES_32) as u8,
         );
-        i += 1;
     }
 }
 
@@ -105,9 +101,9 @@ fn older_bank(region: &mut [u8], b: Bank, to: usize) {
 }
 
 // Without an active bank nothing is copied.
-fn older(region: &mut [u8], l: Loaded) {
+fn older(region: &mut [u8], l: Result<Option<Bank>, Refusal>) {
     match l {
-        Loaded::Found(b) => older_bank(region, b, start(l)),
+        Ok(Some(b)) => older_bank(region, b, start(l)),
         _ => return,
     }
 }

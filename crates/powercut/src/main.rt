@@ -15,15 +15,15 @@ mod torn;
 mod trial;
 mod update;
 
-use crate::file::{Picture, written};
+use crate::file::written;
 use crate::kinds::{KINDS, LEFTOVERS};
-use crate::options::{End, Options};
+use crate::options::Options;
 use crate::scratch::{MARKS, MARKS_SIZE, SCRATCH_SIZE};
 use crate::trial::{Count, Plan, Setting};
 use base::slice::part;
+use program::arguments::text;
 use program::bytes::copy;
-use program::image::Image;
-use program::output::complain;
+use program::output::put;
 use program::{arguments, image, output};
 use region::{CAPACITY, REGION_SIZE};
 use std::io;
@@ -31,36 +31,21 @@ use std::io::{BufWriter, IsTerminal, Write};
 use std::num::wrapping_add_u32;
 use std::rt::{Env, Files};
 
-pub const PROGRAM: [u8; 8] = *b"powercut";
+pub const PROGRAM: &[u8] = b"powercut";
 
-// Each kind of update with each leftover.
-const COMBINATIONS: u32 = LEFTOVERS * KINDS;
-
-// How many updates were tried, their cuts together, what the writes to standard output gave, and the picture. After one that failed nothing more
-// is written there.
+// How many updates were tried, their cuts together, what the writes to standard output gave, and the picture's file, if a picture is asked for
+// and no write to it failed. After a write to standard output that failed nothing more is written there.
 #[derive(Drop)]
 struct Tally<F: Write + Drop> {
     updates: u32,
     all: Count,
     said: io::Result<()>,
-    picture: Picture<F>,
+    picture: Option<BufWriter<F>>,
 }
 
-// An update that is tried, or one that isn't asked for.
-#[derive(Clone, Copy)]
-enum Combination {
-    Asked(Setting),
-    Skipped,
-}
-
-fn added<F: Write + Drop>(t: Tally<F>, c: Count) -> Tally<F> {
-    let Tally {
-        updates,
-        all: a,
-        said,
-        picture,
-    } = t;
-    let all = Count {
+// The cuts of two updates together.
+fn sum(a: Count, c: Count) -> Count {
+    Count {
         cuts: wrapping_add_u32(a.cuts, c.cuts),
         inside: wrapping_add_u32(a.inside, c.inside),
         old: wrapping_add_u32(a.old, c.old),
@@ -69,19 +54,13 @@ fn added<F: Write + Drop>(t: Tally<F>, c: Count) -> Tally<F> {
         wrong: wrapping_add_u32(a.wrong, c.wrong),
         first: 0,
         byte: 0,
-    };
-    Tally {
-        updates: wrapping_add_u32(updates, 1),
-        all,
-        said,
-        picture,
     }
 }
 
 // Clears the progress line.
 fn clear<E: Write>(err: &mut E, progress: bool) -> io::Result<()> {
     if progress {
-        complain(err, b"\r\x1b[K")?;
+        put(err, b"\r\x1b[K")?;
     }
     Ok(())
 }
@@ -98,53 +77,33 @@ fn prepare(image: &[u8], region: &mut [u8], data: &mut [u8], s: Setting) {
 // Draws an update's column, if there is a picture.
 fn drawn<E: Write, F: Write + Drop>(
     err: &mut E,
-    picture: Picture<F>,
+    picture: Option<BufWriter<F>>,
     p: Plan,
     c: Count,
     marks: &[u8],
     o: Options,
-) -> Picture<F> {
-    let leftovers = o.leftovers;
-    let updates = o.updates;
-    match picture {
-        Picture::Open(mut file) => {
-            let done = picture::draw(&mut file, marks, p, c, leftovers, updates);
-            written(err, file, done)
-        }
-        other => other,
-    }
+) -> Option<BufWriter<F>> {
+    let mut file = picture?;
+    let done = picture::draw(&mut file, marks, p, c, o.leftovers, o.updates);
+    written(err, file, done)
 }
 
 // Writes an update's line and draws its column, and adds it to the others.
-fn reported<O: Write, E: Write, F: Write + Drop>(
+fn report<O: Write, E: Write, F: Write + Drop>(
     out: &mut O,
     err: &mut E,
-    t: Tally<F>,
+    t: &mut Tally<F>,
     p: Plan,
     c: Count,
     marks: &[u8],
     o: Options,
-) -> Tally<F> {
-    let Tally {
-        updates,
-        all,
-        said,
-        picture,
-    } = t;
-    let said = match said {
-        Ok(()) => lines::update_line(out, p, c),
-        Err(why) => Err(why),
-    };
-    let picture = drawn(err, picture, p, c, marks, o);
-    added(
-        Tally {
-            updates,
-            all,
-            said,
-            picture,
-        },
-        c,
-    )
+) {
+    if t.said.is_ok() {
+        t.said = lines::update_line(out, p, c);
+    }
+    t.picture = drawn(err, t.picture.take(), p, c, marks, o);
+    t.updates = wrapping_add_u32(t.updates, 1);
+    t.all = sum(t.all, c);
 }
 
 // Tries an update on a prepared region.
@@ -157,13 +116,13 @@ fn tried<O: Write, E: Write, F: Write + Drop>(
     scratch: &mut [u8],
     s: Setting,
     o: Options,
-    t: Tally<F>,
-) -> Tally<F> {
+    t: &mut Tally<F>,
+) {
     let p = trial::planned(region, data, s);
     strips::clear(scratch);
     let c = trial::trial(err, p, region, image, data, scratch);
     let _ = clear(err, s.progress);
-    reported(out, err, t, p, c, part(scratch, MARKS, MARKS_SIZE), o)
+    report(out, err, t, p, c, part(scratch, MARKS, MARKS_SIZE), o);
 }
 
 // Tries an update on the image with a leftover.
@@ -176,45 +135,10 @@ fn try_setting<O: Write, E: Write, F: Write + Drop>(
     scratch: &mut [u8],
     s: Setting,
     o: Options,
-    t: Tally<F>,
-) -> Tally<F> {
+    t: &mut Tally<F>,
+) {
     prepare(image, region, data, s);
-    tried(out, err, image, region, data, scratch, s, o, t)
-}
-
-fn combination_at(o: Options, k: u32) -> Combination {
-    let leftovers = o.leftovers;
-    let updates = o.updates;
-    let leftover = kinds::leftover_at(k / KINDS);
-    let update = kinds::kind_at(k % KINDS);
-    if kinds::has_leftover(leftovers, leftover) & kinds::has_update(updates, update) {
-        let cuts = o.cuts;
-        return Combination::Asked(Setting {
-            leftover,
-            update,
-            cuts,
-            progress: o.progress,
-        });
-    }
-    Combination::Skipped
-}
-
-// Tries the update, if it is asked for.
-fn if_asked<O: Write, E: Write, F: Write + Drop>(
-    out: &mut O,
-    err: &mut E,
-    image: &[u8],
-    region: &mut [u8],
-    data: &mut [u8],
-    scratch: &mut [u8],
-    c: Combination,
-    o: Options,
-    t: Tally<F>,
-) -> Tally<F> {
-    match c {
-        Combination::Asked(s) => try_setting(out, err, image, region, data, scratch, s, o, t),
-        Combination::Skipped => t,
-    }
+    tried(out, err, image, region, data, scratch, s, o, t);
 }
 
 // Tries all updates that are asked for.
@@ -226,51 +150,34 @@ fn try_combinations<O: Write, E: Write, F: Write + Drop>(
     data: &mut [u8],
     scratch: &mut [u8],
     o: Options,
-    begun: Tally<F>,
-) -> Tally<F> {
-    let mut t = begun;
-    let mut k: u32 = 0;
-    while k < COMBINATIONS {
-        t = if_asked(
-            out,
-            err,
-            image,
-            region,
-            data,
-            scratch,
-            combination_at(o, k),
-            o,
-            t,
-        );
-        k += 1;
+    t: &mut Tally<F>,
+) {
+    for leftover in LEFTOVERS {
+        for update in KINDS {
+            if o.leftovers.has(leftover) & o.updates.has(update) {
+                let s = Setting {
+                    leftover,
+                    update,
+                    cuts: o.cuts,
+                    progress: o.progress,
+                };
+                try_setting(out, err, image, region, data, scratch, s, o, t);
+            }
+        }
     }
-    t
 }
 
-// Opens the picture's file, if a picture is asked for. The buffer is for its name.
-fn picture_file<R: Env + Files + AllocGlobal, E: Write>(
-    rt: &R,
+fn start<E: Write, F: Write + Drop>(
     err: &mut E,
     o: Options,
-    buffer: &mut [u8],
-) -> Picture<R::File> {
-    if o.picture == 0 {
-        return Picture::Unasked;
-    }
-    let n = arguments::read(rt, o.picture, buffer);
-    let program = PROGRAM;
-    file::open(rt, err, &program, part(buffer, 0, n))
-}
-
-fn start<E: Write, F: Write + Drop>(err: &mut E, o: Options, picture: Picture<F>) -> Tally<F> {
-    let updates = o.updates;
-    let cuts = o.cuts;
+    picture: Option<BufWriter<F>>,
+) -> Tally<F> {
     let picture = match picture {
-        Picture::Open(mut file) => {
-            let done = picture::start(&mut file, updates, cuts);
+        Some(mut file) => {
+            let done = picture::start(&mut file, o.updates, o.cuts);
             written(err, file, done)
         }
-        other => other,
+        None => None,
     };
     Tally {
         updates: 0,
@@ -283,46 +190,15 @@ fn start<E: Write, F: Write + Drop>(err: &mut E, o: Options, picture: Picture<F>
 fn finish<O: Write, E: Write, F: Write + Drop>(
     out: &mut O,
     err: &mut E,
-    t: Tally<F>,
+    t: &mut Tally<F>,
     name: &[u8],
-) -> Tally<F> {
-    let Tally {
-        updates,
-        all,
-        said,
-        picture,
-    } = t;
-    let said = match said {
-        Ok(()) => lines::last_line(out, updates, all),
-        Err(why) => Err(why),
-    };
-    let picture = match picture {
-        Picture::Open(mut file) => {
-            let done = picture::end(&mut file, name, updates, all);
-            written(err, file, done)
-        }
-        other => other,
-    };
-    Tally {
-        updates,
-        all,
-        said,
-        picture,
-    }
-}
-
-// Gives the picture its name, if there is one.
-fn keep_picture<R: Env + Files, E: Write>(
-    rt: &R,
-    err: &mut E,
-    o: Options,
-    picture: Picture<R::File>,
-    buffer: &mut [u8],
 ) {
-    if o.picture != 0 {
-        let n = arguments::read(rt, o.picture, buffer);
-        let program = PROGRAM;
-        file::close(rt, err, &program, part(buffer, 0, n), picture);
+    if t.said.is_ok() {
+        t.said = lines::last_line(out, t.updates, t.all);
+    }
+    if let Some(mut file) = t.picture.take() {
+        let done = picture::end(&mut file, name, t.updates, t.all);
+        t.picture = written(err, file, done);
     }
 }
 
@@ -335,9 +211,9 @@ fn try_in_buffers<O: Write, E: Write, F: Write + Drop>(
     data: &mut [u8; CAPACITY],
     scratch: &mut [u8; SCRATCH_SIZE],
     o: Options,
-    begun: Tally<F>,
-) -> Tally<F> {
-    try_combinations(out, err, image, region, data, scratch, o, begun)
+    t: &mut Tally<F>,
+) {
+    try_combinations(out, err, image, region, data, scratch, o, t);
 }
 
 fn with_buffers<O: Write, E: Write, F: Write + Drop>(
@@ -345,21 +221,35 @@ fn with_buffers<O: Write, E: Write, F: Write + Drop>(
     err: &mut E,
     image: &[u8],
     o: Options,
-    begun: Tally<F>,
-) -> Tally<F> {
+    t: &mut Tally<F>,
+) {
     let mut region = image::buffer();
     let mut data = data::buffer();
     let mut scratch = scratch::buffer();
-    try_in_buffers(
-        out,
-        err,
-        image,
-        &mut region,
-        &mut data,
-        &mut scratch,
-        o,
-        begun,
-    )
+    try_in_buffers(out, err, image, &mut region, &mut data, &mut scratch, o, t);
+}
+
+// Tries the updates on an image, and gives what the writes to standard output gave, with the picture.
+fn try_all<R: Env, O: Write, E: Write, F: Write + Drop>(
+    rt: &R,
+    out: &mut O,
+    err: &mut E,
+    image: &[u8; REGION_SIZE],
+    o: Options,
+    picture: Option<BufWriter<F>>,
+    buffer: &mut [u8],
+) -> (io::Result<()>, Option<BufWriter<F>>) {
+    let mut t = start(err, o, picture);
+    with_buffers(out, err, image, o, &mut t);
+    let n = arguments::image_name(rt, o.images.index, buffer);
+    finish(out, err, &mut t, part(buffer, 0, n));
+    let Tally {
+        updates: _,
+        all: _,
+        said,
+        picture,
+    } = t;
+    (said, picture)
 }
 
 // Tries the updates on an image, and draws them if that is asked for. Gives what the writes to standard output gave.
@@ -371,20 +261,15 @@ fn try_updates<R: Env + Files + AllocGlobal, O: Write, E: Write>(
     o: Options,
     buffer: &mut [u8],
 ) -> io::Result<()> {
-    let picture = picture_file(rt, err, o, buffer);
-    if let Picture::Failed = picture {
+    let Some(index) = o.picture else {
+        let (said, _none) = try_all(rt, out, err, image, o, None::<BufWriter<R::File>>, buffer);
+        return said;
+    };
+    let Some(picture) = file::open(rt, err, PROGRAM, text(rt, index, buffer)) else {
         return Ok(());
-    }
-    let begun = start(err, o, picture);
-    let t = with_buffers(out, err, image, o, begun);
-    let n = arguments::image_name(rt, o.image, buffer);
-    let Tally {
-        updates: _,
-        all: _,
-        said,
-        picture,
-    } = finish(out, err, t, part(buffer, 0, n));
-    keep_picture(rt, err, o, picture, buffer);
+    };
+    let (said, picture) = try_all(rt, out, err, image, o, Some(picture), buffer);
+    file::close(rt, err, PROGRAM, text(rt, index, buffer), picture);
     said
 }
 
@@ -395,14 +280,13 @@ fn try_image<R: Env + Files + AllocGlobal + Input, O: Write, E: Write>(
     o: Options,
     buffer: &mut [u8],
 ) -> io::Result<()> {
-    let n = arguments::image_name(rt, o.image, buffer);
-    let program = PROGRAM;
+    let n = arguments::image_name(rt, o.images.index, buffer);
     let mut image = image::buffer();
-    let place = o.place;
-    let i = image::read(rt, err, &program, part(buffer, 0, n), place, &mut image)?;
+    let name = part(buffer, 0, n);
+    let i = image::read(rt, err, PROGRAM, name, o.images.place, &mut image)?;
     match i {
-        Image::Unusable => Ok(()),
-        _ => try_updates(rt, out, err, &image, o, buffer),
+        Some(_) => try_updates(rt, out, err, &image, o, buffer),
+        None => Ok(()),
     }
 }
 
@@ -421,11 +305,9 @@ fn run<R: Env + Files + AllocGlobal + Input, O: Write, E: Write + IsTerminal>(
     err: &mut E,
 ) -> io::Result<()> {
     let mut buffer = arguments::buffer();
-    let o = options::read(rt, &mut buffer);
-    let end = o.end;
-    match end {
-        End::More => try_image(rt, out, err, with_progress(err, o), &mut buffer)?,
-        _ => message::report(rt, out, err, end, o.next, &mut buffer)?,
+    match options::read(rt, &mut buffer) {
+        Ok(o) => try_image(rt, out, err, with_progress(err, o), &mut buffer)?,
+        Err(end) => message::report(rt, out, err, end, &mut buffer)?,
     }
     out.flush()
 }
@@ -435,8 +317,7 @@ fn main(rt: HostRuntime) -> io::Result<()> {
     let mut out = BufWriter::new(rt.alloc(), rt.stdout())?;
     let mut err = rt.stderr();
     let done = run(&rt, &mut out, &mut err);
-    let program = PROGRAM;
-    let _ = output::finish(&mut err, &program, done);
+    let _ = output::finish(&mut err, PROGRAM, done);
     let (_out, _left) = out.into_parts();
     Ok(())
 }

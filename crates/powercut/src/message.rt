@@ -1,44 +1,22 @@
 // The help, and what is wrong with the arguments.
 use crate::PROGRAM;
-use crate::options::End;
-use base::slice::part;
-use program::output::say;
-use program::{arguments, message};
+use program::message;
+use program::options::End;
 use std::io;
 use std::io::Write;
 use std::rt::Env;
 
-fn no_option<R: Env, E: Write>(
-    rt: &R,
-    err: &mut E,
-    at: usize,
-    buffer: &mut [u8],
-) -> io::Result<()> {
-    let n = arguments::read(rt, at, buffer);
-    let program = PROGRAM;
-    message::no_option(err, &program, part(buffer, 0, n))
-}
-
 // Says that the picture's file is there and is something else.
 pub fn no_picture<E: Write>(err: &mut E, name: &[u8]) -> io::Result<()> {
-    let program = PROGRAM;
     message::refuse(
         err,
-        &program,
+        PROGRAM,
         name,
         b" is there already and isn't an SVG picture; it is left as it is\n",
     )
 }
 
-fn no_image<E: Write>(err: &mut E) -> io::Result<()> {
-    let program = PROGRAM;
-    message::no_image(err, &program)
-}
-
-fn help<O: Write>(out: &mut O) -> io::Result<()> {
-    say(
-        out,
-        b"powercut [options] IMAGE
+const HELP: &str = "powercut [options] IMAGE
 
 Runs whole updates over a board's two timetable banks, cuts the power between
 flash operations and inside them, and compares what load then gives with what
@@ -69,36 +47,7 @@ The exit status is always 0: programs in this language have no other. That of
 and 3 if a write failed. With wrong arguments, an image of another size or one
 that can't be read, one line is on standard error and nothing on standard
 output.
-",
-    )
-}
-
-// What is wrong, by the index of its words.
-fn wrong_word(end: End) -> u32 {
-    match end {
-        End::Images => 0,
-        End::Offset => 1,
-        End::Leftover => 2,
-        End::Kind => 3,
-        End::Torn => 4,
-        _ => 5,
-    }
-}
-
-fn wrong<E: Write>(err: &mut E, end: End) -> io::Result<()> {
-    let program = PROGRAM;
-    message::wrong(
-        err,
-        &program,
-        b"one image at a time|\
-          --offset needs a number of bytes, at most 16777216|\
-          --leftover needs found, erased, older, half, headed, random or all|\
-          --update needs 255, 257, full, compared, short or all|\
-          --torn needs some, all or none|\
-          --svg needs a file's name",
-        wrong_word(end),
-    )
-}
+";
 
 // Writes the help, or what is wrong with the arguments.
 pub fn report<R: Env, O: Write, E: Write>(
@@ -106,14 +55,7 @@ pub fn report<R: Env, O: Write, E: Write>(
     out: &mut O,
     err: &mut E,
     end: End,
-    next: usize,
     buffer: &mut [u8],
 ) -> io::Result<()> {
-    match end {
-        End::More => Ok(()),
-        End::Help => help(out),
-        End::NoOption => no_option(rt, err, next, buffer),
-        End::NoImage => no_image(err),
-        _ => wrong(err, end),
-    }
+    message::report(rt, out, err, PROGRAM, HELP.as_bytes(), end, buffer)
 }

@@ -1,14 +1,12 @@
 // The picture: a large verdict, then a grid for each kind of update with a column for each leftover. A cell is a cut, coloured by what load
 // gave; its words, which a browser shows under the pointer, say which operation it is.
-use crate::kinds::{Kind, Leftovers, Updates};
+use crate::kinds::{Kind, LEFTOVERS, Leftovers, Updates};
 use crate::lines::{put_counts, put_total};
 use crate::torn::{Cuts, Target, are_tried};
 use crate::trial::{Count, Plan};
 use crate::{kinds, strips};
-use base::number::u8_to_u32;
-use base::slice::part;
 use leaf::bytes::get8;
-use program::output::{field, print, put, put_word};
+use program::output::{Grouped, put};
 use region::SECTOR_SIZE_32;
 use std::io;
 use std::io::Write;
@@ -141,7 +139,7 @@ fn strips_height(c: Cuts) -> u32 {
 
 // The height of a kind's grid; 0 if it isn't asked for.
 fn grid_height(choice: Updates, k: Kind, c: Cuts) -> u32 {
-    if !kinds::has_update(choice, k) {
+    if !choice.has(k) {
         return 0;
     }
     let cells = wrapping_add_u32(rows_height(k), strips_height(c)) % LENGTH_LIMIT;
@@ -197,7 +195,7 @@ fn style<W: Write>(out: &mut W) -> io::Result<()> {
 }
 
 fn text<W: Write>(out: &mut W, x: u32, y: u32) -> io::Result<()> {
-    print(out, b"<text x=\"{}\" y=\"{}\">", &[x as u64, y as u64])
+    write!(out, "<text x=\"{x}\" y=\"{y}\">")
 }
 
 fn line<W: Write>(out: &mut W, y: u32, words: &[u8]) -> io::Result<()> {
@@ -209,11 +207,7 @@ fn line<W: Write>(out: &mut W, y: u32, words: &[u8]) -> io::Result<()> {
 // A text at the right end of the labels.
 fn label_start<W: Write>(out: &mut W, y: u32) -> io::Result<()> {
     let text_y = wrapping_add_u32(y, CELL_TEXT);
-    print(
-        out,
-        b"<text class=\"n\" x=\"{}\" y=\"{}\">",
-        &[LABEL_X as u64, text_y as u64],
-    )
+    write!(out, "<text class=\"n\" x=\"{LABEL_X}\" y=\"{text_y}\">")
 }
 
 fn label<W: Write>(out: &mut W, y: u32, words: &[u8]) -> io::Result<()> {
@@ -254,16 +248,9 @@ fn explain<W: Write>(out: &mut W, c: Cuts) -> io::Result<()> {
 }
 
 fn rect_start<W: Write>(out: &mut W, mark: u8, x: u32, y: u32) -> io::Result<()> {
-    print(
+    write!(
         out,
-        b"<rect class=\"m{}\" x=\"{}\" y=\"{}\" width=\"{}\" height=\"{}\">",
-        &[
-            mark as u64,
-            x as u64,
-            y as u64,
-            CELL_WIDTH as u64,
-            CELL_HEIGHT as u64,
-        ],
+        "<rect class=\"m{mark}\" x=\"{x}\" y=\"{y}\" width=\"{CELL_WIDTH}\" height=\"{CELL_HEIGHT}\">"
     )
 }
 
@@ -295,11 +282,9 @@ fn legend<W: Write>(out: &mut W) -> io::Result<()> {
 // The labels of the data's rows.
 fn sector_labels<W: Write>(out: &mut W, n: u32, top: u32) -> io::Result<()> {
     let mut y = top;
-    let mut k: u32 = 0;
-    while k < n {
-        k += 1;
+    for k in 1..=n {
         label_start(out, y)?;
-        print(out, b"sector {}</text>\n", &[k as u64])?;
+        writeln!(out, "sector {k}</text>")?;
         y = wrapping_add_u32(y, CELL_HEIGHT);
     }
     Ok(())
@@ -318,18 +303,13 @@ fn strip_labels<W: Write>(out: &mut W, c: Cuts, top: u32) -> io::Result<()> {
 }
 
 fn title<W: Write>(out: &mut W, k: Kind, y: u32) -> io::Result<()> {
-    print(
-        out,
-        b"<text class=\"t\" x=\"{}\" y=\"{}\">",
-        &[MARGIN as u64, y as u64],
-    )?;
-    kinds::put_update(out, k)?;
-    put(out, b"</text>\n")
+    write!(out, "<text class=\"t\" x=\"{MARGIN}\" y=\"{y}\">")?;
+    writeln!(out, "{k}</text>")
 }
 
 // A kind's grid without its cells: title and labels.
 fn frame<W: Write>(out: &mut W, updates: Updates, k: Kind, c: Cuts) -> io::Result<()> {
-    if !kinds::has_update(updates, k) {
+    if !updates.has(k) {
         return Ok(());
     }
     let y = grid_y(updates, k, c);
@@ -346,17 +326,12 @@ fn frame<W: Write>(out: &mut W, updates: Updates, k: Kind, c: Cuts) -> io::Resul
 // Writes the picture's beginning: everything but the cells, the verdict and the total.
 pub fn start<W: Write>(out: &mut W, updates: Updates, c: Cuts) -> io::Result<()> {
     let h = height(updates, c);
-    print(
+    writeln!(
         out,
-        b"<svg xmlns=\"http://www.w3.org/2000/svg\" width=\"1100\" height=\"{}\" viewBox=\"0 0 1100 {}\">\n<title>powercut</title>\n",
-        &[h as u64, h as u64],
+        "<svg xmlns=\"http://www.w3.org/2000/svg\" width=\"1100\" height=\"{h}\" viewBox=\"0 0 1100 {h}\">\n<title>powercut</title>"
     )?;
     style(out)?;
-    print(
-        out,
-        b"<path fill=\"#fff\" d=\"M0 0H1100V{}H0z\"/>\n",
-        &[h as u64],
-    )?;
+    writeln!(out, "<path fill=\"#fff\" d=\"M0 0H1100V{h}H0z\"/>")?;
     explain(out, c)?;
     legend(out)?;
     frame(out, updates, Kind::Below, c)?;
@@ -365,41 +340,31 @@ pub fn start<W: Write>(out: &mut W, updates: Updates, c: Cuts) -> io::Result<()>
     frame(out, updates, Kind::Compared, c)
 }
 
-// Writes a byte of a name: XML's own signs are escaped, and what isn't printable ASCII becomes a question mark.
-fn put_byte<W: Write>(out: &mut W, name: &[u8], i: usize) -> io::Result<()> {
-    let b = get8(name, i);
-    if (b < b' ') | (b'~' < b) {
-        return put(out, b"?");
-    }
-    match b {
-        b'&' => put(out, b"&amp;"),
-        b'<' => put(out, b"&lt;"),
-        b'>' => put(out, b"&gt;"),
-        _ => put(out, part(name, i, 1)),
-    }
-}
-
+// Writes a name: XML's own signs are escaped, and what isn't printable ASCII becomes a question mark.
 fn put_name<W: Write>(out: &mut W, name: &[u8]) -> io::Result<()> {
-    let mut i = 0;
-    while i < name.len() {
-        put_byte(out, name, i)?;
-        i += 1;
+    for b in name {
+        match *b {
+            b'&' => put(out, b"&amp;")?,
+            b'<' => put(out, b"&lt;")?,
+            b'>' => put(out, b"&gt;")?,
+            b' '..=b'~' => put(out, &[*b])?,
+            _ => put(out, b"?")?,
+        }
     }
     Ok(())
 }
 
 fn verdict<W: Write>(out: &mut W, wrong: u32) -> io::Result<()> {
     if wrong == 0 {
-        return print(
+        return writeln!(
             out,
-            b"<text class=\"v right\" x=\"{}\" y=\"{}\">No cut was wrong</text>\n",
-            &[MARGIN as u64, VERDICT_Y as u64],
+            "<text class=\"v right\" x=\"{MARGIN}\" y=\"{VERDICT_Y}\">No cut was wrong</text>"
         );
     }
-    print(
+    writeln!(
         out,
-        b"<text class=\"v wrong\" x=\"{}\" y=\"{}\">WRONG: {,}</text>\n",
-        &[MARGIN as u64, VERDICT_Y as u64, wrong as u64],
+        "<text class=\"v wrong\" x=\"{MARGIN}\" y=\"{VERDICT_Y}\">WRONG: {}</text>",
+        Grouped(wrong)
     )
 }
 
@@ -434,10 +399,14 @@ fn cell_of(k: u32, n: u32, last: u32) -> Cell {
 
 // What load gave at a cut.
 fn put_mark<W: Write>(out: &mut W, mark: u8) -> io::Result<()> {
-    put_word(
+    put(
         out,
-        b": load gave what it gave before|: load gave the new bank|: WRONG|: not tried",
-        u8_to_u32(mark % strips::BEGUN_AGAIN),
+        match mark % strips::BEGUN_AGAIN {
+            strips::OLD => b": load gave what it gave before",
+            strips::NEW => b": load gave the new bank",
+            strips::WRONG => b": WRONG",
+            _ => b": not tried",
+        },
     )?;
     if strips::BEGUN_AGAIN <= mark {
         put(out, b"; begun again")?;
@@ -448,13 +417,9 @@ fn put_mark<W: Write>(out: &mut W, mark: u8) -> io::Result<()> {
 // Which operation of the data a cell is.
 fn put_data_operation<W: Write>(out: &mut W, c: Cell) -> io::Result<()> {
     if c.place == 0 {
-        return field(out, b"erase of sector ", c.row);
+        return write!(out, "erase of sector {}", c.row);
     }
-    print(
-        out,
-        b"write {} of {} in sector {}",
-        &[c.place as u64, WRITES as u64, c.row as u64],
-    )
+    write!(out, "write {} of {WRITES} in sector {}", c.place, c.row)
 }
 
 // Whether the k-th of n operations is one of the data's.
@@ -463,11 +428,15 @@ fn is_data(k: u32, n: u32) -> bool {
 }
 
 // Of the operations that aren't: the header's erase, its write, the commit word's.
-fn header_operation(k: u32, n: u32) -> u32 {
+fn header_operation(k: u32, n: u32) -> &'static [u8] {
     if k == 1 {
-        return 0;
+        return b"erase of the header's sector";
     }
-    if k == n { 2 } else { 1 }
+    if k == n {
+        b"write of the commit word"
+    } else {
+        b"write of the header"
+    }
 }
 
 // Which operation the k-th of n is.
@@ -475,15 +444,11 @@ fn put_operation<W: Write>(out: &mut W, k: u32, n: u32, c: Cell) -> io::Result<(
     if k == 0 {
         return put(out, b"before the first operation");
     }
-    print(out, b"after operation {,} of {,}, ", &[k as u64, n as u64])?;
+    write!(out, "after operation {} of {}, ", Grouped(k), Grouped(n))?;
     if is_data(k, n) {
         put_data_operation(out, c)
     } else {
-        put_word(
-            out,
-            b"erase of the header's sector|write of the header|write of the commit word",
-            header_operation(k, n),
-        )
+        put(out, header_operation(k, n))
     }
 }
 
@@ -524,27 +489,20 @@ fn cut_cells<W: Write>(
     x: u32,
     top: u32,
 ) -> io::Result<()> {
-    let mut k: u32 = 0;
-    while k < cuts {
+    for k in 0..cuts {
         cut_cell(out, marks, k, n, last, x, top)?;
-        k += 1;
     }
     Ok(())
 }
 
-fn target_index(t: Target) -> u32 {
-    match t {
-        Target::HeaderErase => 0,
-        Target::HeaderWrite => 1,
-        _ => 2,
-    }
-}
-
 fn put_target<W: Write>(out: &mut W, t: Target) -> io::Result<()> {
-    put_word(
+    put(
         out,
-        b"inside the erase of the header's sector, |inside the write of the header, |inside the write of the commit word, ",
-        target_index(t),
+        match t {
+            Target::HeaderErase => b"inside the erase of the header's sector, ",
+            Target::HeaderWrite => b"inside the write of the header, ",
+            _ => b"inside the write of the commit word, ",
+        },
     )
 }
 
@@ -566,16 +524,13 @@ fn strip_cell<W: Write>(
     put_target(out, t)?;
     let first = strips::first_byte(t, k);
     let last = strips::last_byte(t, k);
-    print(out, b"bytes {,} to {,}", &[first as u64, last as u64])?;
+    write!(out, "bytes {} to {}", Grouped(first), Grouped(last))?;
     put_mark(out, mark)
 }
 
 fn strip<W: Write>(out: &mut W, marks: &[u8], t: Target, x: u32, top: u32) -> io::Result<()> {
-    let n = strips::cells(t);
-    let mut k: u32 = 0;
-    while k < n {
+    for k in 0..strips::cells(t) {
         strip_cell(out, marks, t, k, x, top)?;
-        k += 1;
     }
     Ok(())
 }
@@ -594,39 +549,31 @@ fn three_strips<W: Write>(out: &mut W, marks: &[u8], c: Cuts, x: u32, top: u32) 
 
 // Where the column of a leftover starts.
 fn column_x(choice: Leftovers, p: Plan) -> u32 {
-    let s = p.setting;
-    let l = s.leftover;
-    match choice {
-        Leftovers::All => LEFT + kinds::leftover_index(l) % COLUMNS_LIMIT * COLUMN_WIDTH,
-        _ => LEFT,
+    if choice.0.is_some() {
+        return LEFT;
     }
-}
-
-// 1 if a cut was wrong, else 0.
-fn is_wrong(c: Count) -> u32 {
-    if c.wrong == 0 { 0 } else { 1 }
+    let l = p.setting.leftover;
+    let column = LEFTOVERS.iter().position(|x| *x == l).unwrap_or(0);
+    LEFT + column as u32 % COLUMNS_LIMIT * COLUMN_WIDTH
 }
 
 fn head_verdict<W: Write>(out: &mut W, c: Count) -> io::Result<()> {
     if c.wrong == 0 {
         put(out, b": right<title>")
     } else {
-        print(out, b": WRONG {,}<title>", &[c.wrong as u64])
+        write!(out, ": WRONG {}<title>", Grouped(c.wrong))
     }
 }
 
 // A column's head: the leftover and the verdict; the update's line is its words.
 fn head<W: Write>(out: &mut W, p: Plan, c: Count, x: u32, y: u32) -> io::Result<()> {
-    let s = p.setting;
-    let l = s.leftover;
-    put_word(
-        out,
-        b"<text class=\"right\"|<text class=\"wrong\"",
-        is_wrong(c),
-    )?;
+    let leftover = p.setting.leftover;
+    let class = if c.wrong == 0 { "right" } else { "wrong" };
     let text_y = wrapping_add_u32(y, HEAD_TEXT);
-    print(out, b" x=\"{}\" y=\"{}\">", &[x as u64, text_y as u64])?;
-    kinds::put_leftover(out, l)?;
+    write!(
+        out,
+        "<text class=\"{class}\" x=\"{x}\" y=\"{text_y}\">{leftover}"
+    )?;
     head_verdict(out, c)?;
     put_counts(out, p, c)?;
     put(out, b"</title></text>\n")

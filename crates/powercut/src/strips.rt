@@ -74,16 +74,11 @@ pub fn first_byte(t: Target, k: u32) -> u32 {
 // The last byte of a cell; the last cell ends with the operation.
 pub fn last_byte(t: Target, k: u32) -> u32 {
     let next = wrapping_sub_u32(first_byte(t, wrapping_add_u32(k, 1)), 1);
-    let size = operation_size(t);
-    if next < size { next } else { size }
+    next.min(operation_size(t))
 }
 
 fn has_strip(t: Target) -> bool {
-    match t {
-        Target::Nothing => false,
-        Target::Data => false,
-        _ => true,
-    }
+    t != Target::Data
 }
 
 // Marks every cell as untried.
@@ -106,9 +101,7 @@ fn joined(old: u8, new: u8) -> u8 {
         return new;
     }
     let again = (BEGUN_AGAIN <= old) | (BEGUN_AGAIN <= new);
-    let a = old % BEGUN_AGAIN;
-    let b = new % BEGUN_AGAIN;
-    let gave = if a < b { b } else { a };
+    let gave = (old % BEGUN_AGAIN).max(new % BEGUN_AGAIN);
     if again {
         BEGUN_AGAIN + gave % BEGUN_AGAIN
     } else {

@@ -1,14 +1,13 @@
 // A flash operation cut inside: which bytes of the region it changes, and after which of them a cut is tried.
-use base::slice::same_bytes;
+use crate::kinds::Unknown;
 use header::{COMMIT_OFFSET, HEADER_SIZE};
 use leaf::bytes::WORD_SIZE;
 use region::{BANK_SIZE, SECTOR_SIZE, SECTOR_SIZE_32, WRITE_UNIT};
 use std::num::{wrapping_add_u32, wrapping_add_usize};
 
-// What an operation is: none, the erase of the header's sector, the header's write, the commit word's, or an erase or a write of data.
-#[derive(Clone, Copy)]
+// What an operation is: the erase of the header's sector, the header's write, the commit word's, or an erase or a write of data.
+#[derive(Clone, Copy, PartialEq, Eq)]
 pub enum Target {
-    Nothing,
     HeaderErase,
     HeaderWrite,
     CommitWord,
@@ -16,12 +15,11 @@ pub enum Target {
 }
 
 // Which cuts inside operations are tried: none, all in the header's three operations and some in the others, or all.
-#[derive(Clone, Copy)]
+#[derive(Clone, Copy, PartialEq, Eq)]
 pub enum Cuts {
     Nothing,
     Some,
     All,
-    Unknown,
 }
 
 // Flash is written in units, and the commit word is one of them.
@@ -58,41 +56,21 @@ pub struct Cut {
     pub before: u32,
 }
 
-// Which cuts are tried, by name.
-pub fn cuts_named(s: &[u8]) -> Cuts {
-    if same_bytes(s, b"none") {
-        return Cuts::Nothing;
-    }
-    if same_bytes(s, b"some") {
-        return Cuts::Some;
-    }
-    if same_bytes(s, b"all") {
-        Cuts::All
-    } else {
-        Cuts::Unknown
+impl TryFrom<&[u8]> for Cuts {
+    type Error = Unknown;
+
+    fn try_from(name: &[u8]) -> Result<Cuts, Unknown> {
+        match name {
+            b"none" => Ok(Cuts::Nothing),
+            b"some" => Ok(Cuts::Some),
+            b"all" => Ok(Cuts::All),
+            _ => Err(Unknown),
+        }
     }
 }
 
 pub fn are_tried(c: Cuts) -> bool {
-    match c {
-        Cuts::Nothing => false,
-        _ => true,
-    }
-}
-
-pub fn is_operation(t: Target) -> bool {
-    match t {
-        Target::Nothing => false,
-        _ => true,
-    }
-}
-
-pub fn no_operation() -> Span {
-    Span {
-        target: Target::Nothing,
-        at: 0,
-        size: 0,
-    }
+    c != Cuts::Nothing
 }
 
 fn erased(sector: u32) -> Target {
@@ -169,7 +147,6 @@ pub fn is_tried(choice: Cuts, s: Span, j: usize, k: u32) -> bool {
         Cuts::Nothing => false,
         Cuts::Some => is_among(s, j, k),
         Cuts::All => true,
-        Cuts::Unknown => false,
     }
 }
 

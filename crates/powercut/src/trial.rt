@@ -4,22 +4,21 @@ use crate::kinds::{Kind, Leftover};
 use crate::leftover::{number_after, start};
 use crate::scratch::{AFTER, BEFORE};
 use crate::strips::{mark_at, put_mark};
-use crate::torn::{
-    Cut, Cuts, Span, are_tried, is_operation, is_sampled as is_sampled_inside, is_tried,
-};
+use crate::torn::{Cut, Cuts, Span, are_tried, is_sampled as is_sampled_inside, is_tried};
 use crate::update::{
     EVERY_OPERATION, MOST_CALLS, STAMP, Update, begin, is_over, next_operation, run, step,
 };
 use crate::{kinds, strips};
-use bank::{Loaded, load};
+use bank::load;
 use base::slice::{part, same_bytes};
-use header::{Bank, Validated};
+use header::Bank;
 use leaf::bytes::get8;
 use leaf::crc::crc32;
 use program::bytes::{copy, put8};
 use program::number::low32;
-use program::output::{count, put};
+use program::output::Grouped;
 use record::VERSION;
+use refusal::Refusal;
 use region::{REGION_SIZE, SECTOR_SIZE, bank_of};
 use std::io;
 use std::io::Write;
@@ -46,7 +45,7 @@ pub struct Setting {
 pub struct Plan {
     pub setting: Setting,
     pub update: Kind,
-    pub found: Loaded,
+    pub found: Result<Option<Bank>, Refusal>,
     pub fresh: Bank,
 }
 
@@ -85,10 +84,10 @@ struct Tried {
     count: Count,
 }
 
-// A step that was made: the operation that it did, the update after it, and the count before.
+// A step that was made: the operation that it did, if it did one, the update after it, and the count before.
 #[derive(Clone, Copy)]
 struct Step {
-    span: Span,
+    span: Option<Span>,
     update: Update,
     count: Count,
 }
@@ -101,15 +100,15 @@ struct Outcome {
     again: bool,
 }
 
-fn generation_after(l: Loaded) -> u32 {
+fn generation_after(l: Result<Option<Bank>, Refusal>) -> u32 {
     match l {
-        Loaded::Found(b) => wrapping_add_u32(b.generation, 1),
+        Ok(Some(b)) => wrapping_add_u32(b.generation, 1),
         _ => 0,
     }
 }
 
 // The bank that an update of n bytes commits if load gives l.
-fn bank_after(l: Loaded, data: &[u8], n: usize) -> Bank {
+fn bank_after(l: Result<Option<Bank>, Refusal>, data: &[u8], n: usize) -> Bank {
     Bank {
         number: number_after(l),
         version: VERSION,
@@ -142,30 +141,30 @@ fn same_numbers(a: Bank, b: Bank) -> bool {
         & (a.checked == b.checked)
 }
 
-fn is_found(l: Loaded, b: Bank) -> bool {
+fn is_found(l: Result<Option<Bank>, Refusal>, b: Bank) -> bool {
     match l {
-        Loaded::Found(x) => same_numbers(x, b),
+        Ok(Some(x)) => same_numbers(x, b),
         _ => false,
     }
 }
 
-fn is_nothing(l: Loaded) -> bool {
+fn is_nothing(l: Result<Option<Bank>, Refusal>) -> bool {
     match l {
-        Loaded::Nothing => true,
+        Ok(None) => true,
         _ => false,
     }
 }
 
-fn same_loaded(l: Loaded, e: Loaded) -> bool {
+fn same_loaded(l: Result<Option<Bank>, Refusal>, e: Result<Option<Bank>, Refusal>) -> bool {
     match e {
-        Loaded::Found(b) => is_found(l, b),
+        Ok(Some(b)) => is_found(l, b),
         _ => is_nothing(l),
     }
 }
 
-fn is_good(v: Validated, b: Bank) -> bool {
+fn is_good(v: Result<Bank, Refusal>, b: Bank) -> bool {
     match v {
-        Validated::Good(x) => same_numbers(x, b),
+        Ok(x) => same_numbers(x, b),
         _ => false,
     }
 }
@@ -320,14 +319,15 @@ fn mark(o: Outcome) -> u8 {
 
 fn show_progress<E: Write>(err: &mut E, p: Plan, cut: u32) -> io::Result<()> {
     let s = p.setting;
-    let l = s.leftover;
-    let k = s.update;
     if s.progress & (cut % SHOWN == 0) {
-        put(err, b"\r")?;
-        kinds::put_kinds(err, l, k)?;
-        count(err, b": cut ", cut)?;
-        count(err, b" of ", kinds::operations(k))?;
-        put(err, b"   ")?;
+        let leftover = s.leftover;
+        let update = s.update;
+        write!(
+            err,
+            "\rleftover {leftover}, {update}: cut {} of {}   ",
+            Grouped(cut),
+            Grouped(kinds::operations(update))
+        )?;
     }
     Ok(())
 }
@@ -394,14 +394,12 @@ fn cut_after_each_byte(
     scratch: &mut [u8],
 ) -> Count {
     let mut c = so_far;
-    let mut done: usize = 0;
-    while done < s.size {
-        let b = get8(scratch, wrapping_add_usize(AFTER, done));
-        put8(region, wrapping_add_usize(s.at, done), b);
-        done += 1;
+    for i in 0..s.size {
+        let b = get8(scratch, wrapping_add_usize(AFTER, i));
+        put8(region, wrapping_add_usize(s.at, i), b);
         let x = Cut {
             span: s,
-            done,
+            done: i + 1,
             before: c.inside,
         };
         c = after_byte(x, c, p, region, data, scratch);
@@ -455,13 +453,17 @@ fn operate<E: Write>(
     data: &[u8],
     scratch: &mut [u8],
 ) -> Count {
-    let s = x.span;
     let c = x.count;
     let update = x.update;
-    let d = inside_if_tried(s, c, p, region, data, scratch);
+    let d = match x.span {
+        Some(s) => inside_if_tried(s, c, p, region, data, scratch),
+        None => c,
+    };
     let t = Tried { update, count: d };
     let e = look(err, t, p, region, before, data, scratch);
-    mark_whole(s, e, scratch);
+    if let Some(s) = x.span {
+        mark_whole(s, e, scratch);
+    }
     mark_wrong(c, d, e, scratch);
     e
 }
@@ -476,15 +478,11 @@ fn after_step<E: Write>(
     data: &[u8],
     scratch: &mut [u8],
 ) -> Count {
-    let u = x.update;
-    let s = x.span;
-    let target = s.target;
-    let c = x.count;
-    if u.flash {
-        let d = operate(err, x, p, region, before, data, scratch);
-        return with_wrong_unless(d, is_operation(target));
+    if x.update.flash {
+        let c = operate(err, x, p, region, before, data, scratch);
+        return with_wrong_unless(c, x.span.is_some());
     }
-    c
+    x.count
 }
 
 // A step, with its cuts. The bytes that it changes are kept from before.
@@ -501,7 +499,9 @@ fn step_with_cuts<E: Write>(
     let c = t.count;
     let found = p.found;
     let span = next_operation(u, start(found));
-    copy(part(region, span.at, span.size), scratch, BEFORE);
+    if let Some(s) = span {
+        copy(part(region, s.at, s.size), scratch, BEFORE);
+    }
     let update = step(u, region, data);
     let x = Step {
         span,
@@ -510,11 +510,6 @@ fn step_with_cuts<E: Write>(
     };
     let count = after_step(err, x, p, region, before, data, scratch);
     Tried { update, count }
-}
-
-fn ended(t: Tried) -> bool {
-    let u = t.update;
-    is_over(u)
 }
 
 // The beginning, and the cut before any operation.
@@ -546,13 +541,11 @@ fn cuts<E: Write>(
     scratch: &mut [u8],
 ) -> Count {
     let mut t = begun(err, p, region, before, data, scratch);
-    let mut calls = MOST_CALLS;
-    while 0 < calls {
-        if ended(t) {
+    for _ in 0..MOST_CALLS {
+        if is_over(t.update) {
             return t.count;
         }
         t = step_with_cuts(err, t, p, region, before, data, scratch);
-        calls -= 1;
     }
     t.count
 }
@@ -600,7 +593,7 @@ pub fn trial<E: Write>(
     scratch: &mut [u8],
 ) -> Count {
     let k = p.update;
-    if !kinds::is_compared(k) {
+    if k != Kind::Compared {
         return counted_cuts(err, p, region, before, data, scratch);
     }
     let first = compares(region, data, k, false);

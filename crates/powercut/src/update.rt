@@ -1,15 +1,15 @@
 // An update by the lower layer's calls, one call a step.
 use crate::data::{FIRST_DAY, LAST_DAY, table_start};
 use crate::torn;
-use crate::torn::{Span, erase, no_operation, write};
-use commit::Stamp;
+use crate::torn::{Span, erase, write};
 use program::text::between;
 use record::{Source, no_source};
+use refusal::Refusal;
 use std::num::{wrapping_add_u32, wrapping_add_usize};
 use writer::{Answer, Operation, Stage, Writer};
 
 // The next call once no operation is due.
-#[derive(Clone, Copy)]
+#[derive(Clone, Copy, PartialEq, Eq)]
 pub enum Phase {
     Key,
     Table,
@@ -62,9 +62,9 @@ fn the_source() -> Source {
     }
 }
 
-fn done(a: Answer) -> bool {
+fn done(a: Result<Answer, Refusal>) -> bool {
     match a {
-        Answer::Done => true,
+        Ok(Answer::Done) => true,
         _ => false,
     }
 }
@@ -92,19 +92,11 @@ pub fn begin(region: &[u8], n: usize, comparing: bool, same: bool) -> Update {
 }
 
 fn is_due(w: Writer) -> bool {
-    let s = w.stage;
-    match s {
-        Stage::Due(_) => true,
-        _ => false,
-    }
+    matches!(w.stage, Stage::Due(_))
 }
 
 pub fn is_over(u: Update) -> bool {
-    let p = u.phase;
-    match p {
-        Phase::Over => true,
-        _ => false,
-    }
+    u.phase == Phase::Over
 }
 
 // Does the due operation.
@@ -127,9 +119,9 @@ fn operate(u: Update, region: &mut [u8]) -> Update {
 }
 
 // How many bytes were appended; 0 for any other answer.
-fn appended(a: Answer) -> usize {
+fn appended(a: Result<Answer, Refusal>) -> usize {
     match a {
-        Answer::Appended(k) => k as usize,
+        Ok(Answer::Appended(k)) => k as usize,
         _ => 0,
     }
 }
@@ -183,7 +175,7 @@ fn close(u: Update) -> Update {
 // The first commit call.
 fn write_header(u: Update, region: &mut [u8]) -> Update {
     let w = u.writer;
-    let s = commit::commit(w, region, Stamp::Given(STAMP), true);
+    let s = commit::commit(w, region, Some(STAMP), true);
     let writer = s.writer;
     let a = s.answer;
     Update {
@@ -213,10 +205,10 @@ fn write_commit_word(u: Update, region: &mut [u8]) -> Update {
 }
 
 // Whether an answer is that the update is the same, or that it is not.
-fn is_answer(a: Answer, same: bool) -> bool {
+fn is_answer(a: Result<Answer, Refusal>, same: bool) -> bool {
     match a {
-        Answer::Same => same,
-        Answer::Different => !same,
+        Ok(Answer::Same) => same,
+        Ok(Answer::Different) => !same,
         _ => false,
     }
 }
@@ -274,35 +266,28 @@ pub fn step(u: Update, region: &mut [u8], data: &[u8]) -> Update {
 }
 
 // The due erase or write, in the bank at an offset.
-fn due_span(o: Operation, bank: usize) -> Span {
+fn due_span(o: Operation, bank: usize) -> Option<Span> {
     match o {
-        Operation::Erase { sector } => erase(bank, sector),
-        Operation::Write { offset, length } => write(bank, offset, length),
+        Operation::Erase { sector } => Some(erase(bank, sector)),
+        Operation::Write { offset, length } => Some(write(bank, offset, length)),
         Operation::Compare {
             offset: _,
             length: _,
-        } => no_operation(),
+        } => None,
     }
 }
 
 // The write of a commit call, if that is next.
-fn commit_span(u: Update, bank: usize) -> Span {
-    let p = u.phase;
-    match p {
-        Phase::Closed => {
-            if u.comparing {
-                no_operation()
-            } else {
-                torn::header_write(bank)
-            }
-        }
-        Phase::HeaderWritten => torn::commit_word_write(bank),
-        _ => no_operation(),
+fn commit_span(u: Update, bank: usize) -> Option<Span> {
+    match u.phase {
+        Phase::Closed if !u.comparing => Some(torn::header_write(bank)),
+        Phase::HeaderWritten => Some(torn::commit_word_write(bank)),
+        _ => None,
     }
 }
 
-// The flash operation that the next step does.
-pub fn next_operation(u: Update, bank: usize) -> Span {
+// The flash operation that the next step does, if it does one.
+pub fn next_operation(u: Update, bank: usize) -> Option<Span> {
     let w = u.writer;
     let s = w.stage;
     match s {
@@ -314,13 +299,11 @@ pub fn next_operation(u: Update, bank: usize) -> Span {
 // Makes calls until the first n operations are done or the update is over.
 pub fn run(begun: Update, region: &mut [u8], data: &[u8], operations: u32) -> Update {
     let mut u = begun;
-    let mut calls = MOST_CALLS;
-    while 0 < calls {
+    for _ in 0..MOST_CALLS {
         if is_over(u) | (u.operations == operations) {
             return u;
         }
         u = step(u, region, data);
-        calls -= 1;
     }
     u
 }

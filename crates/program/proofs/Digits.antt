@@ -1,28 +1,6 @@
--- A digit's value by the code's cases, and digits appended one by one: a turn of the loop in `text::digits` appends the digit at i, and each exit is a case of `appended`.
-use Rattle.std.proofs.Common.{◌≡◌, ℕ, ◌+◌, ◌-◌, ◌*◌, ◌<◌, ◌≤◌, List, [], ◌∷◌, length, get_or, drop, refl, add-one, arith, drop_of_length-le, drop-cons, le-ltb, lt-ltb, le-leb}
-use borrow.Author.Tests.{lt-leb}
-use Rattle.program.specs.declared.text.Number.TheVariants.{Is, None}
+-- Digits appended one by one: a turn of the loop in `text::digits` appends the digit at an index, and each exit is a case of `appended`.
+use Rattle.std.proofs.Common.{◌≡◌, ℕ, ◌+◌, ◌*◌, ◌<◌, ◌≤◌, List, [], ◌∷◌, length, get_or, drop, refl, add-one, arith, drop_of_length-le, drop-cons, le-ltb, lt-ltb, Some, None}
 use Rattle.program.specs.Text.{value_of, most_before, appended, number_of}
-
--- ---- a digit's value, by the code's cases
-
-module _ (c : ℕ) where
-  pub below-digits : c < 48 → 255 ≡ value_of c
-  below-digits h = rw (lt-ltb c 48 h)
-
-  pub decimal_digit : 48 ≤ c → c ≤ 57 → c - 48 ≡ value_of c
-  decimal_digit h k = rw (le-ltb c 48 h, le-leb c 57 k)
-
-  pub between-digits : 48 ≤ c → 57 < c → c < 97 → 255 ≡ value_of c
-  between-digits h k m = rw (le-ltb c 48 h, lt-leb c 57 k, lt-ltb c 97 m)
-
-  pub letter-digit : 48 ≤ c → 57 < c → 97 ≤ c → c ≤ 102 → c - 97 + 10 ≡ value_of c
-  letter-digit h k m n = rw (le-ltb c 48 h, lt-leb c 57 k, le-ltb c 97 m, le-leb c 102 n)
-
-  pub above-digits : 48 ≤ c → 57 < c → 97 ≤ c → 102 < c → 255 ≡ value_of c
-  above-digits h k m n = rw (le-ltb c 48 h, lt-leb c 57 k, le-ltb c 97 m, lt-leb c 102 n)
-
--- ---- digits appended
 
 pub without : (s : List ℕ) → length s ≡ 0 → None ≡ number_of s
 unfolding number_of
@@ -47,6 +25,6 @@ module _ (s : List ℕ) (v i d : ℕ) (h : i < length s) (e : d ≡ value_of (ge
   unfolding appended
   one_more n m = rw (add-one, drop-cons s i 0 h, ← e, le-ltb 9 d n, le-ltb most_before v m)
 
-pub all_read : (s : List ℕ) (v i : ℕ) → length s ≤ i → Is v ≡ appended v (drop i s)
+pub all_read : (s : List ℕ) (v i : ℕ) → length s ≤ i → Some v ≡ appended v (drop i s)
 unfolding appended
 all_read s v i h = rw (drop_of_length-le s {i = i} h)

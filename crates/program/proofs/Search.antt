@@ -1,6 +1,6 @@
 -- A search from an index on: a byte that differs is passed over, one that is equal ends it, and past the end nothing is found. Each is a turn or
 -- an exit of the loop in `text::find`.
-use Rattle.std.proofs.Common.{◌≡◌, ℕ, suc, ◌+◌, ◌<◌, ◌≤◌, min, eqb, List, length, get_or, drop, add-one, arith, drop_of_length-le, drop-cons, eq-eqb, ne_eqb}
+use Rattle.std.proofs.Common.{◌≡◌, ℕ, suc, ◌+◌, ◌<◌, ◌≤◌, min, List, length, get_or, add-one, arith, drop_of_length-le, drop-cons, eq-eqb, ne_eqb}
 use Rattle.program.specs.Text.{count_before, index_from}
 
 module _ (s : List ℕ) (i b : ℕ) where

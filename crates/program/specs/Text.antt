@@ -1,8 +1,6 @@
 -- Texts: where a byte is, the value of a digit, the number that digits make.
-use Rattle.std.specs.Prelude.{ℕ, suc, ◌+◌, ◌-◌, ◌*◌, min, List, [], ◌∷◌, length, drop, ◌==◌, nat_le, nat_lt}
+use Rattle.std.specs.Prelude.{ℕ, suc, ◌+◌, ◌-◌, ◌*◌, min, List, [], ◌∷◌, length, drop, ◌==◌, nat_le, nat_lt, Option, Some, None}
 use Rattle.base.specs.Number.{pick}
-use Rattle.program.specs.declared.text.Number.{Number}
-use Rattle.program.specs.declared.text.Number.TheVariants.{Is, None}
 
 -- how many bytes come before the first b; all of them if there is none
 unfoldable pub count_before : ℕ → List ℕ → ℕ
@@ -26,11 +24,11 @@ abbrev pub most_before : ℕ
 most_before = 922337203685477580
 
 -- the decimal digits of s appended to the number v; none if a byte is no decimal digit or the number gets too large
-unfoldable pub appended : ℕ → List ℕ → Number
-appended v [] = Is v
+unfoldable pub appended : ℕ → List ℕ → Option ℕ
+appended v [] = Some v
 appended v (c ∷ s) = pick (nat_lt 9 (value_of c)) None (pick (nat_lt most_before v) None (appended (v * 10 + value_of c) s))
 
 -- the number whose decimal digits s is; none without digits
-unfoldable pub number_of : List ℕ → Number
+unfoldable pub number_of : List ℕ → Option ℕ
 number_of [] = None
 number_of (c ∷ s) = appended 0 (c ∷ s)

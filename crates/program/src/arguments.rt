@@ -3,6 +3,7 @@ ghost use Rattle.std.specs.Prelude.{◌≡◌, ◌+◌, ◌≤◌, length, repli
 ghost use Rattle.program.specs.Arguments.{argument_size};
 
 use crate::bytes::copy;
+use base::slice::part;
 use std::env::FillError;
 use std::rt::Env;
 
@@ -52,12 +53,20 @@ pub fn read<R: Env>(rt: &R, index: usize, buffer: &mut [u8]) -> usize
     }
 }
 
-// Writes the image's name to the start of a buffer and gives its length: the argument at an index, or the default's name at 0. No
-// contract can say what an argument is.
-pub fn image_name<R: Env>(rt: &R, index: usize, buffer: &mut [u8]) -> usize
+// The argument at an index, of which a buffer holds the bytes: none where it is missing or longer than the buffer.
+pub fn text<'a, R: Env>(rt: &R, index: usize, buffer: &'a mut [u8]) -> &'a [u8]
+    ensures { length result.now ≤ length buffer.old }
+{
+    let n = read(rt, index, buffer);
+    part(buffer, 0, n)
+}
+
+// Writes the image's name to the start of a buffer and gives its length: the argument at an index, or the default's name. No contract can
+// say what an argument is.
+pub fn image_name<R: Env>(rt: &R, index: Option<usize>, buffer: &mut [u8]) -> usize
     ensures { result ≤ length buffer.new }
 {
-    if index != 0 {
+    if let Some(index) = index {
         return read(rt, index, buffer);
     }
     if buffer.len() < DEFAULT_IMAGE_SIZE {

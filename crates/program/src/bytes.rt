@@ -25,6 +25,7 @@ pub fn read_full<R: Read>(from: &mut R, buffer: &mut [u8]) -> io::Result<usize>
     ensures length { length buffer.new ≡ length buffer.old }
 {
     let mut done = 0;
+    // No `for`: each turn goes on by as many bytes as the read gave.
     while done < buffer.len() {
         let n = from.read(&mut buffer[done..])?;
         if n == 0 {
@@ -59,10 +60,8 @@ pub fn copy(s: &[u8], out: &mut [u8], at: usize)
     ensures { out.new ≡ sets out.old at (take (length out.old - at) s.now) }
 {
     let n = fitting(s.len(), out.len(), at);
-    let mut i = 0;
-    while i < n {
-        out[at + i] = s[i];
-        i += 1;
+    if 0 < n {
+        out[at..at + n].copy_from_slice(&s[..n]);
     }
 }
 
@@ -71,9 +70,7 @@ pub fn fill(out: &mut [u8], at: usize, n: usize, b: u8)
     ensures { out.new ≡ sets out.old at (replicate (min n (length out.old - at)) b) }
 {
     let m = fitting(n, out.len(), at);
-    let mut i = 0;
-    while i < m {
-        out[at + i] = b;
-        i += 1;
+    if 0 < m {
+        out[at..at + m].fill(b);
     }
 }

@@ -29,40 +29,29 @@ const MOST_READ: usize = LARGEST_DUMP + 1;
 // Each read but the last gives a byte or more.
 const MOST_READS: u32 = MOST_READ as u32 + 1;
 
-// The sizes as numbers to print.
-pub const REGION_SIZE_64: u64 = REGION_SIZE as u64;
-
-pub const DUMP_SIZE_64: u64 = DUMP_SIZE as u64;
-
-pub const LARGER_DUMP_64: u64 = LARGER_DUMP as u64;
-
-pub const LARGEST_DUMP_64: u64 = LARGEST_DUMP as u64;
-
 // The first bytes of a gzip file.
 const GZIP_FIRST: u8 = 31;
 
 const GZIP_SECOND: u8 = 139;
 
-// What was read: a region, the region in a dump of this size, or nothing of use. Then standard error says why.
-#[derive(Clone, Copy)]
+// What was read: a region, or the region in a dump of this size.
+#[derive(Clone, Copy, PartialEq, Eq)]
 pub enum Image {
     Region,
     Dump(u64),
-    Unusable,
 }
 
-// Where the region is in an image: at an offset that was given, or where the image's size says.
+// Why an image isn't read to its end: its first bytes are a gzip file's, or a read failed.
 #[derive(Clone, Copy)]
-pub enum Place {
-    Given(usize),
-    BySize,
-}
-
-// The length of a file, at most one byte more than the largest dump.
-#[derive(Clone, Copy)]
-enum Size {
-    Bytes(usize),
+enum Unread {
     Compressed,
+    Failed(io::Error),
+}
+
+impl From<io::Error> for Unread {
+    fn from(why: io::Error) -> Unread {
+        Unread::Failed(why)
+    }
 }
 
 // A region of zeros.
@@ -70,14 +59,6 @@ pub fn buffer() -> [u8; REGION_SIZE]
     ensures { result ≡ replicate region_size 0 }
 {
     [0; REGION_SIZE]
-}
-
-// Where the region starts, unless the image is a region.
-fn start_of(p: Place) -> usize {
-    match p {
-        Place::Given(offset) => offset,
-        Place::BySize => REGION_OFFSET,
-    }
 }
 
 // One read into the region from an offset on.
@@ -134,22 +115,20 @@ fn is_compressed(region: &[u8]) -> bool {
     (get8(region, 0) == GZIP_FIRST) & (get8(region, 1) == GZIP_SECOND)
 }
 
-// Reads the region of an open image that starts at an offset, and gives the image's length.
-fn read_all<F: Read>(from: &mut F, region: &mut [u8], start: usize) -> io::Result<Size> {
+// Reads the region of an open image that starts at an offset, and gives the image's length, at most one byte more than the largest dump.
+fn read_all<F: Read>(from: &mut F, region: &mut [u8], start: usize) -> Result<usize, Unread> {
     let mut at = 0;
-    let mut reads = MOST_READS;
-    while 0 < reads {
+    for _ in 0..MOST_READS {
         let got = read_some(from, region, at, start)?;
         if got == 0 {
-            return Ok(Size::Bytes(at));
+            return Ok(at);
         }
         if (at == 0) & is_compressed(region) {
-            return Ok(Size::Compressed);
+            return Err(Unread::Compressed);
         }
         at = wrapping_add_usize(at, got);
-        reads -= 1;
     }
-    Ok(Size::Bytes(at))
+    Ok(at)
 }
 
 // Whether a region at an offset ends in an image of a size.
@@ -161,7 +140,7 @@ fn fits(offset: usize, size: usize) -> bool {
 }
 
 fn is_dump(size: usize) -> bool {
-    (size == DUMP_SIZE) | ((size == LARGER_DUMP) | (size == LARGEST_DUMP))
+    matches!(size, DUMP_SIZE | LARGER_DUMP | LARGEST_DUMP)
 }
 
 // What an image of a size is, with the region at a given offset.
@@ -171,12 +150,12 @@ fn image_with<W: Write>(
     name: &[u8],
     size: usize,
     offset: usize,
-) -> io::Result<Image> {
+) -> io::Result<Option<Image>> {
     if fits(offset, size) {
-        return Ok(Image::Dump(size as u64));
+        return Ok(Some(Image::Dump(size as u64)));
     }
     message::no_region(err, program, name, size, offset)?;
-    Ok(Image::Unusable)
+    Ok(None)
 }
 
 // What an image of a size is.
@@ -185,32 +164,19 @@ fn image_by_size<W: Write>(
     program: &[u8],
     name: &[u8],
     size: usize,
-) -> io::Result<Image> {
+) -> io::Result<Option<Image>> {
     if size == REGION_SIZE {
-        return Ok(Image::Region);
+        return Ok(Some(Image::Region));
     }
     if is_dump(size) {
-        return Ok(Image::Dump(size as u64));
+        return Ok(Some(Image::Dump(size as u64)));
     }
     if size == SMALL_DUMP {
         message::no_region(err, program, name, size, REGION_OFFSET)?;
     } else {
         message::wrong_size(err, program, name, size)?;
     }
-    Ok(Image::Unusable)
-}
-
-fn image_of<W: Write>(
-    err: &mut W,
-    program: &[u8],
-    name: &[u8],
-    size: usize,
-    p: Place,
-) -> io::Result<Image> {
-    match p {
-        Place::Given(offset) => image_with(err, program, name, size, offset),
-        Place::BySize => image_by_size(err, program, name, size),
-    }
+    Ok(None)
 }
 
 // Reads the region of the named image, standard input for "-", and gives the image's length.
@@ -219,7 +185,7 @@ fn read_named<R: Files + Input>(
     name: &[u8],
     start: usize,
     region: &mut [u8],
-) -> io::Result<Size> {
+) -> Result<usize, Unread> {
     if same_bytes(name, b"-") {
         return read_all(&mut rt.reader(), region, start);
     }
@@ -227,26 +193,30 @@ fn read_named<R: Files + Input>(
     read_all(&mut file, region, start)
 }
 
-// Reads the region of the named image. No contract can say what a file holds.
+// Reads the region of the named image: it starts at a given offset, or where the image's size says. None if nothing of use was read; then
+// standard error says why. No contract can say what a file holds.
 pub fn read<R: Files + Input, W: Write>(
     rt: &R,
     err: &mut W,
     program: &[u8],
     name: &[u8],
-    p: Place,
+    place: Option<usize>,
     region: &mut [u8; REGION_SIZE],
-) -> io::Result<Image>
+) -> io::Result<Option<Image>>
     ensures { length region.new ≡ length region.old }
 {
-    match read_named(rt, name, start_of(p), region) {
-        Ok(Size::Bytes(n)) => image_of(err, program, name, n, p),
-        Ok(Size::Compressed) => {
+    match read_named(rt, name, place.unwrap_or(REGION_OFFSET), region) {
+        Ok(n) => match place {
+            Some(offset) => image_with(err, program, name, n, offset),
+            None => image_by_size(err, program, name, n),
+        },
+        Err(Unread::Compressed) => {
             message::compressed(err, program, name)?;
-            Ok(Image::Unusable)
+            Ok(None)
         }
-        Err(why) => {
+        Err(Unread::Failed(why)) => {
             message::unread(err, program, name, &why)?;
-            Ok(Image::Unusable)
+            Ok(None)
         }
     }
 }

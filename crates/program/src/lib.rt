@@ -7,5 +7,6 @@ pub mod image;
 pub mod lengths;
 pub mod message;
 pub mod number;
+pub mod options;
 pub mod output;
 pub mod text;

@@ -1,40 +1,77 @@
 // The one line on standard error that says what is wrong. Each function is passed the writer and the program's name; no contract can say
 // what is written.
-use crate::image::{DUMP_SIZE_64, LARGER_DUMP_64, LARGEST_DUMP, LARGEST_DUMP_64, REGION_SIZE_64};
-use crate::output::{complain, fail, long_field, put_word};
+ghost use Rattle.std.specs.Prelude.{◌≡◌, length};
+
+use crate::arguments;
+use crate::image::{DUMP_SIZE, LARGER_DUMP, LARGEST_DUMP};
+use crate::options::End;
+use crate::output::{fail, put};
+use region::REGION_SIZE;
 use std::io;
 use std::io::Write;
+use std::rt::Env;
 
 fn start<W: Write>(err: &mut W, program: &[u8]) -> io::Result<()> {
-    complain(err, program)?;
-    complain(err, b": ")
+    put(err, program)?;
+    put(err, b": ")
 }
 
 fn see_help<W: Write>(err: &mut W, program: &[u8]) -> io::Result<()> {
-    complain(err, b"; see ")?;
-    complain(err, program)?;
-    complain(err, b" --help\n")
+    put(err, b"; see ")?;
+    put(err, program)?;
+    put(err, b" --help\n")
 }
 
-// Says what is wrong with the arguments: text n of some with `|` between them.
-pub fn wrong<W: Write>(err: &mut W, program: &[u8], texts: &[u8], n: u32) -> io::Result<()> {
+// Says what is wrong with the arguments.
+fn wrong<W: Write>(err: &mut W, program: &[u8], text: &[u8]) -> io::Result<()> {
     start(err, program)?;
-    put_word(err, texts, n)?;
+    put(err, text)?;
     see_help(err, program)
 }
 
-pub fn no_option<W: Write>(err: &mut W, program: &[u8], argument: &[u8]) -> io::Result<()> {
+fn no_option<W: Write>(err: &mut W, program: &[u8], argument: &[u8]) -> io::Result<()> {
     start(err, program)?;
-    complain(err, b"there is no option ")?;
-    complain(err, argument)?;
+    put(err, b"there is no option ")?;
+    put(err, argument)?;
     see_help(err, program)
+}
+
+// Says that no image is named.
+fn no_image<W: Write>(err: &mut W, program: &[u8]) -> io::Result<()> {
+    start(err, program)?;
+    put(err, b"no image is named; usage: ")?;
+    put(err, program)?;
+    put(err, b" [options] IMAGE, or ")?;
+    put(err, program)?;
+    put(err, b" --sample for the one in samples/")?;
+    see_help(err, program)
+}
+
+// Writes the help, or says what is wrong with the arguments. The buffer is for one of them.
+pub fn report<R: Env, O: Write, E: Write>(
+    rt: &R,
+    out: &mut O,
+    err: &mut E,
+    program: &[u8],
+    help: &[u8],
+    end: End,
+    buffer: &mut [u8],
+) -> io::Result<()>
+    ensures { length buffer.new ≡ length buffer.old }
+{
+    match end {
+        End::Help => put(out, help),
+        End::NoOption(index) => no_option(err, program, arguments::text(rt, index, buffer)),
+        End::NoImage => no_image(err, program),
+        End::Wrong(text) => wrong(err, program, text.as_bytes()),
+    }
 }
 
 // Says something of a file.
 pub fn refuse<W: Write>(err: &mut W, program: &[u8], name: &[u8], text: &[u8]) -> io::Result<()> {
     start(err, program)?;
-    complain(err, name)?;
-    complain(err, text)
+    put(err, name)?;
+    put(err, text)
 }
 
 // Says that a file can't be read, and why.
@@ -45,7 +82,7 @@ pub fn unread<W: Write>(
     why: &io::Error,
 ) -> io::Result<()> {
     start(err, program)?;
-    complain(err, name)?;
+    put(err, name)?;
     fail(err, b" can't be read", why)
 }
 
@@ -57,50 +94,36 @@ pub fn unwritten<W: Write>(
     why: &io::Error,
 ) -> io::Result<()> {
     start(err, program)?;
-    complain(err, b"can't write ")?;
+    put(err, b"can't write ")?;
     fail(err, name, why)
 }
 
 // Says that not all of a file was written; `output::failed` says why, before it.
 pub fn unfinished<W: Write>(err: &mut W, program: &[u8], name: &[u8]) -> io::Result<()> {
     start(err, program)?;
-    complain(err, b"can't write all of ")?;
-    complain(err, name)?;
-    complain(err, b"\n")
-}
-
-// Says that no image is named.
-pub fn no_image<W: Write>(err: &mut W, program: &[u8]) -> io::Result<()> {
-    start(err, program)?;
-    complain(err, b"no image is named; usage: ")?;
-    complain(err, program)?;
-    complain(err, b" [options] IMAGE, or ")?;
-    complain(err, program)?;
-    complain(err, b" --sample for the one in samples/")?;
-    see_help(err, program)
+    put(err, b"can't write all of ")?;
+    put(err, name)?;
+    put(err, b"\n")
 }
 
 // How many bytes a file has.
 fn has_bytes<W: Write>(err: &mut W, program: &[u8], name: &[u8], n: usize) -> io::Result<()> {
     start(err, program)?;
-    complain(err, name)?;
-    complain(err, b" has ")?;
+    put(err, name)?;
     if LARGEST_DUMP < n {
-        long_field(err, b"more than ", LARGEST_DUMP_64)?;
+        write!(err, " has more than {LARGEST_DUMP} bytes")
     } else {
-        long_field(err, b"", n as u64)?;
+        write!(err, " has {n} bytes")
     }
-    complain(err, b" bytes")
 }
 
 // Says that an image has a wrong size.
 pub fn wrong_size<W: Write>(err: &mut W, program: &[u8], name: &[u8], n: usize) -> io::Result<()> {
     has_bytes(err, program, name, n)?;
-    long_field(err, b"; expected a region of ", REGION_SIZE_64)?;
-    long_field(err, b" bytes or a whole flash dump of ", DUMP_SIZE_64)?;
-    long_field(err, b", ", LARGER_DUMP_64)?;
-    long_field(err, b" or ", LARGEST_DUMP_64)?;
-    complain(err, b" bytes, or --offset")?;
+    write!(
+        err,
+        "; expected a region of {REGION_SIZE} bytes or a whole flash dump of {DUMP_SIZE}, {LARGER_DUMP} or {LARGEST_DUMP} bytes, or --offset"
+    )?;
     see_help(err, program)
 }
 
@@ -113,9 +136,10 @@ pub fn no_region<W: Write>(
     offset: usize,
 ) -> io::Result<()> {
     has_bytes(err, program, name, n)?;
-    long_field(err, b"; it holds no region of ", REGION_SIZE_64)?;
-    long_field(err, b" bytes at ", offset as u64)?;
-    complain(err, b", see --offset")?;
+    write!(
+        err,
+        "; it holds no region of {REGION_SIZE} bytes at {offset}, see --offset"
+    )?;
     see_help(err, program)
 }
 

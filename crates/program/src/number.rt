@@ -3,7 +3,7 @@ ghost use Rattle.std.specs.Prelude.{◌≡◌};
 ghost use Rattle.base.specs.Number.{wrap32, unsigned};
 ghost use Rattle.base.specs.Number.{signed as Number·signed};
 
-use base::number::{SIGN_BIT, WORD_VALUES};
+use base::number::WORD_VALUES;
 
 // The low 32 bits.
 pub fn low32(x: u64) -> u32
@@ -16,20 +16,12 @@ pub fn low32(x: u64) -> u32
 pub fn signed(x: u64) -> i64
     ensures { result ≡ Number·signed 64 x }
 {
-    if x < SIGN_BIT {
-        x as i64
-    } else {
-        -1 - ((u64::MAX - x) as i64)
-    }
+    x.cast_signed()
 }
 
 // The 64 bits of a signed number.
 pub fn bits(z: i64) -> u64
     ensures { result ≡ unsigned 64 z }
 {
-    if z < 0 {
-        u64::MAX - ((-1 - z) as u64)
-    } else {
-        z as u64
-    }
+    z.cast_unsigned()
 }

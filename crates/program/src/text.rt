@@ -17,23 +17,14 @@ const LAST_DECIMAL: u64 = 9;
 // The most that another digit may follow: ten times it and a digit are at most 9223372036854775809.
 const MOST_BEFORE: u64 = 922337203685477580;
 
-// A number, or that there is none.
-#[derive(Clone, Copy)]
-pub enum Number {
-    Is(u64),
-    None,
-}
-
 // The index of the first byte b from an index on, or the end.
 pub fn find(s: &[u8], from: usize, b: u8) -> usize
     ensures { result ≡ index_from s.now from b }
 {
-    let mut i = from;
-    while i < s.len() {
+    for i in from..s.len() {
         if s[i] == b {
             return i;
         }
-        i += 1;
     }
     s.len()
 }
@@ -62,43 +53,32 @@ pub fn after(s: &[u8], index: usize) -> &[u8]
 pub fn digit(c: u8) -> u64
     ensures { result ≡ value_of c }
 {
-    if c < b'0' {
-        return NO_DIGIT;
-    }
-    if c <= b'9' {
-        return u8_to_u64(c - b'0');
-    }
-    if c < b'a' {
-        return NO_DIGIT;
-    }
-    if c <= b'f' {
-        u8_to_u64(c - b'a') + TEN
-    } else {
-        NO_DIGIT
+    match c {
+        b'0'..=b'9' => u8_to_u64(c - b'0'),
+        b'a'..=b'f' => u8_to_u64(c - b'a') + TEN,
+        _ => NO_DIGIT,
     }
 }
 
 // The number whose decimal digits all bytes are; none above 9223372036854775809.
-pub fn digits(s: &[u8]) -> Number
+pub fn digits(s: &[u8]) -> Option<u64>
     ensures { result ≡ number_of s.now }
 {
     if s.len() == 0 {
-        return Number::None;
+        return None;
     }
     let mut v: u64 = 0;
-    let mut i = 0;
-    while i < s.len() {
-        let d = digit(s[i]);
+    for c in s {
+        let d = digit(*c);
         if LAST_DECIMAL < d {
-            return Number::None;
+            return None;
         }
         if MOST_BEFORE < v {
-            return Number::None;
+            return None;
         }
         v = v * TEN + d;
-        i += 1;
     }
-    Number::Is(v)
+    Some(v)
 }
 
 // A file's name as the text that std opens a file by. A name that is no UTF-8 is refused as std refuses such names.

@@ -1,16 +1,13 @@
 // The lines on the region's banks: whether the core's answers about the region, as the lines before built it, are the line's.
 use crate::keys::{LENGTHS, lengths_of};
-use crate::text::{is_word, number, number32, rest, signed, unhex, word, words};
-use bank::Loaded;
+use crate::text::{bytes_of, is_word, number, number32, rest, signed, word, words};
 use bank::turns::{Checking, Progress, Turn};
 use base::slice::part;
-use header::{Bank, SOURCES, Validated};
-use key::SameKey;
+use header::{Bank, SOURCES};
 use program::{bytes, lengths};
 use record::{RECORD_SIZE, Source};
 use refusal::{Refusal, number_u32};
-use snapshot::Outcome;
-use snapshot::freshness::{Day, Days, FreshAnswer};
+use snapshot::freshness::{Day, Days};
 
 const LAST_SOURCE: usize = SOURCES - 1;
 
@@ -43,10 +40,10 @@ fn is_bank(a: &[u8], before: u32, b: Bank) -> bool {
         & (signed(a, word(a, 8)) == b.checked)
 }
 
-fn is_validated(a: &[u8], v: Validated) -> bool {
+fn is_validated(a: &[u8], v: Result<Bank, Refusal>) -> bool {
     match v {
-        Validated::Good(b) => is_bank(a, 0, b),
-        Validated::Refused(r) => is_refusal(a, r),
+        Ok(b) => is_bank(a, 0, b),
+        Err(r) => is_refusal(a, r),
     }
 }
 
@@ -65,9 +62,9 @@ pub fn load(l: &[u8], region: &[u8]) -> bool {
     let a = rest(l, 1);
     let x = bank::load(region);
     match x {
-        Loaded::Found(b) => is_bank(a, 1, b),
-        Loaded::Nothing => is_number(a, 0, 0) & (words(a) == 1),
-        Loaded::Refused(_) => false,
+        Ok(Some(b)) => is_bank(a, 1, b),
+        Ok(None) => is_number(a, 0, 0) & (words(a) == 1),
+        Err(_) => false,
     }
 }
 
@@ -79,14 +76,15 @@ fn is_record(a: &[u8], s: Source) -> bool {
     is_number(a, 0, 0) & is_word(a, 1, part(out, 0, RECORD_SIZE))
 }
 
-// The record at an index, of all sources of a bank.
-fn among(region: &[u8], number: u32, i: u32) -> Source {
-    let x = snapshot::source::sources(region, number);
-    let all = x.sources;
+// Whether an answer is the record at an index of all sources of a bank.
+fn is_among(a: &[u8], region: &[u8], number: u32, i: u32) -> bool {
+    let Ok(all) = snapshot::source::sources(region, number) else {
+        return false;
+    };
     match i {
-        0 => all[0],
-        1 => all[1],
-        _ => all[LAST_SOURCE],
+        0 => is_record(a, all[0]),
+        1 => is_record(a, all[1]),
+        _ => is_record(a, all[LAST_SOURCE]),
     }
 }
 
@@ -95,12 +93,9 @@ pub fn source(l: &[u8], region: &[u8]) -> bool {
     let a = rest(l, 3);
     let n = number32(l, word(l, 1));
     let i = number32(l, word(l, 2));
-    let x = snapshot::source::source(region, n, i);
-    let s = x.source;
-    let outcome = x.outcome;
-    match outcome {
-        Outcome::Done => is_record(a, s) & is_record(a, among(region, n, i)),
-        Outcome::Refused(r) => is_refusal(a, r),
+    match snapshot::source::source(region, n, i) {
+        Ok(s) => is_record(a, s) & is_among(a, region, n, i),
+        Err(r) => is_refusal(a, r),
     }
 }
 
@@ -139,17 +134,17 @@ pub fn fresh(l: &[u8], region: &[u8]) -> bool {
         signed(l, word(l, 6)),
     );
     match x {
-        FreshAnswer::Fresh(t) => is_times(a, t.checked, t.updated),
-        FreshAnswer::Refused(r) => is_refusal(a, r),
+        Ok(t) => is_times(a, t.checked, t.updated),
+        Err(r) => is_refusal(a, r),
     }
 }
 
 // Whether an answer is a turn's refusal, verdict and count.
-fn is_progress(a: &[u8], p: Progress) -> bool {
+fn is_progress(a: &[u8], p: Result<Progress, Refusal>) -> bool {
     match p {
-        Progress::Hashed(n) => starts_with(a, 0, 0, n),
-        Progress::Yes => starts_with(a, 0, 1, 0),
-        Progress::Refused(r) => starts_with(a, number_u32(r), 0, 0),
+        Ok(Progress::Hashed(n)) => starts_with(a, 0, 0, n),
+        Ok(Progress::Yes) => starts_with(a, 0, 1, 0),
+        Err(r) => starts_with(a, number_u32(r), 0, 0),
     }
 }
 
@@ -197,19 +192,17 @@ fn matches(l: &[u8], region: &[u8], identity: &[u8], texts: &[u8]) -> bool {
         lengths::first(&list, n),
     );
     match x {
-        SameKey::Same => is_same(a, 1),
-        SameKey::Other => is_same(a, 0),
-        SameKey::Refused(r) => is_refusal(a, r),
+        Ok(true) => is_same(a, 1),
+        Ok(false) => is_same(a, 0),
+        Err(r) => is_refusal(a, r),
     }
 }
 
 // `bankkey BANK IDENTITY TEXTS LENGTHS ANSWER`
 pub fn same_key(l: &[u8], region: &[u8]) -> bool {
     let mut a = bytes::buffer();
-    let identity: &mut [u8] = &mut a;
-    let n = unhex(l, word(l, 2), identity);
+    let identity = bytes_of(l, 2, &mut a);
     let mut b = bytes::buffer();
-    let texts: &mut [u8] = &mut b;
-    let m = unhex(l, word(l, 3), texts);
-    matches(l, region, part(identity, 0, n), part(texts, 0, m))
+    let texts = bytes_of(l, 3, &mut b);
+    matches(l, region, identity, texts)
 }

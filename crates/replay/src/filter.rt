@@ -1,22 +1,22 @@
 // The lines on the filter, which is at the region's start, and on the bytes there.
-use crate::text::{is_word, number32, offset, unhex, word};
+use crate::text::{bytes_of, is_word, number32, offset, word};
 use base::slice::part;
-use bloom::Filter;
 use leaf::bytes::get8;
 use program::bytes;
+use refusal::Refusal;
 
 // Whether the answer is the line's last word, 1 for present and 0 for absent.
-fn is_answer(l: &[u8], a: Filter) -> bool {
+fn is_answer(l: &[u8], a: Result<bool, Refusal>) -> bool {
     let want = get8(l, word(l, 3));
     match a {
-        Filter::Present => want == b'1',
-        Filter::Absent => want == b'0',
-        Filter::Refused(_) => false,
+        Ok(true) => want == b'1',
+        Ok(false) => want == b'0',
+        Err(_) => false,
     }
 }
 
 // Inserts into a filter in the first n bytes.
-fn insert_in(region: &mut [u8], n: usize, id: &[u8]) -> Filter {
+fn insert_in(region: &mut [u8], n: usize, id: &[u8]) -> Result<bool, Refusal> {
     if n < region.len() {
         return bloom::insert(&mut region[..n], id);
     }
@@ -26,29 +26,23 @@ fn insert_in(region: &mut [u8], n: usize, id: &[u8]) -> Filter {
 // `insert SIZE ID ANSWER`
 pub fn insert(l: &[u8], region: &mut [u8]) -> bool {
     let mut space = bytes::buffer();
-    let id: &mut [u8] = &mut space;
-    let n = unhex(l, word(l, 2), id);
-    is_answer(l, insert_in(region, offset(l, word(l, 1)), part(id, 0, n)))
+    let id = bytes_of(l, 2, &mut space);
+    is_answer(l, insert_in(region, offset(l, word(l, 1)), id))
 }
 
 // `query SIZE ID ANSWER`
 pub fn query(l: &[u8], region: &[u8]) -> bool {
     let mut space = bytes::buffer();
-    let id: &mut [u8] = &mut space;
-    let n = unhex(l, word(l, 2), id);
-    is_answer(
-        l,
-        bloom::query(part(region, 0, offset(l, word(l, 1))), part(id, 0, n)),
-    )
+    let id = bytes_of(l, 2, &mut space);
+    is_answer(l, bloom::query(part(region, 0, offset(l, word(l, 1))), id))
 }
 
 // `holds OFFSET BYTES`: whether the region's bytes at an offset are the line's.
 pub fn holds(l: &[u8], region: &[u8]) -> bool {
     let mut space = bytes::buffer();
-    let want: &mut [u8] = &mut space;
-    let n = unhex(l, word(l, 2), want);
-    let bytes = part(region, offset(l, word(l, 1)), n);
-    (0 < n) & is_word(l, 2, bytes)
+    let want = bytes_of(l, 2, &mut space);
+    let bytes = part(region, offset(l, word(l, 1)), want.len());
+    (0 < want.len()) & is_word(l, 2, bytes)
 }
 
 // `sum OFFSET COUNT ANSWER`: whether the CRC-32 of the region's bytes at an offset is the line's.

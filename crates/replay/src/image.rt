@@ -1,5 +1,5 @@
 // The lines that build the region.
-use crate::text::{BYTE_VALUES, number, offset, starts, unhex, word};
+use crate::text::{BYTE_VALUES, first_word, number, offset, unhex, word};
 use program::bytes;
 use std::num::wrapping_add_usize;
 
@@ -40,14 +40,10 @@ fn fill_bytes(l: &[u8], region: &mut [u8]) -> bool {
 
 // Builds what a line says; gives false if it is no such line or doesn't fit.
 pub fn build(l: &[u8], memory: &mut [u8]) -> bool {
-    if starts(l, b"at") {
-        return write_bytes(l, memory);
+    match first_word(l) {
+        Some(b"at") => write_bytes(l, memory),
+        Some(b"fill") => fill_bytes(l, memory),
+        Some(b"region") => fill_region(l, memory),
+        _ => false,
     }
-    if starts(l, b"fill") {
-        return fill_bytes(l, memory);
-    }
-    if starts(l, b"region") {
-        return fill_region(l, memory);
-    }
-    false
 }

@@ -1,14 +1,9 @@
 // The kinds of lines that the list has answers of.
-ghost use Rattle.std.specs.Prelude.{◌<◌};
-ghost use Rattle.replay.specs.Sizes.{kind_count};
-
-use crate::text::starts;
-use program::output::put_word;
-use std::io;
-use std::io::Write;
+use crate::text::first_word;
+use std::fmt;
 
 // Leaves and keys, banks, rows and filter; unknown is none of them.
-#[derive(Clone, Copy)]
+#[derive(Clone, Copy, PartialEq, Eq)]
 pub enum Kind {
     ValidDate,
     NewDate,
@@ -42,154 +37,110 @@ pub enum Kind {
 
 pub const KINDS: usize = 28;
 
-// Where a kind is counted.
-pub fn index(k: Kind) -> usize
-    ensures { result < kind_count }
-{
-    match k {
-        Kind::ValidDate => 0,
-        Kind::NewDate => 1,
-        Kind::Newer => 2,
-        Kind::Next => 3,
-        Kind::Crc => 4,
-        Kind::Get => 5,
-        Kind::Put => 6,
-        Kind::GetTime => 7,
-        Kind::PutTime => 8,
-        Kind::Rotate => 9,
-        Kind::Key => 10,
-        Kind::SameKey => 11,
-        Kind::Validate => 12,
-        Kind::Header => 13,
-        Kind::Load => 14,
-        Kind::Source => 15,
-        Kind::Fresh => 16,
-        Kind::CheckStart => 17,
-        Kind::CheckTurn => 18,
-        Kind::BankKey => 19,
-        Kind::NamesLine => 20,
-        Kind::Row => 21,
-        Kind::ReadRow => 22,
-        Kind::Insert => 23,
-        Kind::Query => 24,
-        Kind::Bytes => 25,
-        Kind::Sum => 26,
-        Kind::Unknown => 27,
+// All kinds, in the report's order.
+pub const ALL: [Kind; KINDS] = [
+    Kind::ValidDate,
+    Kind::NewDate,
+    Kind::Newer,
+    Kind::Next,
+    Kind::Crc,
+    Kind::Get,
+    Kind::Put,
+    Kind::GetTime,
+    Kind::PutTime,
+    Kind::Rotate,
+    Kind::Key,
+    Kind::SameKey,
+    Kind::Validate,
+    Kind::Header,
+    Kind::Load,
+    Kind::Source,
+    Kind::Fresh,
+    Kind::CheckStart,
+    Kind::CheckTurn,
+    Kind::BankKey,
+    Kind::NamesLine,
+    Kind::Row,
+    Kind::ReadRow,
+    Kind::Insert,
+    Kind::Query,
+    Kind::Bytes,
+    Kind::Sum,
+    Kind::Unknown,
+];
+
+impl Kind {
+    // The kind of a line, by its first word.
+    pub fn of(l: &[u8]) -> Kind {
+        let Some(word) = first_word(l) else {
+            return Kind::Unknown;
+        };
+        match word {
+            b"date" => Kind::ValidDate,
+            b"new" => Kind::NewDate,
+            b"newer" => Kind::Newer,
+            b"next" => Kind::Next,
+            b"crc" => Kind::Crc,
+            b"get" => Kind::Get,
+            b"put" => Kind::Put,
+            b"time" => Kind::GetTime,
+            b"puttime" => Kind::PutTime,
+            b"rotate" => Kind::Rotate,
+            b"key" => Kind::Key,
+            b"samekey" => Kind::SameKey,
+            b"validate" => Kind::Validate,
+            b"header" => Kind::Header,
+            b"load" => Kind::Load,
+            b"source" => Kind::Source,
+            b"fresh" => Kind::Fresh,
+            b"start" => Kind::CheckStart,
+            b"turn" => Kind::CheckTurn,
+            b"bankkey" => Kind::BankKey,
+            b"names" => Kind::NamesLine,
+            b"row" => Kind::Row,
+            b"read" => Kind::ReadRow,
+            b"insert" => Kind::Insert,
+            b"query" => Kind::Query,
+            b"holds" => Kind::Bytes,
+            b"sum" => Kind::Sum,
+            _ => Kind::Unknown,
+        }
     }
 }
 
-// The kinds of lines on rows and filter.
-fn row_kind(l: &[u8]) -> Kind {
-    if starts(l, b"names") {
-        return Kind::NamesLine;
+// The kind as the report has it.
+impl fmt::Display for Kind {
+    fn fmt<W: fmt::Write>(&self, f: &mut fmt::Formatter<W>) -> fmt::Result {
+        let name = match self {
+            Kind::ValidDate => "valid_date",
+            Kind::NewDate => "Date::new",
+            Kind::Newer => "newer",
+            Kind::Next => "next",
+            Kind::Crc => "crc32",
+            Kind::Get => "get",
+            Kind::Put => "put",
+            Kind::GetTime => "get_time",
+            Kind::PutTime => "put_time",
+            Kind::Rotate => "rotate13",
+            Kind::Key => "key",
+            Kind::SameKey => "same_key",
+            Kind::Validate => "validate",
+            Kind::Header => "header",
+            Kind::Load => "load",
+            Kind::Source => "source",
+            Kind::Fresh => "fresh",
+            Kind::CheckStart => "check_start",
+            Kind::CheckTurn => "check_turn",
+            Kind::BankKey => "bank's key",
+            Kind::NamesLine => "names_line",
+            Kind::Row => "row",
+            Kind::ReadRow => "read_row",
+            Kind::Insert => "insert",
+            Kind::Query => "query",
+            Kind::Bytes => "bytes",
+            Kind::Sum => "their CRC",
+            Kind::Unknown => "unknown",
+        };
+        write!(f, "{name:11}")
     }
-    if starts(l, b"row") {
-        return Kind::Row;
-    }
-    if starts(l, b"read") {
-        return Kind::ReadRow;
-    }
-    if starts(l, b"insert") {
-        return Kind::Insert;
-    }
-    if starts(l, b"query") {
-        return Kind::Query;
-    }
-    if starts(l, b"holds") {
-        return Kind::Bytes;
-    }
-    if starts(l, b"sum") {
-        Kind::Sum
-    } else {
-        Kind::Unknown
-    }
-}
-
-// The kinds of lines on banks, and those after them.
-fn bank_kind(l: &[u8]) -> Kind {
-    if starts(l, b"validate") {
-        return Kind::Validate;
-    }
-    if starts(l, b"header") {
-        return Kind::Header;
-    }
-    if starts(l, b"load") {
-        return Kind::Load;
-    }
-    if starts(l, b"source") {
-        return Kind::Source;
-    }
-    if starts(l, b"fresh") {
-        return Kind::Fresh;
-    }
-    if starts(l, b"start") {
-        return Kind::CheckStart;
-    }
-    if starts(l, b"turn") {
-        return Kind::CheckTurn;
-    }
-    if starts(l, b"bankkey") {
-        return Kind::BankKey;
-    }
-    row_kind(l)
-}
-
-// The kinds of lines on times and keys, and those after them.
-fn later_kind(l: &[u8]) -> Kind {
-    if starts(l, b"put") {
-        return Kind::Put;
-    }
-    if starts(l, b"time") {
-        return Kind::GetTime;
-    }
-    if starts(l, b"puttime") {
-        return Kind::PutTime;
-    }
-    if starts(l, b"rotate") {
-        return Kind::Rotate;
-    }
-    if starts(l, b"key") {
-        return Kind::Key;
-    }
-    if starts(l, b"samekey") {
-        return Kind::SameKey;
-    }
-    bank_kind(l)
-}
-
-// The kind of a line, by its first word.
-pub fn kind_of(l: &[u8]) -> Kind {
-    if starts(l, b"date") {
-        return Kind::ValidDate;
-    }
-    if starts(l, b"new") {
-        return Kind::NewDate;
-    }
-    if starts(l, b"newer") {
-        return Kind::Newer;
-    }
-    if starts(l, b"next") {
-        return Kind::Next;
-    }
-    if starts(l, b"crc") {
-        return Kind::Crc;
-    }
-    if starts(l, b"get") {
-        return Kind::Get;
-    }
-    later_kind(l)
-}
-
-// The name of a kind by its index, as the report has it.
-pub fn say_name<W: Write>(out: &mut W, index: u32) -> io::Result<()> {
-    put_word(
-        out,
-        b"valid_date |Date::new  |newer      |next       |crc32      |get        |\
-          put        |get_time   |put_time   |rotate13   |key        |same_key   |\
-          validate   |header     |load       |source     |fresh      |check_start|\
-          check_turn |bank's key |\
-          names_line |row        |read_row   |insert     |query      |bytes      |\
-          their CRC  |unknown    ",
-        index,
-    )
 }

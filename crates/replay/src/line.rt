@@ -1,9 +1,9 @@
 // One line of the list: whether the core's answer is the line's. Above each function is the form of its line; word 0 is the kind.
 use crate::kinds::Kind;
-use crate::text::{BYTE_VALUES, is_word, number, number32, offset, signed, unhex, word};
+use crate::text::{BYTE_VALUES, bytes_of, is_word, number, number32, offset, signed, unhex, word};
 use crate::{banks, filter, keys, rows};
 use base::slice::part;
-use leaf::date::{Date, NewDate};
+use leaf::date::Date;
 use program::bytes;
 
 // How many values 16 bits have.
@@ -29,8 +29,8 @@ fn new(l: &[u8]) -> bool {
     let day = (number(l, word(l, 3)) % BYTE_VALUES) as u8;
     let want = number32(l, word(l, 4));
     match Date::new(year, month, day) {
-        NewDate::Made(d) => d.0 == want,
-        NewDate::InvalidDate => want == 0,
+        Some(d) => d.0 == want,
+        None => want == 0,
     }
 }
 
@@ -53,25 +53,22 @@ fn rotate(l: &[u8]) -> bool {
 // `crc START BYTES ANSWER`
 fn crc(l: &[u8]) -> bool {
     let mut space = bytes::buffer();
-    let bytes: &mut [u8] = &mut space;
-    let n = unhex(l, word(l, 2), bytes);
-    leaf::crc::crc32(number32(l, word(l, 1)), part(bytes, 0, n)) == number32(l, word(l, 3))
+    let bytes = bytes_of(l, 2, &mut space);
+    leaf::crc::crc32(number32(l, word(l, 1)), bytes) == number32(l, word(l, 3))
 }
 
 // `get BYTES OFFSET ANSWER`
 fn get(l: &[u8]) -> bool {
     let mut space = bytes::buffer();
-    let bytes: &mut [u8] = &mut space;
-    let n = unhex(l, word(l, 1), bytes);
-    leaf::bytes::get(part(bytes, 0, n), offset(l, word(l, 2))) == number32(l, word(l, 3))
+    let bytes = bytes_of(l, 1, &mut space);
+    leaf::bytes::get(bytes, offset(l, word(l, 2))) == number32(l, word(l, 3))
 }
 
 // `time BYTES OFFSET ANSWER`
 fn time(l: &[u8]) -> bool {
     let mut space = bytes::buffer();
-    let bytes: &mut [u8] = &mut space;
-    let n = unhex(l, word(l, 1), bytes);
-    leaf::bytes::get_time(part(bytes, 0, n), offset(l, word(l, 2))) == signed(l, word(l, 3))
+    let bytes = bytes_of(l, 1, &mut space);
+    leaf::bytes::get_time(bytes, offset(l, word(l, 2))) == signed(l, word(l, 3))
 }
 
 // `put BYTES OFFSET NUMBER ANSWER`

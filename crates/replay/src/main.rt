@@ -17,41 +17,54 @@ ghost use Rattle.replay.specs.Sizes.{list_size};
 use crate::kinds::{KINDS, Kind};
 use base::slice::part;
 use program::bytes::read_full;
-use program::output::{fail, failed, print, say};
-use program::text::{between, find};
+use program::output::{fail, failed};
 use region::REGION_SIZE;
 use std::io::{BufWriter, Stderr, Write};
-use std::{fs, io};
+use std::{fmt, fs, io};
 
 // The list is shorter.
 const LIST_SIZE: usize = 524288;
 
-// How many lines of each kind there were, and for how many the answers were the same; and of all kinds.
+// How many lines there were, and for how many the answers were the same.
+#[derive(Clone, Copy)]
+struct Count {
+    seen: u64,
+    same: u64,
+}
+
+const NONE: Count = Count { seen: 0, same: 0 };
+
+impl Count {
+    fn add(&mut self, same: bool) {
+        self.seen = self.seen.wrapping_add(1);
+        if same {
+            self.same = self.same.wrapping_add(1);
+        }
+    }
+}
+
+// As the report has it.
+impl fmt::Display for Count {
+    fn fmt<W: fmt::Write>(&self, f: &mut fmt::Formatter<W>) -> fmt::Result {
+        let seen = self.seen;
+        let same = self.same;
+        write!(f, "{seen} answers, {same} alike")
+    }
+}
+
+// The lines of each kind, and all.
 #[derive(Clone, Copy)]
 struct Counts {
-    seen: [u64; KINDS],
-    same: [u64; KINDS],
-    all_seen: u64,
-    all_same: u64,
+    kinds: [Count; KINDS],
+    all: Count,
 }
 
-fn counted(c: Counts, k: Kind, same: bool) -> Counts {
-    let more: u64 = if same { 1 } else { 0 };
-    let i = kinds::index(k);
-    let mut r = c;
-    r.seen[i] = std::num::wrapping_add_u64(c.seen[i], 1);
-    r.same[i] = std::num::wrapping_add_u64(c.same[i], more);
-    r.all_seen = std::num::wrapping_add_u64(c.all_seen, 1);
-    r.all_same = std::num::wrapping_add_u64(c.all_same, more);
-    r
-}
-
-// Says which line differs.
-fn say_different<W: Write>(out: &mut W, same: bool, n: u64) -> io::Result<()> {
-    if same {
-        return Ok(());
+fn counted(mut c: Counts, k: Kind, same: bool) -> Counts {
+    if let Some(of_kind) = c.kinds.get_mut(k as usize) {
+        of_kind.add(same);
     }
-    print(out, b"line {} differs\n", &[n])
+    c.all.add(same);
+    c
 }
 
 // Replays line n; comments, empty lines and those that build the region aren't counted.
@@ -69,47 +82,34 @@ fn step<W: Write>(
     if image::build(l, memory) {
         return Ok(c);
     }
-    let k = kinds::kind_of(l);
+    let k = Kind::of(l);
     let same = line::is_alike(k, l, memory);
-    say_different(out, same, n)?;
+    if !same {
+        writeln!(out, "line {n} differs")?;
+    }
     Ok(counted(c, k, same))
 }
 
 // Replays all lines.
 fn replayed<W: Write>(out: &mut W, s: &[u8], memory: &mut [u8]) -> io::Result<Counts> {
     let mut c = Counts {
-        seen: [0; KINDS],
-        same: [0; KINDS],
-        all_seen: 0,
-        all_same: 0,
+        kinds: [NONE; KINDS],
+        all: NONE,
     };
     let mut n: u64 = 0;
-    let mut i = 0;
-    while i < s.len() {
-        let end = find(s, i, b'\n');
-        n = std::num::wrapping_add_u64(n, 1);
-        c = step(out, c, n, between(s, i, end), memory)?;
-        i = text::index_after(end, i);
+    for l in s.split(|b| *b == b'\n') {
+        n = n.wrapping_add(1);
+        c = step(out, c, n, l, memory)?;
     }
     Ok(c)
 }
 
-fn report_counts<W: Write>(out: &mut W, seen: u64, same: u64) -> io::Result<()> {
-    print(out, b": {} answers, {} alike\n", &[seen, same])
-}
-
 // A line for each kind, and one for all.
 fn report<W: Write>(out: &mut W, c: Counts) -> io::Result<()> {
-    let mut i: usize = 0;
-    while i < KINDS {
-        kinds::say_name(out, i as u32)?;
-        let seen = c.seen[i];
-        let same = c.same[i];
-        report_counts(out, seen, same)?;
-        i += 1;
+    for (kind, count) in kinds::ALL.iter().zip(c.kinds.iter()) {
+        writeln!(out, "{}: {}", *kind, *count)?;
     }
-    say(out, b"all        ")?;
-    report_counts(out, c.all_seen, c.all_same)
+    writeln!(out, "all        : {}", c.all)
 }
 
 // A buffer of zeros for the list.

@@ -1,11 +1,10 @@
 // The lines on rows. Lengths and ends are 16-bit numbers in hexadecimal.
-use crate::text::{is_word, number32, offset, unhex, word, words};
+use crate::text::{bytes_of, is_word, number32, offset, word, words};
 use base::number::{SECOND_BYTE, u8_to_u32};
 use base::slice::part;
 use leaf::bytes::get8;
 use program::{bytes, lengths};
-use row::RowAnswer;
-use rowread::ReadAnswer;
+use rowread::Span;
 use std::num::wrapping_add_usize;
 
 // More values than a row has.
@@ -19,8 +18,8 @@ pub fn names_line(l: &[u8]) -> bool {
     let out: &mut [u8] = &mut space;
     let a = row::names_line(number32(l, word(l, 1)), out);
     match a {
-        RowAnswer::Written(n) => is_word(l, 2, part(out, 0, n)),
-        RowAnswer::Refused(_) => false,
+        Ok(n) => is_word(l, 2, part(out, 0, n)),
+        Err(_) => false,
     }
 }
 
@@ -31,20 +30,17 @@ fn pair(bytes: &[u8], at: usize) -> u32 {
 
 // The 16-bit numbers of bytes, 0 past the end.
 fn pairs(bytes: &[u8], out: &mut [u32]) {
-    let mut i = 0;
-    while i < out.len() {
-        out[i] = pair(bytes, wrapping_add_usize(i, i));
-        i += 1;
+    for (i, to) in out.iter_mut().enumerate() {
+        *to = pair(bytes, wrapping_add_usize(i, i));
     }
 }
 
 // The 16-bit numbers of word k; gives how many they are.
 fn numbers(l: &[u8], k: u8, out: &mut [u32]) -> usize {
     let mut space = bytes::buffer();
-    let bytes: &mut [u8] = &mut space;
-    let n = unhex(l, word(l, k), bytes);
-    pairs(part(bytes, 0, n), out);
-    n / PAIR
+    let bytes = bytes_of(l, k, &mut space);
+    pairs(bytes, out);
+    bytes.len() / PAIR
 }
 
 fn row_of(l: &[u8], texts: &[u8]) -> bool {
@@ -59,17 +55,16 @@ fn row_of(l: &[u8], texts: &[u8]) -> bool {
         out,
     );
     match a {
-        RowAnswer::Written(m) => is_word(l, 4, part(out, 0, m)),
-        RowAnswer::Refused(_) => false,
+        Ok(m) => is_word(l, 4, part(out, 0, m)),
+        Err(_) => false,
     }
 }
 
 // `row TABLE TEXTS LENGTHS ANSWER`
 pub fn row(l: &[u8]) -> bool {
     let mut space = bytes::large_buffer();
-    let texts: &mut [u8] = &mut space;
-    let n = unhex(l, word(l, 2), texts);
-    row_of(l, part(texts, 0, n))
+    let texts = bytes_of(l, 2, &mut space);
+    row_of(l, texts)
 }
 
 // Whether the first n ends are the 16-bit numbers of bytes.
@@ -77,12 +72,10 @@ fn same_ends(ends: &[usize], bytes: &[u8], n: usize) -> bool {
     if ends.len() < n {
         return false;
     }
-    let mut i = 0;
-    while i < n {
-        if ends[i] != pair(bytes, wrapping_add_usize(i, i)) as usize {
+    for (i, end) in ends.iter().take(n).enumerate() {
+        if *end != pair(bytes, wrapping_add_usize(i, i)) as usize {
             return false;
         }
-        i += 1;
     }
     true
 }
@@ -90,9 +83,9 @@ fn same_ends(ends: &[usize], bytes: &[u8], n: usize) -> bool {
 // Whether these are the ends of word 6, as many as the row has values.
 fn is_ends(l: &[u8], ends: &[usize]) -> bool {
     let mut space = bytes::buffer();
-    let bytes: &mut [u8] = &mut space;
-    let n = unhex(l, word(l, 6), bytes);
-    (n / PAIR == offset(l, word(l, 3))) & same_ends(ends, bytes, n / PAIR)
+    let bytes = bytes_of(l, 6, &mut space);
+    let n = bytes.len() / PAIR;
+    (n == offset(l, word(l, 3))) & same_ends(ends, bytes, n)
 }
 
 // Reads a row of a table.
@@ -109,14 +102,14 @@ fn read_in(l: &[u8], table: &[u8]) -> bool {
         ends,
     );
     match a {
-        ReadAnswer::Stored { next, size } => {
+        Ok(Some(Span { next, size })) => {
             (words(l) == 8)
                 & (next == offset(l, word(l, 5)))
                 & is_ends(l, ends)
                 & is_word(l, 7, part(out, 0, size))
         }
-        ReadAnswer::End => (words(l) == 6) & (get8(l, word(l, 5)) == b'-'),
-        ReadAnswer::Refused(_) => false,
+        Ok(None) => (words(l) == 6) & (get8(l, word(l, 5)) == b'-'),
+        Err(_) => false,
     }
 }
 

@@ -1,7 +1,4 @@
 // The words of a line, and the numbers and bytes in them.
-ghost use Rattle.std.specs.Prelude.{◌<◌};
-ghost use Rattle.base.specs.Number.{max_unsigned};
-
 use base::slice::{part, same_bytes};
 use leaf::bytes::get8;
 use program::bytes;
@@ -32,10 +29,8 @@ fn next_word(s: &[u8], from: usize) -> usize {
 // Where word k starts, counted from 0.
 pub fn word(s: &[u8], k: u8) -> usize {
     let mut at = 0;
-    let mut j: u8 = 0;
-    while j < k {
+    for _ in 0..k {
         at = next_word(s, at);
-        j += 1;
     }
     at
 }
@@ -47,38 +42,31 @@ pub fn rest(s: &[u8], k: u8) -> &[u8] {
 
 // How many words there are.
 pub fn words(s: &[u8]) -> usize {
-    let mut n = 0;
-    let mut at = 0;
-    while at < s.len() {
-        n = std::num::wrapping_add_usize(n, 1);
-        at = index_after(find(s, at, b' '), at);
+    match s.split_last() {
+        Some((_, before)) => before.iter().filter(|b| **b == b' ').count() + 1,
+        None => 0,
     }
-    n
 }
 
-// Whether a line starts with a word and continues after it.
-pub fn starts(s: &[u8], word: &[u8]) -> bool {
-    let mut i = 0;
-    while i < word.len() {
-        if get8(s, i) != word[i] {
-            return false;
-        }
-        i += 1;
+// A line's first word, if it goes on after it.
+pub fn first_word(s: &[u8]) -> Option<&[u8]> {
+    let end = find(s, 0, b' ');
+    if end < s.len() {
+        Some(part(s, 0, end))
+    } else {
+        None
     }
-    get8(s, word.len()) == b' '
 }
 
 // The decimal number at an index.
 pub fn number(s: &[u8], from: usize) -> u64 {
     let mut v: u64 = 0;
-    let mut i = from;
-    while i < s.len() {
-        let d = digit(s[i]);
+    for c in part(s, from, s.len()) {
+        let d = digit(*c);
         if LAST_DECIMAL < d {
-            return v;
+            break;
         }
         v = v % MOST_BEFORE * TEN + d;
-        i += 1;
     }
     v
 }
@@ -104,39 +92,41 @@ pub fn signed(s: &[u8], from: usize) -> i64 {
     signed_of(number(s, from))
 }
 
+// The byte that two hexadecimal digits make.
+fn byte_of(digits: &[u8]) -> Option<u8> {
+    let [high, low] = digits else {
+        return None;
+    };
+    let high = digit(*high);
+    let low = digit(*low);
+    if LAST_HEX < high || LAST_HEX < low {
+        return None;
+    }
+    Some((high % HEX * HEX + low % HEX) as u8)
+}
+
 // The hexadecimal bytes at an index, into out; gives how many they are.
 pub fn unhex(s: &[u8], from: usize, out: &mut [u8]) -> usize {
-    let mut n = 0;
-    let mut at = from;
-    while n < out.len() {
-        let high = digit(get8(s, at));
-        let low = digit(get8(s, std::num::wrapping_add_usize(at, 1)));
-        if LAST_HEX < high || LAST_HEX < low {
-            return n;
-        }
-        out[n] = (high % HEX * HEX + low % HEX) as u8;
-        n += 1;
-        at = std::num::wrapping_add_usize(at, DIGITS);
+    let mut n: usize = 0;
+    let digits = part(s, from, s.len());
+    for (to, two) in out.iter_mut().zip(digits.chunks(DIGITS)) {
+        let Some(b) = byte_of(two) else {
+            break;
+        };
+        *to = b;
+        n = n.wrapping_add(1);
     }
     n
+}
+
+// The hexadecimal bytes of word k, which a buffer holds.
+pub fn bytes_of<'a>(s: &[u8], k: u8, out: &'a mut [u8]) -> &'a [u8] {
+    let n = unhex(s, word(s, k), out);
+    part(out, 0, n)
 }
 
 // Whether word k is these bytes in hexadecimal.
 pub fn is_word(l: &[u8], k: u8, bytes: &[u8]) -> bool {
     let mut space = bytes::large_buffer();
-    let want: &mut [u8] = &mut space;
-    let m = unhex(l, word(l, k), want);
-    same_bytes(bytes, part(want, 0, m))
-}
-
-// The index after an end, and in any case after i.
-pub fn index_after(end: usize, i: usize) -> usize
-    ensures { i < max_unsigned → i < result }
-{
-    if i <= end {
-        if end < usize::MAX {
-            return end + 1;
-        }
-    }
-    if i < usize::MAX { i + 1 } else { i }
+    same_bytes(bytes, bytes_of(l, k, &mut space))
 }

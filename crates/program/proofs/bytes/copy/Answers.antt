@@ -1,12 +1,6 @@
--- A turn writes one more of the bytes (`bytes-more`). The loop ends where the bytes or the buffer do, and so does `take`.
-use Rattle.std.proofs.Common.{◌+◌, get_or, slice_set as set, ap, ◌∙◌, arith}
-use Rattle.base.proofs.Lists.{bytes-more}
+-- Where bytes fit, a part of the buffer is overwritten with as many of them.
+use Rattle.program.proofs.Writes.{copied}
 use Rattle.program.proofs.bytes.copy.Goals as goal
 
-pub loop-i-preserved : goal.loop-i-preserved
-loop-i-preserved c =
-    let a = c.args in
-    let l = c.loop-i in (
-      omega arith,
-      ap (λ o. set o (a.at + l.i) (get_or a.s.now l.i 0)) l.invariant.1 ∙ bytes-more a.s.now l.i a.at a.out.now (omega arith),
-    )
+pub returns-then-n-gt0 : goal.returns-then-n-gt0
+returns-then-n-gt0 c = copied c.args.at c.fitting-n.result c.args.out.now c.args.s.now c.copy_from_slice.new.self c.copy_from_slice.ensures.after c.fitting-n.ensures c.if-n-gt0.true

@@ -1,16 +1,6 @@
--- A turn writes one more of the bytes that fit (`bytes-more`).
-use Rattle.std.proofs.Common.{◌+◌, ◌<◌, get_or, slice_set as set, replicate, sym, ap, ◌∙◌, arith}
-use Rattle.std.proofs.lemmas.List.{length-replicate, get_or-replicate}
-use Rattle.base.proofs.Lists.{bytes-more}
+-- Where bytes fit, a part of the buffer is overwritten with as many of them.
+use Rattle.program.proofs.Writes.{filled}
 use Rattle.program.proofs.bytes.fill.Goals as goal
 
-pub loop-i-preserved : goal.loop-i-preserved
-loop-i-preserved c =
-    let a = c.args in
-    let l = c.loop-i in
-    let m = c.fitting-m.result in
-    let s = replicate m a.b in
-    let less : l.i < m = omega arith in (
-      omega arith,
-      ap (set l.out (a.at + l.i)) (sym (get_or-replicate m l.i a.b 0 less)) ∙ ap (λ o. set o (a.at + l.i) (get_or s l.i 0)) l.invariant.1 ∙ bytes-more s l.i a.at a.out.now (omega (arith, length-replicate m a.b)),
-    )
+pub returns-then-m-gt0 : goal.returns-then-m-gt0
+returns-then-m-gt0 c = filled c.args.at c.args.n c.fitting-m.result c.args.b c.args.out.now c.fill.new.self (c.fill.ensures.after (λ y h. h)) c.fitting-m.ensures c.if-m-gt0.true

@@ -6,23 +6,23 @@ use Rattle.program.proofs.text.digits.Goals as goal
 pub returns-then-s-eq0 : goal.returns-then-s-eq0
 returns-then-s-eq0 c = without c.args.s.now c.if-s-eq0.true
 
-pub loop-i-init : goal.loop-i-init
-loop-i-init c = sym (from_zero c.args.s.now c.if-s-eq0.false)
+pub loop-c-init : goal.loop-c-init
+loop-c-init c = sym (from_zero c.args.s.now c.if-s-eq0.false)
 
 pub returns-then-d-gt-LAST_DECIMAL : goal.returns-then-d-gt-LAST_DECIMAL
 returns-then-d-gt-LAST_DECIMAL c =
     let d = c.digit-d in
-    no_digit c.args.s.now c.loop-i.v c.loop-i.i d.result (omega arith) d.ensures (omega arith) ∙ c.loop-i.invariant
+    no_digit c.args.s.now c.loop-c.v c.loop-c.c-index d.result (omega arith) d.ensures (omega arith) ∙ c.loop-c.invariant
 
 pub returns-then-v-gt-MOST_BEFORE : goal.returns-then-v-gt-MOST_BEFORE
 returns-then-v-gt-MOST_BEFORE c =
     let d = c.digit-d in
-    too_large c.args.s.now c.loop-i.v c.loop-i.i d.result (omega arith) d.ensures (omega arith) (omega arith) ∙ c.loop-i.invariant
+    too_large c.args.s.now c.loop-c.v c.loop-c.c-index d.result (omega arith) d.ensures (omega arith) (omega arith) ∙ c.loop-c.invariant
 
-pub loop-i-preserved : goal.loop-i-preserved
-loop-i-preserved c =
+pub loop-c-preserved : goal.loop-c-preserved
+loop-c-preserved c =
     let d = c.digit-d in
-    sym (one_more c.args.s.now c.loop-i.v c.loop-i.i d.result (omega arith) d.ensures (omega arith) (omega arith)) ∙ c.loop-i.invariant
+    sym (one_more c.args.s.now c.loop-c.v c.loop-c.c-index d.result (omega arith) d.ensures (omega arith) (omega arith)) ∙ c.loop-c.invariant
 
 pub returns : goal.returns
-returns c = all_read c.args.s.now c.loop-i.v c.loop-i.i (omega arith) ∙ c.loop-i.invariant
+returns c = all_read c.args.s.now c.loop-c.v c.loop-c.c-index (omega arith) ∙ c.loop-c.invariant

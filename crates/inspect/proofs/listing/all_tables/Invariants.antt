@@ -1,6 +1,0 @@
--- Only safety and an end: t goes up to the number of tables.
-use Rattle.std.proofs.Common.{◌-◌}
-use Rattle.inspect.proofs.listing.all_tables.Given as goal
-
-abbrev pub decreases-loop-t : goal.decreases-loop-t
-decreases-loop-t g l = 8 - l.t
