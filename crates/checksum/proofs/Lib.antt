@@ -6,3 +6,4 @@ pub mod First
 pub mod Fold
 pub mod TableLaws
 pub mod PairTable
+pub mod Entries

@@ -3,11 +3,10 @@
 use mathlib.Core.Path.{◌≡◌, refl, sym, ap, ap₂, subst, ◌∙◌}
 use mathlib.Core.Bool.{Bool, true, false}
 use mathlib.Core.List.{List, [], ◌∷◌}
-use Prim.Native.Nat.{ℕ, zero, suc, ◌+◌, ◌-◌, ◌*◌, ◌/◌, ◌%◌, ◌^◌, ◌<◌, ◌≤◌, zero-le}
-use native.Mathlib.Nat.{mod-eq_of_lt, div-eq_of_lt, le_of_suc-le-suc, not-suc-le-zero, lt_of_lt_of_le, lt_irrefl}
+use Prim.Native.Nat.{ℕ, zero, suc, ◌+◌, ◌-◌, ◌*◌, ◌/◌, ◌%◌, ◌^◌, ◌<◌, ◌≤◌}
+use native.Mathlib.Nat.{mod-eq_of_lt, div-eq_of_lt, le_of_suc-le-suc, not-suc-le-zero, lt_of_lt_of_le}
 use native.Mathlib.Omega.{arith}
 use borrow.Author.Tests.{leb-false}
-use lib.Arith.{lt_of_le-ne}
 use lib.Dec.{T, eqb, eqb→eq, leb, leb→le}
 use lib.Pow.{pow_mono, shr-shr, high, low}
 use lib.Bits.{bit_xor, xor_zero_r}
@@ -87,19 +86,3 @@ byte-steps crc b h =
     ∙ steps-split 4 4 (bit_xor crc b)
     ∙ ap (bit_xor (steps 8 (bit_xor crc b % 16)))
     (steps-split 4 0 (bit_xor crc b / 2 ^ 4) ∙ ap (bit_xor (steps 4 (bit_xor crc b / 2 ^ 4 % 16))) (shr-shr (bit_xor crc b) 4 4)))
-
--- n is none of 0 to k - 1: what the last arm of a match has
-abbrev Except : ℕ → ℕ → Type 0
-Except n zero = Unit
-Except n (suc k) = Except n k × (n ≡ k → ⊥)
-
-from-there : (k n : ℕ) → Except n k → k ≤ n
-from-there zero n r = zero-le
-from-there (suc k) n r = lt_of_le-ne (from-there k n r.0) (λ e. r.1 (sym e))
-
--- the last of n + 1 numbers
-pub last : (n k : ℕ) → k < suc n → Except k n → k ≡ n
-last n k h r = let l : n ≤ k = from-there n k r in omega arith
-
-pub nothing : (n k : ℕ) → k < n → Except k n → ⊥
-nothing n k h r = lt_irrefl k (lt_of_lt_of_le h (from-there n k r))

@@ -4,7 +4,7 @@
 ghost use Rattle.std.specs.Prelude.{◌≡◌, ◌+◌, ◌*◌, ◌%◌, ◌<◌};
 ghost use Rattle.checksum.specs.Register.{steps, run};
 ghost use Rattle.checksum.specs.Pending.{nibbles, nibble_bits};
-ghost use Rattle.checksum.specs.Shift.{Shifts, shift_steps, first_steps, table_rows};
+ghost use Rattle.checksum.specs.Shift.{shift_steps, first_steps, table_rows};
 
 use crate::register::{NIBBLES, feed};
 
@@ -14,7 +14,7 @@ const ENTRIES: usize = 128;
 const SHIFTED: usize = 256;
 
 // Entry 16 j + n is the nibble n after 2020 + 4 j steps.
-const TABLE: [u32; ENTRIES] = [
+static TABLE: [u32; ENTRIES] = [
     0, 652652330, 1305304660, 1798041982, 2610609320, 3179025282, 3596083964, 4038151638,
     3963911953, 3399667771, 2710118725, 2272235119, 2011087801, 1362652307, 974364141, 485831367,
     0, 3568879898, 1912640629, 2797100399, 3825281258, 817488368, 2516696223, 1119450501,
@@ -40,25 +40,23 @@ pub struct Both {
 }
 
 // The entry of the lowest nibble of x in a row of the table.
-fn look(t: &[u32; ENTRIES], row: u32, x: u32) -> u32
-    requires shifts { Shifts t.now }
-    requires row_lt_table_rows { row < table_rows }
+fn look(row: u32, x: u32) -> u32
+    requires { row < table_rows }
     ensures { result ≡ steps (first_steps + nibble_bits * row) (x % nibbles) }
 {
-    t[(NIBBLES * row + x % NIBBLES) as usize]
+    TABLE[(NIBBLES * row + x % NIBBLES) as usize]
 }
 
 // 2048 steps: how 256 bytes change the difference of two registers.
-fn shift(t: &[u32; ENTRIES], x: u32) -> u32
-    requires { Shifts t.now }
+fn shift(x: u32) -> u32
     ensures { result ≡ steps shift_steps x }
 {
-    look(t, 7, x)
-        ^ (look(t, 6, x >> 4)
-            ^ (look(t, 5, x >> 8)
-                ^ (look(t, 4, x >> 12)
-                    ^ (look(t, 3, x >> 16)
-                        ^ (look(t, 2, x >> 20) ^ (look(t, 1, x >> 24) ^ look(t, 0, x >> 28)))))))
+    look(7, x)
+        ^ (look(6, x >> 4)
+            ^ (look(5, x >> 8)
+                ^ (look(4, x >> 12)
+                    ^ (look(3, x >> 16)
+                        ^ (look(2, x >> 20) ^ (look(1, x >> 24) ^ look(0, x >> 28)))))))
 }
 
 // Both registers after some bytes. If there are 256 bytes, or if the registers are equal, the bytes are read once.
@@ -70,8 +68,7 @@ pub fn feed_both(a: u32, b: u32, bytes: &[u8]) -> Both
         return Both { a: x, b: x };
     }
     if bytes.len() == SHIFTED {
-        let t = TABLE;
-        let y = x ^ shift(&t, a ^ b);
+        let y = x ^ shift(a ^ b);
         return Both { a: x, b: y };
     }
     let y = feed(b, bytes);

@@ -74,61 +74,23 @@ fn steps64(x: u64) -> u32
     r
 }
 
-// The lowest nibble after 4 steps.
-#[tactic(auto, unfolding(crate::specs::Register::steps, crate::specs::Register::step))]
-fn after4(x: u32) -> u32
-    ensures { result ≡ steps nibble_bits (x % nibbles) }
-{
-    match x % NIBBLES {
-        0 => 0,
-        1 => 498536548,
-        2 => 997073096,
-        3 => 651767980,
-        4 => 1994146192,
-        5 => 1802195444,
-        6 => 1303535960,
-        7 => 1342533948,
-        8 => 3988292384,
-        9 => 4027552580,
-        10 => 3604390888,
-        11 => 3412177804,
-        12 => 2607071920,
-        13 => 2262029012,
-        14 => 2685067896,
-        _ => 3183342108,
-    }
-}
+// Each nibble after 4 steps, and after 8.
+static AFTER_4: [u32; NIBBLES as usize] = [
+    0, 498536548, 997073096, 651767980, 1994146192, 1802195444, 1303535960, 1342533948, 3988292384,
+    4027552580, 3604390888, 3412177804, 2607071920, 2262029012, 2685067896, 3183342108,
+];
 
-// The lowest nibble after 8 steps.
-fn after8(x: u32) -> u32
-    ensures { result ≡ steps byte_bits (x % nibbles) }
-{
-    match x % NIBBLES {
-        0 => 0,
-        1 => 1996959894,
-        2 => 3993919788,
-        3 => 2567524794,
-        4 => 124634137,
-        5 => 1886057615,
-        6 => 3915621685,
-        7 => 2657392035,
-        8 => 249268274,
-        9 => 2044508324,
-        10 => 3772115230,
-        11 => 2547177864,
-        12 => 162941995,
-        13 => 2125561021,
-        14 => 3887607047,
-        _ => 2428444049,
-    }
-}
+static AFTER_8: [u32; NIBBLES as usize] = [
+    0, 1996959894, 3993919788, 2567524794, 124634137, 1886057615, 3915621685, 2657392035,
+    249268274, 2044508324, 3772115230, 2547177864, 162941995, 2125561021, 3887607047, 2428444049,
+];
 
 // The register after one byte.
 fn byte(crc: u32, b: u8) -> u32
     ensures { result ≡ steps byte_bits (bit_xor crc (b % byte_values)) }
 {
-    let x = crc ^ (b as u32);
-    after8(x) ^ (after4(x >> 4) ^ (x >> 8))
+    let x = crc ^ u32::from(b);
+    AFTER_8[(x % NIBBLES) as usize] ^ (AFTER_4[((x >> 4) % NIBBLES) as usize] ^ (x >> 8))
 }
 
 // The register after less than a word, byte by byte.

@@ -1,17 +1,10 @@
 -- Both registers after some bytes. Equal registers stay equal; after 256 bytes the second is the first and the 2048 steps of their
 -- difference, by linearity (`second`); else each is run by itself.
-use Rattle.checksum.specs.Register.{steps}
 use Rattle.checksum.proofs.pair.feed_both.Goals as goal
-use mathlib.Core.Path.{refl, ap₂, ◌∙◌}
+use mathlib.Core.Path.{ap₂, ◌∙◌}
 use native.Mathlib.Omega.{arith}
 use lib.Bits.{bit_xor}
-use Rattle.checksum.specs.Register.{step}
-use Rattle.checksum.proofs.TableLaws.{follows}
-use Rattle.checksum.proofs.PairTable.{shifted, ahead, table, second}
-
-pub shift-requires : goal.shift-requires
-unfolding shifted ahead follows steps step
-shift-requires c = table _ tt refl
+use Rattle.checksum.proofs.PairTable.{second}
 
 pub returns-then-bytes-eq-SHIFTED : goal.returns-then-bytes-eq-SHIFTED
 returns-then-bytes-eq-SHIFTED c =
