@@ -1,15 +1,15 @@
 -- What the functions return, stated over plain variables; each function's proof applies one of these to its own values.
-use Rattle.std.proofs.Common.{◌≡◌, ℕ, zero, suc, ◌+◌, ◌-◌, ◌*◌, ◌/◌, ◌%◌, ◌<◌, ◌≤◌, Bool, true, false, ◌&&◌, eqb, leb, List, [], ◌∷◌, length, get_or, drop, set, ℤ, sym, refl, ap, ◌∙◌, add-zero, arith, get_or-set_other, eqb-true, le-leb, leb-false, leb-true, Some, None}
+use Rattle.std.proofs.Common.{◌≡◌, ℕ, zero, suc, ◌+◌, ◌-◌, ◌*◌, ◌<◌, ◌≤◌, Bool, true, false, ◌&&◌, eqb, leb, List, [], ◌∷◌, get_or, drop, sym, refl, ap, ◌∙◌, add-zero, arith, get_or-set_other, eqb-true, le-leb, leb-false, leb-true, Some, None}
 use mathlib.Core.Bool.{and-true, and-false, and_assoc}
 use borrow.Author.Tests.{eqb-false, lt-leb}
 use lib.Dec.{leb-suc-zero}
 use lib.ListN.{get_or-eq_default}
-use Rattle.base.specs.Number.{unsigned, signed}
-use Rattle.leaf.specs.Bytes.{word, time, le32, le64, written}
+use Rattle.base.specs.Number.{signed}
+use Rattle.leaf.specs.Bytes.{word, time}
 use Rattle.base.specs.Lists.{byte}
 use Rattle.leaf.specs.Date.{leap, month_days, is_date, new_date, date_number}
 use Rattle.leaf.specs.declared.date.Date.{Date}
-use Rattle.leaf.proofs.Laws.{written-sets, written_next, word-drop, length-le32}
+use Rattle.leaf.proofs.Laws.{word-drop}
 use Rattle.base.proofs.Bools.{and_left, and_right}
 
 -- get
@@ -29,26 +29,6 @@ time-of l at x y p q =
 pub fits-at-by : (i n len : ℕ) → n ≤ len → (t : Bool) → leb (i + n) len ≡ t → leb i (len - n) ≡ t
 fits-at-by i n len h true e = let k = leb-true (i + n) len e in le-leb i (len - n) (omega arith)
 fits-at-by i n len h false e = let k = leb-false (i + n) len e in lt-leb i (len - n) (omega arith)
-
--- put
-pub put4 : (l : List ℕ) (i n : ℕ) → i + 4 ≤ length l
-    → set (set (set (set l i (n % 256)) (i + 1) (n / 256 % 256)) (i + 2) (n / 65536 % 256)) (i + 3) (n / 16777216 % 256) ≡ written l i (le32 n)
-unfolding le32
-put4 l i n h =
-    let e1 : i + 1 ≡ suc i = omega arith in
-    let e2 : i + 2 ≡ suc (suc i) = omega arith in
-    let e3 : i + 3 ≡ suc (suc (suc i)) = omega arith in
-    rw (e1, e2, e3) (sym (written-sets l i (le32 n) h))
-
--- put_time
-pub put8 : (l m r : List ℕ) (at n : ℕ) (z : ℤ) → n ≡ unsigned 64 z → at + 8 ≤ length l
-    → m ≡ written l at (le32 (n % 4294967296)) → r ≡ written m (at + 4) (le32 (n / 4294967296)) → r ≡ written l at (le64 z)
-unfolding le64
-put8 l m r at n z e h p q =
-    let lo = le32 (unsigned 64 z % 4294967296) in
-    let hi = le32 (unsigned 64 z / 4294967296) in
-    let fits : at + (4 + length hi) ≤ length l = rw (length-le32 (unsigned 64 z / 4294967296)) h in
-    q ∙ rw (p, e) (written_next l lo hi at 4 (length-le32 (unsigned 64 z % 4294967296)) fits)
 
 -- month_days
 pub no_month : (y m : ℕ) → 12 < m → 0 ≡ get_or (0 ∷ month_days y) m 0

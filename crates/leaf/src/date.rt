@@ -26,7 +26,7 @@ fn is_leap(year: u16) -> bool
 }
 
 // The days of each month of a common year; index 0 is no month.
-const DAYS: [u8; 13] = [0, 31, 28, 31, 30, 31, 30, 31, 31, 30, 31, 30, 31];
+static DAYS: [u8; 13] = [0, 31, 28, 31, 30, 31, 30, 31, 31, 30, 31, 30, 31];
 
 // The days of a month, 0 if there is no such month.
 #[tactic(auto, using(crate::proofs::Steps::no_month))]
@@ -40,8 +40,7 @@ fn month_days(year: u16, month: u8) -> u8
     if (month == 2) & leap {
         return 29;
     }
-    let days = DAYS;
-    days[month as usize]
+    DAYS[month as usize]
 }
 
 impl Date {

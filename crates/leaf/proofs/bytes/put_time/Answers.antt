@@ -1,23 +1,15 @@
--- If there is space for eight bytes, the stores of both halves are `written` (`put8`); else `written` changes nothing.
-use Rattle.std.proofs.Common.{w64}
+-- std's eight bytes are `le64` (`le64-is`).
+use Rattle.std.proofs.Common.{◌≡◌, w64, ℤ, of_z}
+use Rattle.std.specs.Int.{to_le_bytes}
 use Rattle.leaf.proofs.bytes.put_time.Goals as goal
-use Rattle.std.proofs.Common.{sym, ap, ◌∙◌}
+use mathlib.Core.Path.{sym, ap, ◌∙◌}
 use mir.ValLaws.{to_z-of_z}
-use Rattle.base.specs.Number.{unsigned}
-use Rattle.leaf.specs.Bytes.{le64}
-use Rattle.leaf.proofs.Laws.{written-not, length-le64}
-use Rattle.leaf.proofs.Steps.{put8}
+use Rattle.leaf.specs.Bytes.{written}
+use Rattle.leaf.proofs.Numbers.{le64-is}
 
-pub returns-then-fits_at : goal.returns-then-fits_at
-returns-then-fits_at c =
-    let a = c.args in
-    put8 a.b.now c.put.new.b c.put-then-fits_at.new.b a.i c.bits_of-n.result a.z
-    (c.bits_of-n.ensures ∙ ap (unsigned 64) (to_z-of_z w64 a.z c.ranges.z))
-    (c.fits_at.ensures.1 c.if-fits_at.true)
-    c.put.ensures
-    c.put-then-fits_at.ensures
-
-pub returns-else-fits_at : goal.returns-else-fits_at
-returns-else-fits_at c =
-    let a = c.args in
-    sym (written-not a.b.now a.i (le64 a.z) (rw (length-le64 a.z) (sym c.fits_at.ensures.0 ∙ c.if-fits_at.false)))
+pub returns : goal.returns
+returns c =
+    let z = c.args.z in
+    let e : c.to_le_bytes.result ≡ to_le_bytes w64 (of_z w64 z) =
+    c.to_le_bytes.ensures ∙ ap (λ (y : ℤ). to_le_bytes w64 (of_z w64 y)) (to_z-of_z w64 z c.ranges.z) in
+    c.store.ensures ∙ ap (written c.args.b.now c.args.i) (e ∙ sym (le64-is z))
