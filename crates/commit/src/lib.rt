@@ -91,16 +91,14 @@ fn bank_for(w: Writer, stamp: Option<i64>) -> Bank
     let b = w.beginning;
     let l = b.active;
     let t = w.contents;
-    let x = w.tables;
-    let ss = w.sources;
     Bank {
         number: target(l),
         version: VERSION,
         generation: next_generation(l),
         length: t.written,
         crc: t.crc,
-        count: x.count,
-        key: key_length(routes_offset(ss)),
+        count: w.tables.count,
+        key: key_length(routes_offset(w.sources)),
         checked: checked_time(stamp, b.now),
     }
 }
@@ -108,24 +106,20 @@ fn bank_for(w: Writer, stamp: Option<i64>) -> Bank
 fn may_commit(w: Writer) -> bool
     ensures { result ≡ Commit.may_commit w }
 {
-    let t = w.contents;
-    let s = w.stage;
-    in_range(w) & (t.closed & is_idle(s))
+    in_range(w) & (w.contents.closed & is_idle(w.stage))
 }
 
 fn is_current(w: Writer, current: bool) -> bool
     ensures { result ≡ Commit.is_current w current }
 {
-    let b = w.beginning;
-    !b.comparing & current
+    !w.beginning.comparing & current
 }
 
 fn write_header(w: Writer, region: &mut [u8], b: Bank) -> Step
     requires { (length region.old ≡ region_size) × (b.number ≤ last_bank) }
     ensures { (result ≡ State.did (Due.with_stage w Stages.HeaderWritten)) × (region.new ≡ performed b.number (writing 0 (header_bytes b (take b.count w.sources) blank_word) ∷ []) region.old) }
 {
-    let ss = w.sources;
-    let bytes = header_bytes(b, ss);
+    let bytes = header_bytes(b, w.sources);
     write(region, b.number, 0, &bytes);
     let v = with_header_written(w);
     did(v)
@@ -145,8 +139,7 @@ pub fn commit(w: Writer, region: &mut [u8], stamp: Option<i64>, current: bool) -
         return stays(w, Refusal::Obsolete);
     }
     let b = bank_for(w, stamp);
-    let ss = w.sources;
-    if !fit(b, ss) {
+    if !fit(b, w.sources) {
         return stays(w, Refusal::Unfit);
     }
     write_header(w, region, b)
@@ -170,17 +163,14 @@ fn committed(w: Writer) -> Writer
 fn may_write_word(w: Writer) -> bool
     ensures { result ≡ (State.in_range w && Commit.is_header_written w.stage) }
 {
-    let s = w.stage;
-    in_range(w) & is_header_written(s)
+    in_range(w) & is_header_written(w.stage)
 }
 
 fn write_word(w: Writer, region: &mut [u8]) -> Step
     requires { length region.old ≡ region_size }
     ensures { (result ≡ State.did (Due.with_stage w Stages.Committed)) × (region.new ≡ performed (State.target w.beginning.active) (writing commit_offset commit_bytes ∷ []) region.old) }
 {
-    let b = w.beginning;
-    let l = b.active;
-    let bank = target(l);
+    let bank = target(w.beginning.active);
     let word = commit_bytes();
     write(region, bank, COMMIT_OFFSET, &word);
     let v = committed(w);

@@ -56,10 +56,7 @@ fn is_unchanged(region: &[u8], w: Writer, l: Result<Option<Bank>, Refusal>) -> b
 fn may_ask(w: Writer) -> bool
     ensures { result ≡ Unchanged.may_ask w }
 {
-    let b = w.beginning;
-    let t = w.contents;
-    let s = w.stage;
-    in_range(w) & (b.comparing & (t.closed & is_idle(s)))
+    in_range(w) & (w.beginning.comparing & (w.contents.closed & is_idle(w.stage)))
 }
 
 fn same_answer(same: bool) -> Result<Answer, Refusal>
@@ -81,9 +78,7 @@ pub fn unchanged(w: Writer, region: &[u8]) -> Step
     if !may_ask(w) {
         return stays(w, Refusal::Turn);
     }
-    let b = w.beginning;
-    let l = b.active;
-    let same = is_unchanged(region, w, l);
+    let same = is_unchanged(region, w, w.beginning.active);
     let answer = same_answer(same);
     Step { answer, writer: w }
 }

@@ -131,8 +131,7 @@ fn do_erase(b: Beginning, p: Parts, region: &mut [u8], sector: u32) -> PartsStep
     requires { (length region.old ≡ region_size) × (sector ≤ last_sector) }
     ensures { ((ss : List Source) (tail : List ℕ) → step_with b result ss tail ≡ State.did (Due.operated region.old (whole_of b p ss tail) (Operations.Erase sector))) × (region.new ≡ performed (State.target b.active) (Due.ops_of [] (Stages.Due (Operations.Erase sector))) region.old) }
 {
-    let l = b.active;
-    let bank = target(l);
+    let bank = target(b.active);
     erase(region, bank, sector as usize * SECTOR_SIZE);
     let v = after_erase(p, sector);
     parts_did(v)
@@ -149,11 +148,9 @@ fn do_write(
     requires { (length region.old ≡ region_size) × (n ≤ tail_size) × (offset ≤ last_write) × (State.position p.contents ≤ capacity) }
     ensures { ((ss : List Source) → step_with b result ss tail.now ≡ State.did (Due.operated region.old (whole_of b p ss tail.now) (Operations.Write offset n))) × (region.new ≡ performed (State.target b.active) (Due.ops_of tail.now (Stages.Due (Operations.Write offset n))) region.old) }
 {
-    let l = b.active;
-    let bank = target(l);
+    let bank = target(b.active);
     write_tail(region, bank, tail, offset, n);
-    let t = p.contents;
-    let v = with_emptied(p, t.different);
+    let v = with_emptied(p, p.contents.different);
     parts_did(v)
 }
 
@@ -205,8 +202,7 @@ fn in_stage(b: Beginning, p: Parts, tail: &[u8; TAIL_SIZE], region: &mut [u8]) -
     requires { (length region.old ≡ region_size) × (State.in_range (whole_of b p [] []) ≡ true) }
     ensures { ((ss : List Source) → step_with b result ss tail.now ≡ Due.step_of region.old (whole_of b p ss tail.now) p.stage) × (region.new ≡ performed (State.target b.active) (Due.ops_of tail.now p.stage) region.old) }
 {
-    let s = p.stage;
-    match s {
+    match p.stage {
         Stage::Due(o) => operate(b, p, tail, region, o),
         Stage::Idle => none_due(p),
         Stage::HeaderWritten => none_due(p),
@@ -218,13 +214,10 @@ fn in_stage(b: Beginning, p: Parts, tail: &[u8; TAIL_SIZE], region: &mut [u8]) -
 pub fn due_parts(b: Beginning, p: Parts, tail: &[u8; TAIL_SIZE], region: &mut [u8]) -> PartsStep
     ensures { (ss : List Source) → (step_with b result ss tail.now ≡ Due.due_step region.old (whole_of b p ss tail.now)) × (region.new ≡ Due.due_region region.old (whole_of b p ss tail.now)) }
 {
-    let t = p.contents;
-    let x = p.tables;
-    let s = p.stage;
     if region.len() != REGION_SIZE {
         return parts_stay(p, Refusal::Region);
     }
-    if !parts_in_range(b, t, x, s) {
+    if !parts_in_range(b, p.contents, p.tables, p.stage) {
         return parts_stay(p, Refusal::Turn);
     }
     in_stage(b, p, tail, region)
@@ -238,6 +231,5 @@ pub fn due(w: Writer, region: &mut [u8]) -> Step
     let p = parts_of(w);
     let tail = w.tail;
     let s = due_parts(b, p, &tail, region);
-    let sources = w.sources;
-    step_with(b, s, sources, tail)
+    step_with(b, s, w.sources, tail)
 }

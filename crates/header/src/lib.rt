@@ -182,9 +182,8 @@ fn blocks_ok(b: Bank, ts: [Block; TABLES]) -> bool
 pub fn source_ok(b: Bank, s: Source) -> bool
     ensures { result ≡ source_ok b s }
 {
-    let ts = s.tables;
     (valid_date(s.start) & (valid_date(s.end) & (s.start <= s.end)))
-        & ((s.present <= MAX_PRESENT) & (updated_ok(b.checked, s.updated) & blocks_ok(b, ts)))
+        & ((s.present <= MAX_PRESENT) & (updated_ok(b.checked, s.updated) & blocks_ok(b, s.tables)))
 }
 
 // The record of a version at an offset of a bank.

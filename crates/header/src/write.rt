@@ -105,8 +105,7 @@ pub fn commit_bytes() -> [u8; WORD_SIZE]
 fn text_ok(s: Source) -> bool
     ensures { result ≡ text_ok s }
 {
-    let validator = s.validator;
-    (s.idlen <= MAX_ID) & (validator[0] <= MAX_VALIDATOR)
+    (s.idlen <= MAX_ID) & (s.validator[0] <= MAX_VALIDATOR)
 }
 
 // Whether a bank with the records below its count is fit to be committed.

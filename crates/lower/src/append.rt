@@ -40,16 +40,13 @@ struct Appended {
 fn none_appended(p: Parts, answer: Result<Answer, Refusal>) -> Appended
     ensures { result ≡ record { answer = answer; n = 0; at = 0; stage = p.stage; contents = p.contents; tables = p.tables } }
 {
-    let stage = p.stage;
-    let contents = p.contents;
-    let tables = p.tables;
     Appended {
         answer,
         n: 0,
         at: 0,
-        stage,
-        contents,
-        tables,
+        stage: p.stage,
+        contents: p.contents,
+        tables: p.tables,
     }
 }
 
@@ -59,15 +56,17 @@ fn first_appended(b: Beginning, p: Parts, bytes: &[u8], n: usize) -> Appended
     ensures { (result.answer ≡ Ok (Answers.Appended n)) × (result.n ≡ n) × (result.at + result.n ≤ tail_size) × ((ss : List Source) (tail : List ℕ) → whole_of b (parts_appended result) ss (tail_appended result bytes.now tail) ≡ Lower.with_bytes (whole_of b p ss tail) (take n bytes.now)) }
 {
     let t = p.contents;
-    let x = p.tables;
     let some = &bytes[0..n];
-    let crcs = crc32_both(t.crc, x.crc, some);
+    let crcs = crc32_both(t.crc, p.tables.crc, some);
     let contents = Contents {
         fill: t.fill + n as u32,
         crc: crcs.a,
         ..t
     };
-    let tables = Tables { crc: crcs.b, ..x };
+    let tables = Tables {
+        crc: crcs.b,
+        ..p.tables
+    };
     let stage = stage_of(b.comparing, contents);
     Appended {
         answer: Ok(Answer::Appended(n as u32)),
@@ -112,16 +111,15 @@ pub fn append_parts(b: Beginning, p: Parts, tail: &mut [u8; TAIL_SIZE], offered:
     let n = g.n;
     let some = &offered[0..n];
     put_tail(tail, g.at, some);
-    let answer = g.answer;
-    let stage = g.stage;
-    let contents = g.contents;
-    let tables = g.tables;
     let parts = Parts {
-        stage,
-        contents,
-        tables,
+        stage: g.stage,
+        contents: g.contents,
+        tables: g.tables,
     };
-    PartsStep { answer, parts }
+    PartsStep {
+        answer: g.answer,
+        parts,
+    }
 }
 
 // Appends bytes until the tail is full, and says how many.
@@ -132,6 +130,5 @@ pub fn bytes(w: Writer, offered: &[u8]) -> Step
     let p = parts_of(w);
     let mut tail = w.tail;
     let s = append_parts(b, p, &mut tail, offered);
-    let sources = w.sources;
-    step_with(b, s, sources, tail)
+    step_with(b, s, w.sources, tail)
 }

@@ -95,7 +95,5 @@ pub fn close(w: Writer) -> Step
     let b = w.beginning;
     let p = parts_of(w);
     let s = close_parts(b, p);
-    let sources = w.sources;
-    let tail = w.tail;
-    step_with(b, s, sources, tail)
+    step_with(b, s, w.sources, w.tail)
 }

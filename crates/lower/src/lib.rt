@@ -22,10 +22,7 @@ use writer::{
 pub fn may_append_parts(b: Beginning, p: Parts) -> bool
     ensures { (ss : List Source) (tail : List ℕ) → result ≡ Lower.may_append (whole_of b p ss tail) }
 {
-    let t = p.contents;
-    let x = p.tables;
-    let s = p.stage;
-    parts_in_range(b, t, x, s) & !t.closed
+    parts_in_range(b, p.contents, p.tables, p.stage) & !p.contents.closed
 }
 
 // Whether bytes, sources and tables may be appended.
@@ -46,10 +43,7 @@ pub fn is_open(s: Tables) -> bool
 pub fn may_end_parts(b: Beginning, p: Parts) -> bool
     ensures { (ss : List Source) (tail : List ℕ) → result ≡ Lower.may_end (whole_of b p ss tail) }
 {
-    let t = p.contents;
-    let x = p.tables;
-    let s = p.stage;
-    parts_in_range(b, t, x, s) & is_open(x)
+    parts_in_range(b, p.contents, p.tables, p.stage) & is_open(p.tables)
 }
 
 // Whether a table may end.

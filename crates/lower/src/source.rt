@@ -72,9 +72,6 @@ pub fn source(w: Writer, s: Source) -> Step
     let b = w.beginning;
     let p = parts_of(w);
     let r = source_parts(b, p);
-    let old = w.sources;
-    let a = r.answer;
-    let sources = sources_with(is_done(a), old, p.tables, s);
-    let tail = w.tail;
-    step_with(b, r, sources, tail)
+    let sources = sources_with(is_done(r.answer), w.sources, p.tables, s);
+    step_with(b, r, sources, w.tail)
 }

@@ -59,9 +59,7 @@ pub fn table(w: Writer, table: u32) -> Step
     let b = w.beginning;
     let p = parts_of(w);
     let s = table_parts(b, p, table);
-    let sources = w.sources;
-    let tail = w.tail;
-    step_with(b, s, sources, tail)
+    step_with(b, s, w.sources, w.tail)
 }
 
 fn with_block(s: Source, table: u32, b: Block) -> Source
@@ -150,9 +148,6 @@ pub fn end(w: Writer) -> Step
     let p = parts_of(w);
     let e = end_parts(b, p);
     let s = e.step;
-    let old = w.sources;
-    let a = s.answer;
-    let sources = sources_ended(is_done(a), old, p.tables, e.block);
-    let tail = w.tail;
-    step_with(b, s, sources, tail)
+    let sources = sources_ended(is_done(s.answer), w.sources, p.tables, e.block);
+    step_with(b, s, sources, w.tail)
 }

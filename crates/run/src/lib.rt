@@ -29,8 +29,7 @@ fn do_two(b: Beginning, p: Parts, tail: &[u8; TAIL_SIZE], region: &mut [u8]) -> 
 fn flush_two(b: Beginning, p: Parts, tail: &[u8; TAIL_SIZE], region: &mut [u8]) -> Parts
     ensures { PartsRun.Ran region.old b p tail.now (Run.due ∷ Run.due ∷ []) result tail.now region.new }
 {
-    let s = p.stage;
-    match s {
+    match p.stage {
         Stage::Due(_) => do_two(b, p, tail, region),
         Stage::Idle => p,
         Stage::HeaderWritten => p,
@@ -49,8 +48,7 @@ fn do_due(b: Beginning, p: Parts, tail: &[u8; TAIL_SIZE], region: &mut [u8]) -> 
 fn flush_parts(b: Beginning, p: Parts, tail: &[u8; TAIL_SIZE], region: &mut [u8]) -> Parts
     ensures { PartsRun.Ran region.old b p tail.now Appends.dues result tail.now region.new }
 {
-    let s = p.stage;
-    match s {
+    match p.stage {
         Stage::Due(_) => do_due(b, p, tail, region),
         Stage::Idle => p,
         Stage::HeaderWritten => p,
@@ -66,8 +64,7 @@ pub fn flush(w: Writer, region: &mut [u8]) -> Writer
     let p = parts_of(w);
     let tail = w.tail;
     let q = flush_parts(b, p, &tail, region);
-    let sources = w.sources;
-    whole(b, q, sources, tail)
+    whole(b, q, w.sources, tail)
 }
 
 // How many bytes were appended, and the parts after that.
@@ -120,8 +117,7 @@ fn append_some(
     ensures { PartsRun.AfterAppend region.old b p tail.old bytes.now result.n result.parts tail.new region.new }
 {
     let s = append_parts(b, p, tail, bytes);
-    let answer = s.answer;
-    let n = count_of(answer);
+    let n = count_of(s.answer);
     if n == 0 {
         return append_one(b, p, tail, region, bytes);
     }
@@ -156,8 +152,7 @@ pub fn append_all(w: Writer, region: &mut [u8], bytes: &[u8]) -> Writer
     let p = parts_of(w);
     let mut tail = w.tail;
     let q = append_all_parts(b, p, &mut tail, region, bytes);
-    let sources = w.sources;
-    whole(b, q, sources, tail)
+    whole(b, q, w.sources, tail)
 }
 
 fn flush_append_parts(
@@ -181,8 +176,7 @@ pub fn flush_append(w: Writer, region: &mut [u8], bytes: &[u8]) -> Writer
     let p = parts_of(w);
     let mut tail = w.tail;
     let q = flush_append_parts(b, p, &mut tail, region, bytes);
-    let sources = w.sources;
-    whole(b, q, sources, tail)
+    whole(b, q, w.sources, tail)
 }
 
 // Whether n bytes leave the tail short of full.
@@ -221,8 +215,7 @@ fn append_short_line(
     ensures { PartsRun.Ran region.old b p tail.old (Appends.dues ++ (Appends.dues ++ Appends.appends bytes.now)) result tail.new region.new }
 {
     let s = append_parts(b, p, tail, bytes);
-    let answer = s.answer;
-    if count_of(answer) != 0 {
+    if count_of(s.answer) != 0 {
         return s.parts;
     }
     flush_append_line(b, p, tail, region, bytes)

@@ -174,10 +174,7 @@ fn fresh_in(region: &[u8], b: Bank, days: Days, at: i64) -> Freshness
 fn are_days(d: Days) -> bool
     ensures { result ≡ each Fresh.is_day (Fresh.days_of d) }
 {
-    let a = d.first;
-    let b = d.second;
-    let c = d.third;
-    valid_date(a.date) & (valid_date(b.date) & (valid_date(c.date) & true))
+    valid_date(d.first.date) & (valid_date(d.second.date) & (valid_date(d.third.date) & true))
 }
 
 // How fresh a bank is at time `at`, for three days.

@@ -19,9 +19,8 @@ fn block_of(s: Source, table: u32) -> Block
     requires { table ≤ last_table }
     ensures { result ≡ get_or s.tables table no_block }
 {
-    let tables = s.tables;
     let t = table as usize;
-    tables[t]
+    s.tables[t]
 }
 
 // The bytes of a block of a bank.
