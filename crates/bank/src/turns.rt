@@ -64,7 +64,7 @@ fn hashed(region: &[u8], b: Bank, s: Checking, n: u32) -> Turn
     requires { s.position ≤ b.length }
     ensures { result ≡ Turns.hashed region.now b s n }
 {
-    let count = smaller(n, b.length - s.position);
+    let count = n.min(b.length - s.position);
     let d = data_in(region, b);
     let p = part(d, s.position as usize, count as usize);
     let crc = crc32(s.crc, p);
@@ -116,12 +116,6 @@ fn stays(s: Checking, p: Result<Progress, Refusal>) -> Turn
         progress: p,
         next: s,
     }
-}
-
-fn smaller(a: u32, b: u32) -> u32
-    ensures { (result ≡ min a b) × (result ≤ b) }
-{
-    if a < b { a } else { b }
 }
 
 // What holds of data checking in turns. The function does nothing: its contract is what is proved of the definitions

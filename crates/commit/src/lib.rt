@@ -15,7 +15,6 @@ ghost use Rattle.commit.specs.Commit as Commit;
 ghost use Rattle.header.specs.Header.{commit_offset};
 ghost use Rattle.region.specs.Region.{region_size, last_bank};
 
-use base::number::le;
 use flash::write;
 use header::write::{commit_bytes, fit, header_bytes};
 use header::{Bank, COMMIT_OFFSET, SOURCES};
@@ -43,7 +42,7 @@ fn with_header_written(w: Writer) -> Writer
 fn later(s: i64, at: i64) -> i64
     ensures { result ≡ pick (le_z at s) s at }
 {
-    if le(at, s) { s } else { at }
+    s.max(at)
 }
 
 fn checked_time(stamp: Option<i64>, at: i64) -> i64

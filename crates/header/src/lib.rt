@@ -24,7 +24,7 @@ ghost use Rattle.header.specs.Header.{
 ghost use Rattle.record.specs.Record.{record_size};
 ghost use Rattle.header.specs.Header.{max_sources};
 
-use base::number::{le, u32_to_u64};
+use base::number::u32_to_u64;
 use base::slice::part;
 use base::table::TABLES;
 use leaf::bytes::{get, get_time};
@@ -149,7 +149,7 @@ pub fn span_ok(b: Bank) -> bool
 {
     ((1 <= b.length) & (b.length <= CAPACITY_32))
         & (((1 <= b.key) & (b.key <= b.length))
-            & (((1 <= b.count) & (b.count <= SOURCES_32)) & le(0, b.checked)))
+            & (((1 <= b.count) & (b.count <= SOURCES_32)) & (0 <= b.checked)))
 }
 
 fn is_unknown(t: i64) -> bool
@@ -161,7 +161,7 @@ fn is_unknown(t: i64) -> bool
 fn updated_ok(checked: i64, u: i64) -> bool
     ensures { result ≡ updated_ok checked u }
 {
-    is_unknown(u) | (le(0, u) & le(u, checked))
+    is_unknown(u) | ((0 <= u) & (u <= checked))
 }
 
 fn block_ok(b: Bank, t: Block) -> bool

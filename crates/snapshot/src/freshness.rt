@@ -8,7 +8,6 @@ ghost use Rattle.snapshot.specs.Freshness as Fresh;
 ghost use Rattle.snapshot.specs.Steps as Steps;
 
 use crate::header_if;
-use base::number::le;
 use header::{Bank, RECORDS_OFFSET, record_at};
 use leaf::date::valid_date;
 use record::{Source, source_size};
@@ -81,16 +80,10 @@ fn three_wanted_after(s: Source, d: Days) -> Days
     }
 }
 
-fn older(a: i64, b: i64) -> i64
-    ensures { result ≡ Fresh.older a b }
-{
-    if le(a, b) { a } else { b }
-}
-
 fn known(now: i64, u: i64) -> bool
     ensures { result ≡ (le_z (pos 0) u && le_z u now) }
 {
-    le(0, u) & le(u, now)
+    (0 <= u) & (u <= now)
 }
 
 fn observed(now: i64, t: SourceTimes, s: Source) -> SourceTimes
@@ -98,7 +91,7 @@ fn observed(now: i64, t: SourceTimes, s: Source) -> SourceTimes
 {
     let u = s.updated;
     let oldest = match t.oldest {
-        Some(o) => older(o, u),
+        Some(o) => o.min(u),
         None => u,
     };
     SourceTimes {
@@ -158,7 +151,7 @@ fn updated_in(l: &[u8], version: u32, n: usize, days: Days, at: i64) -> i64
 fn checked_at(now: i64, checked: i64) -> i64
     ensures { result ≡ pick (le_z checked now) checked Fresh.unknown }
 {
-    if le(checked, now) { checked } else { i64::MIN }
+    if checked <= now { checked } else { i64::MIN }
 }
 
 fn fresh_in(region: &[u8], b: Bank, days: Days, at: i64) -> Freshness
