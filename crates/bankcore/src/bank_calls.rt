@@ -106,90 +106,102 @@ fn no_bank(r: u32) -> BankNumbers
     }
 }
 
-fn of_bank(b: Bank) -> BankNumbers
-    ensures { result ≡ Answers.of_bank b }
-{
-    BankNumbers {
-        refusal: 0,
-        found: 1,
-        number: b.number,
-        version: b.version,
-        generation: b.generation,
-        length: b.length,
-        crc: b.crc,
-        count: b.count,
-        key: b.key,
-        checked: b.checked,
-    }
-}
+impl From<Bank> for BankNumbers {
+    ghost from_gives = { λ b x. x ≡ Answers.of_bank b };
 
-fn of_validated(v: Result<Bank, Refusal>) -> BankNumbers
-    ensures { result ≡ Answers.of_validated v }
-{
-    match v {
-        Ok(b) => of_bank(b),
-        Err(r) => no_bank(number_u32(r)),
-    }
-}
-
-fn of_loaded(l: Result<Option<Bank>, Refusal>) -> BankNumbers
-    ensures { result ≡ Answers.of_loaded l }
-{
-    match l {
-        Ok(Some(b)) => of_bank(b),
-        Ok(None) => no_bank(0),
-        Err(r) => no_bank(number_u32(r)),
-    }
-}
-
-fn of_fresh(f: Result<Freshness, Refusal>) -> FreshNumbers
-    ensures { result ≡ Answers.of_fresh f }
-{
-    match f {
-        Ok(f) => FreshNumbers {
+    fn from(b: Bank) -> BankNumbers {
+        BankNumbers {
             refusal: 0,
-            checked: f.checked,
-            updated: f.updated,
-        },
-        Err(r) => FreshNumbers {
-            refusal: number_u32(r),
-            checked: i64::MIN,
-            updated: i64::MIN,
-        },
+            found: 1,
+            number: b.number,
+            version: b.version,
+            generation: b.generation,
+            length: b.length,
+            crc: b.crc,
+            count: b.count,
+            key: b.key,
+            checked: b.checked,
+        }
     }
 }
 
-fn of_key(k: Result<usize, Refusal>) -> KeyNumbers
-    ensures { result ≡ Answers.of_key k }
-{
-    match k {
-        Ok(n) => KeyNumbers {
-            refusal: 0,
-            length: n,
-        },
-        Err(r) => KeyNumbers {
-            refusal: number_u32(r),
-            length: 0,
-        },
+impl From<Result<Bank, Refusal>> for BankNumbers {
+    ghost from_gives = { λ v x. x ≡ Answers.of_validated v };
+
+    fn from(v: Result<Bank, Refusal>) -> BankNumbers {
+        match v {
+            Ok(b) => BankNumbers::from(b),
+            Err(r) => no_bank(number_u32(r)),
+        }
     }
 }
 
-fn of_match(m: Result<bool, Refusal>) -> MatchNumbers
-    ensures { result ≡ Answers.of_match m }
-{
-    match m {
-        Ok(true) => MatchNumbers {
-            refusal: 0,
-            same: 1,
-        },
-        Ok(false) => MatchNumbers {
-            refusal: 0,
-            same: 0,
-        },
-        Err(r) => MatchNumbers {
-            refusal: number_u32(r),
-            same: 0,
-        },
+impl From<Result<Option<Bank>, Refusal>> for BankNumbers {
+    ghost from_gives = { λ l x. x ≡ Answers.of_loaded l };
+
+    fn from(l: Result<Option<Bank>, Refusal>) -> BankNumbers {
+        match l {
+            Ok(Some(b)) => BankNumbers::from(b),
+            Ok(None) => no_bank(0),
+            Err(r) => no_bank(number_u32(r)),
+        }
+    }
+}
+
+impl From<Result<Freshness, Refusal>> for FreshNumbers {
+    ghost from_gives = { λ f x. x ≡ Answers.of_fresh f };
+
+    fn from(f: Result<Freshness, Refusal>) -> FreshNumbers {
+        match f {
+            Ok(f) => FreshNumbers {
+                refusal: 0,
+                checked: f.checked,
+                updated: f.updated,
+            },
+            Err(r) => FreshNumbers {
+                refusal: number_u32(r),
+                checked: i64::MIN,
+                updated: i64::MIN,
+            },
+        }
+    }
+}
+
+impl From<Result<usize, Refusal>> for KeyNumbers {
+    ghost from_gives = { λ k x. x ≡ Answers.of_key k };
+
+    fn from(k: Result<usize, Refusal>) -> KeyNumbers {
+        match k {
+            Ok(n) => KeyNumbers {
+                refusal: 0,
+                length: n,
+            },
+            Err(r) => KeyNumbers {
+                refusal: number_u32(r),
+                length: 0,
+            },
+        }
+    }
+}
+
+impl From<Result<bool, Refusal>> for MatchNumbers {
+    ghost from_gives = { λ m x. x ≡ Answers.of_match m };
+
+    fn from(m: Result<bool, Refusal>) -> MatchNumbers {
+        match m {
+            Ok(true) => MatchNumbers {
+                refusal: 0,
+                same: 1,
+            },
+            Ok(false) => MatchNumbers {
+                refusal: 0,
+                same: 0,
+            },
+            Err(r) => MatchNumbers {
+                refusal: number_u32(r),
+                same: 0,
+            },
+        }
     }
 }
 
@@ -206,14 +218,16 @@ fn turn_of(s: Checking, refusal: u32, verdict: u32, count: u32) -> TurnNumbers
     }
 }
 
-fn of_turn(t: Turn) -> TurnNumbers
-    ensures { result ≡ Answers.of_turn t }
-{
-    let p = t.progress;
-    match p {
-        Ok(Progress::Hashed(n)) => turn_of(t.next, 0, 0, n),
-        Ok(Progress::Yes) => turn_of(t.next, 0, 1, 0),
-        Err(r) => turn_of(t.next, number_u32(r), 0, 0),
+impl From<Turn> for TurnNumbers {
+    ghost from_gives = { λ t x. x ≡ Answers.of_turn t };
+
+    fn from(t: Turn) -> TurnNumbers {
+        let p = t.progress;
+        match p {
+            Ok(Progress::Hashed(n)) => turn_of(t.next, 0, 0, n),
+            Ok(Progress::Yes) => turn_of(t.next, 0, 1, 0),
+            Err(r) => turn_of(t.next, number_u32(r), 0, 0),
+        }
     }
 }
 
@@ -229,14 +243,16 @@ fn no_bank_row(r: u32) -> BankRowNumbers
     }
 }
 
-fn of_bank_row(x: ReadNumbers) -> BankRowNumbers
-    ensures { result ≡ Answers.as_bank_row x }
-{
-    BankRowNumbers {
-        refusal: x.refusal,
-        found: x.found,
-        next: x.next,
-        size: x.size,
+impl From<ReadNumbers> for BankRowNumbers {
+    ghost from_gives = { λ x y. y ≡ Answers.as_bank_row x };
+
+    fn from(x: ReadNumbers) -> BankRowNumbers {
+        BankRowNumbers {
+            refusal: x.refusal,
+            found: x.found,
+            next: x.next,
+            size: x.size,
+        }
     }
 }
 
@@ -248,7 +264,7 @@ fn of_bank_row(x: ReadNumbers) -> BankRowNumbers
 pub extern "C" fn tt_header(region: &[u8], bank: u32) -> BankNumbers
     ensures { result ≡ Answers.of_validated (Banks.named region.now bank) }
 {
-    of_validated(bank::header(region, bank))
+    BankNumbers::from(bank::header(region, bank))
 }
 
 // Tests a bank, its data's CRC too, and gives its numbers.
@@ -259,7 +275,7 @@ pub extern "C" fn tt_header(region: &[u8], bank: u32) -> BankNumbers
 pub extern "C" fn tt_validate(region: &[u8], bank: u32) -> BankNumbers
     ensures { result ≡ Answers.of_validated (Banks.validated region.now bank) }
 {
-    of_validated(bank::validate(region, bank))
+    BankNumbers::from(bank::validate(region, bank))
 }
 
 // The bank in use: the first to pass all tests, the newer one tried first. If none passes, found is 0, and that is no refusal.
@@ -269,7 +285,7 @@ pub extern "C" fn tt_validate(region: &[u8], bank: u32) -> BankNumbers
 pub extern "C" fn tt_load(region: &[u8]) -> BankNumbers
     ensures { result ≡ Answers.of_loaded (Banks.loaded region.now) }
 {
-    of_loaded(bank::load(region))
+    BankNumbers::from(bank::load(region))
 }
 
 // Begins checking a bank's data in turns: the state for the first one. A refused beginning gives a state of bank TT_NO_BANK.
@@ -280,7 +296,7 @@ pub extern "C" fn tt_load(region: &[u8]) -> BankNumbers
 pub extern "C" fn tt_check_start(region: &[u8], bank: u32) -> TurnNumbers
     ensures { result ≡ Answers.of_turn (Turns.started region.now bank) }
 {
-    of_turn(bank::turns::check_start(region, bank))
+    TurnNumbers::from(bank::turns::check_start(region, bank))
 }
 
 // One turn: hashes the next bytes of the data and gives their count; with none left it gives the verdict, 1 or refusal 7, and so does a
@@ -301,7 +317,7 @@ pub extern "C" fn tt_check_turn(
 ) -> TurnNumbers
     ensures { result ≡ Answers.of_turn (Turns.turned region.now (record { bank = bank; position = position; crc = crc }) n) }
 {
-    of_turn(bank::turns::check_turn(
+    TurnNumbers::from(bank::turns::check_turn(
         region,
         Checking {
             bank,
@@ -329,7 +345,7 @@ pub extern "C" fn tt_key(
     ensures value { result ≡ Answers.of_key (Keys.key_answer identity.now texts.now lengths.now (length out.old)) }
     ensures out_after { out.new ≡ Keys.after (Keys.key_answer identity.now texts.now lengths.now (length out.old)) (Keys.key_of identity.now (Picks.passed_picks texts.now lengths.now)) out.old }
 {
-    of_key(key::key(identity, texts, lengths, out))
+    KeyNumbers::from(key::key(identity, texts, lengths, out))
 }
 
 // Whether a bank's key is that of an identity and picks: same is 1 or 0.
@@ -349,7 +365,7 @@ pub extern "C" fn tt_same_key(
 ) -> MatchNumbers
     ensures { result ≡ Answers.of_match (Matches.key_match_answer region.now bank identity.now texts.now lengths.now) }
 {
-    of_match(snapshot::keymatch::same_key(region, bank, identity, texts, lengths))
+    MatchNumbers::from(snapshot::keymatch::same_key(region, bank, identity, texts, lengths))
 }
 
 fn day(date: u32, wanted: bool) -> Day
@@ -389,7 +405,7 @@ pub extern "C" fn tt_fresh(
         second: day(day1, wanted1),
         third: day(day2, wanted2),
     };
-    of_fresh(snapshot::freshness::fresh(region, bank, days, at))
+    FreshNumbers::from(snapshot::freshness::fresh(region, bank, days, at))
 }
 
 fn refusal_of_capacity(capacity: usize) -> u32
@@ -453,7 +469,7 @@ pub extern "C" fn tt_bank_row(
             let stored = bytes_of(region, bank, b);
             let width = column_count(table);
             // called here, and not `read_row`, so that the reader has one caller and is inlined there
-            of_bank_row(tt_read_row(stored, width, place, out, ends))
+            BankRowNumbers::from(tt_read_row(stored, width, place, out, ends))
         }
         Err(r) => no_bank_row(number_u32(r)),
     }

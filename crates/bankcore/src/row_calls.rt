@@ -45,18 +45,20 @@ pub struct FilterNumbers {
     pub present: u32,
 }
 
-fn of_row(a: Result<usize, Refusal>) -> RowNumbers
-    ensures { result ≡ Answers.of_row a }
-{
-    match a {
-        Ok(n) => RowNumbers {
-            refusal: 0,
-            length: n,
-        },
-        Err(r) => RowNumbers {
-            refusal: number_u32(r),
-            length: 0,
-        },
+impl From<Result<usize, Refusal>> for RowNumbers {
+    ghost from_gives = { λ a x. x ≡ Answers.of_row a };
+
+    fn from(a: Result<usize, Refusal>) -> RowNumbers {
+        match a {
+            Ok(n) => RowNumbers {
+                refusal: 0,
+                length: n,
+            },
+            Err(r) => RowNumbers {
+                refusal: number_u32(r),
+                length: 0,
+            },
+        }
     }
 }
 
@@ -71,37 +73,41 @@ fn no_row(r: u32) -> ReadNumbers
     }
 }
 
-fn of_read(a: Result<Option<Span>, Refusal>) -> ReadNumbers
-    ensures { result ≡ Answers.of_read a }
-{
-    match a {
-        Ok(Some(Span { next, size })) => ReadNumbers {
-            refusal: 0,
-            found: 1,
-            next,
-            size,
-        },
-        Ok(None) => no_row(0),
-        Err(r) => no_row(number_u32(r)),
+impl From<Result<Option<Span>, Refusal>> for ReadNumbers {
+    ghost from_gives = { λ a x. x ≡ Answers.of_read a };
+
+    fn from(a: Result<Option<Span>, Refusal>) -> ReadNumbers {
+        match a {
+            Ok(Some(Span { next, size })) => ReadNumbers {
+                refusal: 0,
+                found: 1,
+                next,
+                size,
+            },
+            Ok(None) => no_row(0),
+            Err(r) => no_row(number_u32(r)),
+        }
     }
 }
 
-fn of_filter(a: Result<bool, Refusal>) -> FilterNumbers
-    ensures { result ≡ Answers.of_filter a }
-{
-    match a {
-        Ok(true) => FilterNumbers {
-            refusal: 0,
-            present: 1,
-        },
-        Ok(false) => FilterNumbers {
-            refusal: 0,
-            present: 0,
-        },
-        Err(r) => FilterNumbers {
-            refusal: number_u32(r),
-            present: 0,
-        },
+impl From<Result<bool, Refusal>> for FilterNumbers {
+    ghost from_gives = { λ a x. x ≡ Answers.of_filter a };
+
+    fn from(a: Result<bool, Refusal>) -> FilterNumbers {
+        match a {
+            Ok(true) => FilterNumbers {
+                refusal: 0,
+                present: 1,
+            },
+            Ok(false) => FilterNumbers {
+                refusal: 0,
+                present: 0,
+            },
+            Err(r) => FilterNumbers {
+                refusal: number_u32(r),
+                present: 0,
+            },
+        }
     }
 }
 
@@ -133,7 +139,7 @@ pub extern "C" fn tt_names_line(table: u32, out: &mut [u8]) -> RowNumbers
     ensures value { result ≡ Answers.of_row (Rows.names_answer table (length out.old)) }
     ensures out_after { out.new ≡ Rows.after (Rows.names_answer table (length out.old)) (names_line table) out.old }
 {
-    of_row(row::names_line(table, out))
+    RowNumbers::from(row::names_line(table, out))
 }
 
 // Writes the row of a table's values to the first bytes of out, quoted where needed, with its LF, and gives its length.
@@ -147,7 +153,7 @@ pub extern "C" fn tt_row(table: u32, texts: &[u8], lengths: &[u32], out: &mut [u
     ensures value { result ≡ Answers.of_row (Rows.row_answer table texts.now lengths.now (length out.old)) }
     ensures out_after { out.new ≡ Rows.after (Rows.row_answer table texts.now lengths.now (length out.old)) (row_of (Rows.passed_values texts.now lengths.now)) out.old }
 {
-    of_row(row::row(table, texts, lengths, out))
+    RowNumbers::from(row::row(table, texts, lengths, out))
 }
 
 // Reads the row at an offset of stored rows: its values, joined, to the first bytes of out, and to ends the offset in out where each ends.
@@ -170,7 +176,7 @@ pub extern "C" fn tt_read_row(
     ensures out_after { out.new ≡ StoredRows.after (StoredRows.read_answer table.now width place (length out.old) (length ends.old)) (StoredRows.joined (StoredRows.values_at table.now width place)) out.old }
     ensures ends_after { ends.new ≡ StoredRows.after (StoredRows.read_answer table.now width place (length out.old) (length ends.old)) (StoredRows.ends_of 0 (StoredRows.values_at table.now width place)) ends.old }
 {
-    of_read(rowread::read_row(table, width, place, out, ends))
+    ReadNumbers::from(rowread::read_row(table, width, place, out, ends))
 }
 
 // Whether a trip id may be in the filter: present is 1 or 0.
@@ -181,7 +187,7 @@ pub extern "C" fn tt_read_row(
 pub extern "C" fn tt_filter_query(bits: &[u8], id: &[u8]) -> FilterNumbers
     ensures { result ≡ Answers.of_filter (Bloom.query bits.now id.now) }
 {
-    of_filter(bloom::query(bits, id))
+    FilterNumbers::from(bloom::query(bits, id))
 }
 
 // Inserts a trip id into the filter; present says whether it may have been there before.
@@ -193,5 +199,5 @@ pub extern "C" fn tt_filter_insert(bits: &mut [u8], id: &[u8]) -> FilterNumbers
     ensures value { result ≡ Answers.of_filter (Bloom.insert_answer bits.old id.now) }
     ensures bits_after { bits.new ≡ Bloom.inserted bits.old id.now }
 {
-    of_filter(bloom::insert(bits, id))
+    FilterNumbers::from(bloom::insert(bits, id))
 }

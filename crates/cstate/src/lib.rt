@@ -331,16 +331,18 @@ fn refused(r: u32) -> UpdateNumbers
     }
 }
 
-fn of_answer(a: Result<Answer, Refusal>) -> UpdateNumbers
-    ensures { result ≡ Answers.of_answer a }
-{
-    match a {
-        Ok(Answer::Done) => done(ANSWER_DONE, 0),
-        Ok(Answer::Appended(n)) => done(ANSWER_APPENDED, n),
-        Ok(Answer::NoneDue) => done(ANSWER_NONE_DUE, 0),
-        Ok(Answer::Same) => done(ANSWER_SAME, 0),
-        Ok(Answer::Different) => done(ANSWER_DIFFERENT, 0),
-        Err(r) => refused(number_u32(r)),
+impl From<Result<Answer, Refusal>> for UpdateNumbers {
+    ghost from_gives = { λ a x. x ≡ Answers.of_answer a };
+
+    fn from(a: Result<Answer, Refusal>) -> UpdateNumbers {
+        match a {
+            Ok(Answer::Done) => done(ANSWER_DONE, 0),
+            Ok(Answer::Appended(n)) => done(ANSWER_APPENDED, n),
+            Ok(Answer::NoneDue) => done(ANSWER_NONE_DUE, 0),
+            Ok(Answer::Same) => done(ANSWER_SAME, 0),
+            Ok(Answer::Different) => done(ANSWER_DIFFERENT, 0),
+            Err(r) => refused(number_u32(r)),
+        }
     }
 }
 
@@ -383,7 +385,7 @@ pub fn after_parts(
 {
     let a = s.answer;
     let p = s.parts;
-    let numbers = of_answer(a);
+    let numbers = UpdateNumbers::from(a);
     let mut v = state_after(a, b, p, state);
     v.sources = sources;
     v.tail = tail;
@@ -395,7 +397,7 @@ pub fn after(s: Step, state: State) -> UpdateStep
     ensures { result ≡ Answers.after s state }
 {
     let a = s.answer;
-    let numbers = of_answer(a);
+    let numbers = UpdateNumbers::from(a);
     if is_answer(a) {
         let w = s.writer;
         let v = state_of(w);

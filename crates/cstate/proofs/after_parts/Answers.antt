@@ -8,4 +8,4 @@ pub returns : goal.returns
 returns c =
     let a = c.args in
     let v = ap (with_rest a.sources a.tail) c.state_after-v.ensures ∙ rest-set (is_answer a.s.answer) a.b a.s.parts a.state a.sources a.tail in
-    λ i. record { numbers = c.of_answer-numbers.ensures i; state = v i }
+    λ i. record { numbers = c.from-numbers.ensures i; state = v i }

@@ -1,5 +1,5 @@
 -- The next bytes, at most n, are a part of the data; hashing them continues the CRC, and the position goes on by as many.
-use Rattle.std.proofs.Common.{◌≡◌, ◌+◌, rules}
+use Rattle.std.proofs.Common.{◌≡◌, ◌+◌, Ok, rules}
 use Rattle.bank.proofs.turns.hashed.Goals as goal
 use Rattle.bank.specs.Turns.{count_of, hashed}
 use Rattle.bank.specs.Bank.{data_in}

@@ -21,7 +21,7 @@ returns-in-Ok c =
     let k = (λ j. read_answer (e j) (w j) a.place (length a.out.now) (length a.ends.now)) ∙ l.answer in
     let v = (λ j. values_at (e j) (w j) a.place) ∙ l.values in
     record {
-      value = c.of_bank_row.ensures ∙ ap as_bank_row (t.ensures.value ∙ ap of_read k) ∙ as_row (bank_row_answer a.region.now a.bank a.source a.table a.place (length a.out.now) (length a.ends.now));
+      value = c.from.ensures ∙ ap as_bank_row (t.ensures.value ∙ ap of_read k) ∙ as_row (bank_row_answer a.region.now a.bank a.source a.table a.place (length a.out.now) (length a.ends.now));
       out_after = t.ensures.out_after ∙ (λ j. after (k j) (joined (v j)) a.out.now);
       ends_after = t.ensures.ends_after ∙ (λ j. after (k j) (ends_of 0 (v j)) a.ends.now);
     }
