@@ -36,10 +36,9 @@ const HALVES: usize = 2;
 // The offset of each table's names line among all of them, and their end.
 const LINE_OFFSETS: usize = TABLES + 1;
 
-const STARTS: [usize; LINE_OFFSETS] = [0, 37, 65, 120, 218, 306, 337, 367, 473];
+static STARTS: [usize; LINE_OFFSETS] = [0, 37, 65, 120, 218, 306, 337, 367, 473];
 
-// How many columns a table has, 0 above table 7. A constant array would be copied to the stack at each call; a `match` is read where it
-// is.
+// How many columns a table has, 0 above table 7.
 pub fn column_count(table: u32) -> usize
     ensures { result ≡ column_count table }
 {
@@ -61,10 +60,7 @@ fn put_line(all: &[u8], table: usize, out: &mut [u8]) -> Result<usize, Refusal>
     requires { (all.now ≡ all_lines) × (table < max_tables) }
     ensures { (result ≡ within (length out.old) (names_line table)) × (out.new ≡ after result (names_line table) out.old) }
 {
-    let starts = STARTS;
-    let from = starts[table];
-    let to = starts[table + 1];
-    let names = &all[from..to];
+    let names = &all[STARTS[table]..STARTS[table + 1]];
     if out.len() < names.len() {
         return Err(Refusal::Small);
     }
