@@ -1,3 +1,4 @@
 pub mod Register
 pub mod Pending
 pub mod Shift
+pub mod Words

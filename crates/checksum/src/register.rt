@@ -7,8 +7,8 @@ ghost use Rattle.std.specs.Int.Bits.{bit_xor};
 ghost use Rattle.base.specs.Little.{little, long_bytes};
 ghost use Rattle.base.specs.Number.{byte_values, byte_bits, word_values, long_bits};
 ghost use Rattle.checksum.specs.Register.{steps, run};
-ghost use Rattle.checksum.specs.Pending.{three, five, two, after};
-ghost use Rattle.checksum.specs.Pending.{nibbles, nibble_bits};
+ghost use Rattle.checksum.specs.Pending.{after};
+ghost use Rattle.checksum.specs.Words.{two, three, five};
 
 use crate::table::{DIGIT_BITS, DIGIT_VALUES, DIGITS, digit_steps};
 use base::number::{BYTE_BITS_32, LONG_BYTES, bytes_to_u64, u32_to_u64};
@@ -22,29 +22,6 @@ const LONG_BITS: u32 = 64;
 const TWO_WORDS: usize = 2 * LONG_BYTES;
 
 const FIVE_WORDS: usize = 5 * LONG_BYTES;
-
-// Pending words: what folds have added to the next two, three or five words of the input.
-#[derive(Clone, Copy)]
-struct Two {
-    a: u64,
-    b: u64,
-}
-
-#[derive(Clone, Copy)]
-struct Three {
-    a: u64,
-    b: u64,
-    c: u64,
-}
-
-#[derive(Clone, Copy)]
-struct Five {
-    a: u64,
-    b: u64,
-    c: u64,
-    d: u64,
-    e: u64,
-}
 
 // The eight bytes at offset i as a little-endian number.
 fn load(s: &[u8], i: usize) -> u64
@@ -104,45 +81,45 @@ fn feed_bytes(crc: u32, s: &[u8]) -> u32
     c
 }
 
-// A word of the data folded into the three after it, by x^185 + x^93 + x^54 + x^46 + x^20 + x^19 + 1.
-fn fold_into_three(p: Three, w: u64) -> Three
-    ensures { steps (3 * long_bits) (three result.a result.b result.c) ≡ steps (4 * long_bits) (bit_xor (three p.a p.b p.c) w) }
+// A word of the data folded into the three after it, by x^185 + x^93 + x^54 + x^46 + x^20 + x^19 + 1. The words are pending ones: what folds
+// have added to the next words of the input.
+fn fold_into_three(p: [u64; 3], w: u64) -> [u64; 3]
+    ensures { steps (3 * long_bits) (three result) ≡ steps (4 * long_bits) (bit_xor (three p) w) }
 {
-    let x = p.a ^ w;
-    Three {
-        a: p.b ^ (x << 28),
-        b: p.c ^ ((x >> 36) ^ ((x << 3) ^ ((x << 11) ^ ((x << 37) ^ ((x << 38) ^ (x << 57)))))),
-        c: (x >> 61) ^ ((x >> 53) ^ ((x >> 27) ^ ((x >> 26) ^ (x >> 7)))),
-    }
+    let x = p[0] ^ w;
+    [
+        p[1] ^ (x << 28),
+        p[2] ^ ((x >> 36) ^ ((x << 3) ^ ((x << 11) ^ ((x << 37) ^ ((x << 38) ^ (x << 57)))))),
+        (x >> 61) ^ ((x >> 53) ^ ((x >> 27) ^ ((x >> 26) ^ (x >> 7)))),
+    ]
 }
 
 // A word of the data folded into the two after it, by x^120 + x^56 + x^40 + x^33 + x^15 + x^9 + x^8 + x + 1.
-fn fold_into_two(p: Three, w: u64) -> Two
-    ensures { steps (2 * long_bits) (two result.a result.b) ≡ steps (3 * long_bits) (bit_xor (three p.a p.b p.c) w) }
+fn fold_into_two(p: [u64; 3], w: u64) -> [u64; 2]
+    ensures { steps (2 * long_bits) (two result) ≡ steps (3 * long_bits) (bit_xor (three p) w) }
 {
-    let x = p.a ^ w;
-    Two {
-        a: p.b
-            ^ (x ^ ((x << 16)
+    let x = p[0] ^ w;
+    [
+        p[1] ^ (x
+            ^ ((x << 16)
                 ^ ((x << 23) ^ ((x << 41) ^ ((x << 47) ^ ((x << 48) ^ ((x << 55) ^ (x << 56)))))))),
-        b: p.c
-            ^ ((x >> 48)
-                ^ ((x >> 41) ^ ((x >> 23) ^ ((x >> 17) ^ ((x >> 16) ^ ((x >> 9) ^ (x >> 8))))))),
-    }
+        p[2] ^ ((x >> 48)
+            ^ ((x >> 41) ^ ((x >> 23) ^ ((x >> 17) ^ ((x >> 16) ^ ((x >> 9) ^ (x >> 8))))))),
+    ]
 }
 
 // A word of the data folded into the second to fifth after it, by x^300 + x^155 + x^117 + x^89 + 1.
-fn fold_into_five(p: Five, w: u64) -> Five
-    ensures { steps (5 * long_bits) (five result.a result.b result.c result.d result.e) ≡ steps (6 * long_bits) (bit_xor (five p.a p.b p.c p.d p.e) w) }
+fn fold_into_five(p: [u64; 5], w: u64) -> [u64; 5]
+    ensures { steps (5 * long_bits) (five result) ≡ steps (6 * long_bits) (bit_xor (five p) w) }
 {
-    let x = p.a ^ w;
-    Five {
-        a: p.b,
-        b: p.c ^ ((x << 17) ^ (x << 55)),
-        c: p.d ^ ((x >> 47) ^ ((x >> 9) ^ (x << 19))),
-        d: p.e ^ ((x >> 45) ^ (x << 44)),
-        e: x >> 20,
-    }
+    let x = p[0] ^ w;
+    [
+        p[1],
+        p[2] ^ ((x << 17) ^ (x << 55)),
+        p[3] ^ ((x >> 47) ^ ((x >> 9) ^ (x << 19))),
+        p[4] ^ ((x >> 45) ^ (x << 44)),
+        x >> 20,
+    ]
 }
 
 // A state between words. The register after the bytes before offset `at` is 64 steps of `word`, with `added` added.
@@ -153,22 +130,10 @@ struct Begun {
     at: usize,
 }
 
-// Three or five pending words, and the offset of the first of them in the input.
+// Pending words, and the offset of the first of them in the input.
 #[derive(Clone, Copy)]
-struct ThreeAt {
-    a: u64,
-    b: u64,
-    c: u64,
-    at: usize,
-}
-
-#[derive(Clone, Copy)]
-struct FiveAt {
-    a: u64,
-    b: u64,
-    c: u64,
-    d: u64,
-    e: u64,
+struct Pending<const N: usize> {
+    words: [u64; N],
     at: usize,
 }
 
@@ -189,91 +154,49 @@ fn begin(crc: u32, s: &[u8]) -> Begun
 }
 
 // Folds two words at a time, until 40 to 55 bytes are left.
-fn fold_all(b: Begun, s: &[u8]) -> FiveAt
+fn fold_all(b: Begun, s: &[u8]) -> Pending<5>
     requires long_bytes_in_bounds { b.at + 5 * long_bytes ≤ length s.now }
     requires long_bytes_value { (length s.now - b.at) % long_bytes ≡ 0 }
     requires added_lt_word_values { b.added < word_values }
-    ensures { (result.at + 5 * long_bytes ≤ length s.now) × ((length s.now - result.at) % long_bytes ≡ 0) × (run (five result.a result.b result.c result.d result.e) (drop result.at s.now) ≡ run (after b.word b.added) (drop b.at s.now)) }
+    ensures { (result.at + 5 * long_bytes ≤ length s.now) × ((length s.now - result.at) % long_bytes ≡ 0) × (run (five result.words) (drop result.at s.now) ≡ run (after b.word b.added) (drop b.at s.now)) }
 {
-    let f = fold_into_five(
-        Five {
-            a: b.word,
-            b: 0,
-            c: 0,
-            d: 0,
-            e: 0,
-        },
-        0,
-    );
-    let mut p = Five {
-        a: f.a ^ b.added,
-        b: f.b,
-        c: f.c,
-        d: f.d,
-        e: f.e,
-    };
+    let f = fold_into_five([b.word, 0, 0, 0, 0], 0);
+    let mut p = [f[0] ^ b.added, f[1], f[2], f[3], f[4]];
     let (pairs, _) = s[b.at..s.len() - FIVE_WORDS].as_chunks::<TWO_WORDS>();
     for pair in pairs {
         let q = fold_into_five(p, load(pair, 0));
         p = fold_into_five(q, load(pair, LONG_BYTES));
     }
-    FiveAt {
-        a: p.a,
-        b: p.b,
-        c: p.c,
-        d: p.d,
-        e: p.e,
+    Pending {
+        words: p,
         at: b.at + TWO_WORDS * pairs.len(),
     }
 }
 
 // Folds two more words, into the three after them.
-fn five_to_three(p: FiveAt, s: &[u8]) -> ThreeAt
+fn five_to_three(p: Pending<5>, s: &[u8]) -> Pending<3>
     requires { p.at + 5 * long_bytes ≤ length s.now }
-    ensures { (result.at ≡ p.at + 2 * long_bytes) × (run (three result.a result.b result.c) (drop result.at s.now) ≡ run (five p.a p.b p.c p.d p.e) (drop p.at s.now)) }
+    ensures { (result.at ≡ p.at + 2 * long_bytes) × (run (three result.words) (drop result.at s.now) ≡ run (five p.words) (drop p.at s.now)) }
 {
-    let at = p.at;
-    let q = fold_into_three(
-        Three {
-            a: p.a,
-            b: p.b,
-            c: p.c,
-        },
-        load(s, at),
-    );
-    let r = fold_into_three(
-        Three {
-            a: q.a,
-            b: q.b,
-            c: q.c ^ p.d,
-        },
-        load(s, at + LONG_BYTES),
-    );
-    ThreeAt {
-        a: r.a,
-        b: r.b,
-        c: r.c ^ p.e,
+    let Pending { words, at } = p;
+    let q = fold_into_three([words[0], words[1], words[2]], load(s, at));
+    let r = fold_into_three([q[0], q[1], q[2] ^ words[3]], load(s, at + LONG_BYTES));
+    Pending {
+        words: [r[0], r[1], r[2] ^ words[4]],
         at: at + TWO_WORDS,
     }
 }
 
 // Folds one more word into the two after it, of which the first is the word to go on with.
-fn three_to_two(p: ThreeAt, s: &[u8]) -> Begun
+fn three_to_two(p: Pending<3>, s: &[u8]) -> Begun
     requires { p.at + 3 * long_bytes ≤ length s.now }
-    ensures { (result.at ≡ p.at + 2 * long_bytes) × (run (after result.word result.added) (drop result.at s.now) ≡ run (three p.a p.b p.c) (drop p.at s.now)) }
+    ensures { (result.at ≡ p.at + 2 * long_bytes) × (run (after result.word result.added) (drop result.at s.now) ≡ run (three p.words) (drop p.at s.now)) }
 {
     let at = p.at;
-    let q = fold_into_two(
-        Three {
-            a: p.a,
-            b: p.b,
-            c: p.c,
-        },
-        load(s, at),
-    );
+    let q = fold_into_two(p.words, load(s, at));
     Begun {
-        word: q.a ^ load(s, at + LONG_BYTES),
-        added: q.b,
+        word: q[0] ^ load(s, at + LONG_BYTES),
+        added: q[1],
         at: at + TWO_WORDS,
     }
 }

@@ -1,10 +1,10 @@
 -- Each turn folds the two words of a pair (`fold_at`), which are where the pair is in the data (`chunk-part`). In the beginning the first word
 -- is folded (`first-fold`), with what is added to it.
-use Rattle.std.proofs.Common.{◌≡◌, ◌+◌, ◌-◌, ◌*◌, ◌/◌, ◌^◌, ◌<◌, ◌≤◌, List, [], length, take, drop, get_or, ℕ, arith}
+use Rattle.std.proofs.Common.{◌≡◌, ◌+◌, ◌-◌, ◌*◌, ◌/◌, ◌^◌, ◌<◌, ◌≤◌, List, [], length, take, drop, get_or, ℕ, arith, rules}
 use Rattle.base.specs.Little.{little}
 use Rattle.base.proofs.Lists.{chunk-part}
 use Rattle.checksum.specs.Register.{steps, run}
-use Rattle.checksum.specs.Pending.{five}
+use Rattle.checksum.specs.Words.{five}
 use Rattle.checksum.proofs.register.fold_all.Goals as goal
 use mathlib.Core.Path.{sym, ap, ◌∙◌}
 use native.Mathlib.Nat.{zero-add}
@@ -37,9 +37,9 @@ loop-pair-preserved c =
     c.load-in-loop-pair.ensures ∙ ap (λ (p : List (List ℕ)). little (take 8 (drop 8 (get_or p i [])))) f
     ∙ ap little (chunk-part [] 8 8 16 m t at i s (omega arith) g b) ∙ ap (λ (k : ℕ). little (take 8 (drop k s))) e8 in
     let e : at + 16 * (i + 1) ≡ a + 8 + 8 = omega arith in
-    ap (λ (k : ℕ). run (five r.a r.b r.c r.d r.e) (drop k s)) e
-    ∙ fold_at 320 (five q.a q.b q.c q.d q.e) (five r.a r.b r.c r.d r.e) c.load-in-loop-pair.result (a + 8) s (omega arith) x c.fold_into_five-p.ensures
-    ∙ fold_at 320 (five l.p.a l.p.b l.p.c l.p.d l.p.e) (five q.a q.b q.c q.d q.e) c.load.result a s (omega arith) w c.fold_into_five-q.ensures
+    ap (λ (k : ℕ). run (five r) (drop k s)) e
+    ∙ fold_at 320 (five q) (five r) c.load-in-loop-pair.result (a + 8) s (omega arith) x c.fold_into_five-p.ensures
+    ∙ fold_at 320 (five l.p) (five q) c.load.result a s (omega arith) w c.fold_into_five-q.ensures
     ∙ l.invariant
 
 pub returns : goal.returns
@@ -57,9 +57,9 @@ returns c =
     let word = b.word in (
       omega arith,
       omega arith,
-      ap (λ (k : ℕ). run (five l.p.a l.p.b l.p.c l.p.d l.p.e) (drop (b.at + 16 * k) s)) e ∙ l.invariant
+      ap (λ (k : ℕ). run (five l.p) (drop (b.at + 16 * k) s)) e ∙ l.invariant
           ∙ ap (λ (z : ℕ). run z (drop b.at s))
-          (sym (add_low r.a (((r.e * 2 ^ 64 + r.d) * 2 ^ 64 + r.c) * 2 ^ 64 + r.b) b.added (omega arith) (omega arith)))
-          ∙ first-fold 320 (five r.a r.b r.c r.d r.e) word b.added (drop b.at s) (omega (arith, length-drop b.at s))
+          (sym (add_low (get_or r 0 0) (((get_or r 4 0 * 2 ^ 64 + get_or r 3 0) * 2 ^ 64 + get_or r 2 0) * 2 ^ 64 + get_or r 1 0) b.added (search rules) (omega arith)))
+          ∙ first-fold 320 (five r) word b.added (drop b.at s) (omega (arith, length-drop b.at s))
           (f.ensures ∙ ap (steps 384) (xor_zero_r (0 + word) ∙ zero-add word)),
     )

@@ -1,8 +1,8 @@
+use Rattle.std.proofs.Common.{get_or, rules}
 use Rattle.checksum.proofs.register.fold_into_five.Goals as goal
-use native.Mathlib.Omega.{arith}
 use Rattle.checksum.proofs.Fold.{into-five-fold}
 
 pub returns : goal.returns
 returns c =
-    let a = c in
-    into-five-fold a.args.p.a a.args.p.b a.args.p.c a.args.p.d a.args.p.e a.args.w (omega arith) (omega arith) (omega arith) (omega arith) (omega arith) a.ranges.w.fits
+    let p = c.args.p in
+    into-five-fold (get_or p 0 0) (get_or p 1 0) (get_or p 2 0) (get_or p 3 0) (get_or p 4 0) c.args.w (search rules) (search rules) (search rules) (search rules) (search rules) c.ranges.w.fits
