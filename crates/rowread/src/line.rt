@@ -30,6 +30,7 @@ fn search_word(t: &[u8], i: usize, commas: usize, marks: &mut [usize]) -> Found
 {
     let mut m = delimiters_of(load(t, i));
     let mut k = commas;
+    // No for: what is left of the marks is a number, and k counts commas.
     while m != 0 {
         let q = i + first(m);
         if t[q] != COMMA {

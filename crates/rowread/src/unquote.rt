@@ -88,6 +88,7 @@ fn unquote_by_marks(t: &[u8], from: usize, out: &mut [u8], to: usize, write: boo
     let mut n = to;
     let mut i = from;
     let mut m = quotes_of(load(t, from));
+    // No for: a turn moves i to the next word, or leaves it and moves p alone.
     while SEARCHED <= t.len() - i {
         let x = search_on(t, i, p, m);
         if write {
@@ -127,6 +128,7 @@ fn unquote_bytes(t: &[u8], from: usize, out: &mut [u8], to: usize, write: bool) 
 {
     let mut p = from;
     let mut n = to;
+    // No for: two quotes move p by two.
     while p < t.len() {
         let byte = t[p];
         p += 1;
