@@ -7,7 +7,7 @@ use native.Mathlib.Nat.{not-suc-le-zero, le_of_suc-le-suc}
 use native.Mathlib.Numerals.{add-one}
 use native.Mathlib.Omega.{arith}
 use lib.ListN.{length, take, drop, get_or, set, length-append, length-map, length-take, length-drop, drop_of_length-le, take-append-drop}
-use Rattle.std.proofs.lemmas.List.{take_at, set_at, drop-take}
+use Rattle.std.proofs.lemmas.List.{map-append, take-map, drop-map, take_at, set_at, drop-take}
 use lib.Seq.{paste, take-suc, take-take, drop-cons, length-take-le, append_snoc}
 use Rattle.key.specs.Order.{Pick, pick_order}
 use Rattle.key.specs.Picks.{insert_by, insert, distinct, firsts}
@@ -105,27 +105,13 @@ moved a k m v h w =
 -- ---- the picks that the numbers mean
 
 module _ (f : ℕ → Pick) where
-  map-append : (s t : List ℕ) → map f (s ++ t) ≡ map f s ++ map f t
-  map-append [] t = refl
-  map-append (x ∷ s) t = rw (map-append s t)
-
-  map-take : (k : ℕ) (s : List ℕ) → map f (take k s) ≡ take k (map f s)
-  map-take zero s = refl
-  map-take (suc k) [] = refl
-  map-take (suc k) (x ∷ s) = rw (map-take k s)
-
-  map-drop : (k : ℕ) (s : List ℕ) → map f (drop k s) ≡ drop k (map f s)
-  map-drop zero s = refl
-  map-drop (suc k) [] = refl
-  map-drop (suc k) (x ∷ s) = map-drop k s
-
   pub map_at : (s : List ℕ) (k : ℕ) → k < length s → f (get_or s k 0) ≡ get_or (map f s) k []
   map_at [] k h = absurd (not-suc-le-zero h)
   map_at (x ∷ s) zero h = refl
   map_at (x ∷ s) (suc k) h = map_at s k (le_of_suc-le-suc h)
 
   map-put : (k v : ℕ) (x : List ℕ) → map f (put_in k v x) ≡ take k (map f x) ++ f v ∷ drop k (map f x)
-  map-put k v x = map-append (take k x) (v ∷ drop k x) ∙ rw (map-take k x, map-drop k x)
+  map-put k v x = map-append f (take k x) (v ∷ drop k x) ∙ rw (← take-map f k x, ← drop-map f k x)
 
   module _ (n i m : ℕ) (order : List ℕ) (hi : i < n) (inside : m < length order) (b : Below n (take m order)) where
     pub goes_in : (k : ℕ) (order' : List ℕ) → Goes (f i) (map f (take m order)) (Some k) → length order' ≡ length order

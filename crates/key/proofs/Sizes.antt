@@ -7,6 +7,7 @@ use Prim.Native.Nat.{ℕ, zero, suc, ◌+◌, ◌-◌, ◌*◌, ◌%◌, ◌≤�
 use native.Mathlib.Nat.{not-suc-le-zero}
 use native.Mathlib.Numerals.{add-one}
 use native.Mathlib.Omega.{arith}
+use Rattle.std.proofs.lemmas.Bool.{cases_lt}
 use lib.ListN.{length, get_or, length-append}
 use borrow.Author.Tests.{leb-true}
 use Rattle.base.specs.Number.{pick}
@@ -16,7 +17,7 @@ use Rattle.key.specs.Picks.{pick_of, unless_code, firsts, insert_by, insert, dis
 use Rattle.key.specs.Layout.{every, sized, sizes, joined, field, entry, longest_entry}
 use Rattle.key.specs.Steps.{Rising, between, Small}
 use Rattle.key.proofs.Sort.{sorts}
-use Rattle.key.proofs.TextOffsets.{split, firsts-length, between-length}
+use Rattle.key.proofs.TextOffsets.{firsts-length, between-length}
 
 second-false : (a : Bool) → pick a false false ≡ false
 second-false true = refl
@@ -35,14 +36,14 @@ module _ (t : ℕ → Bool) where
   unfolding every
   every-not zero k h e = absurd (not-suc-le-zero h)
   every-not (suc n) k h e =
-      ⊎_elim (λ (w : k < n). rw (every-not n k w e)) (λ (w : n ≤ k). let z : k ≡ n = omega arith in rw (← z, e) (second-false (every k t))) (split k n)
+      ⊎_elim (λ (w : k < n). rw (every-not n k w e)) (λ (w : n ≤ k). let z : k ≡ n = omega arith in rw (← z, e) (second-false (every k t))) (cases_lt k n)
 
   pub every-at : (n k : ℕ) → every n t ≡ true → k < n → t k ≡ true
   unfolding every
   every-at zero k e h = absurd (not-suc-le-zero h)
   every-at (suc n) k e h =
       let b = both_true (every n t) (t n) e in
-      ⊎_elim (λ (w : k < n). every-at n k b.0 w) (λ (w : n ≤ k). let z : k ≡ n = omega arith in rw z b.1) (split k n)
+      ⊎_elim (λ (w : k < n). every-at n k b.0 w) (λ (w : n ≤ k). let z : k ≡ n = omega arith in rw z b.1) (cases_lt k n)
 
 pub every-same : (t u : ℕ → Bool) (n : ℕ) → ((k : ℕ) → k < n → t k ≡ u k) → every n t ≡ every n u
 unfolding every

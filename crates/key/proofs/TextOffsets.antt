@@ -3,25 +3,19 @@
 use mathlib.Core.Path.{◌≡◌, refl, ap, ◌∙◌, sym}
 use mathlib.Core.Bool.{Bool, true, false}
 use mathlib.Core.List.{List, [], ◌∷◌, ◌++◌}
-use mathlib.Core.Logic.{◌⊎◌, inl, inr, ⊎_elim}
+use mathlib.Core.Logic.{⊎_elim}
 use Prim.Native.Nat.{ℕ, zero, suc, ◌+◌, ◌-◌, ◌*◌, ◌≤◌, ◌<◌, min}
 use native.Mathlib.Nat.{add_assoc, add-zero, zero-add, not-suc-le-zero, le_of_suc-le-suc}
 use native.Mathlib.Numerals.{add-one}
 use native.Mathlib.Omega.{arith}
 use lib.ListN.{length, take, drop, get_or, drop_of_length-le, length-drop, get_or-eq_default}
 use lib.Seq.{take-suc, take_all}
-use lib.Dec.{leb, ltb}
-use borrow.Author.Tests.{leb-true, leb-false, ltb-true, ltb-false}
+use Rattle.std.proofs.lemmas.Bool.{cases_lt}
+use lib.Dec.{leb}
+use borrow.Author.Tests.{leb-true, leb-false}
 use Rattle.key.specs.Order.{Text, Pick, field_count}
 use Rattle.key.specs.Picks.{sum, text, pick_of, firsts}
 use Rattle.key.specs.Steps.{offset_of, Offsets, Rising, between}
-
-pub split : (a b : ℕ) → (a < b) ⊎ (b ≤ a)
-split a b = go (ltb a b) refl
-  where
-    go : (t : Bool) → ltb a b ≡ t → (a < b) ⊎ (b ≤ a)
-    go true e = inl (ltb-true a b e)
-    go false e = inr (ltb-false a b e)
 
 -- ---- offsets
 
@@ -40,7 +34,7 @@ sum_past l i h =
     ∙ sym (ap (λ (n : ℕ). sum (take i l) + n) (get_or-eq_default l 0 h) ∙ add-zero (sum (take i l)))
 
 sum-next : (l : List ℕ) (i : ℕ) → sum (take (i + 1) l) ≡ sum (take i l) + get_or l i 0
-sum-next l i = ⊎_elim (sum_more l i) (sum_past l i) (split i (length l))
+sum-next l i = ⊎_elim (sum_more l i) (sum_past l i) (cases_lt i (length l))
 
 module _ (b : Text) (l : List ℕ) where
   pub offset-none : 0 ≡ offset_of b l 0
@@ -74,7 +68,7 @@ take-up-to s m n e =
     ⊎_elim
     (λ (h : n < length s). let k : m ≡ n = omega arith in rw k)
     (λ (h : length s ≤ n). take_all m s (omega arith) ∙ sym (take_all n s h))
-    (split n (length s))
+    (cases_lt n (length s))
 
 drop-offset : (b : Text) (l : List ℕ) (k : ℕ) → drop (offset_of b l k) b ≡ drop (sum (take k l)) b
 unfolding offset_of

@@ -109,8 +109,7 @@ impl<'a> Picks<'a> {
     }
 
     // Inserts pick i among the m sorted ones, unless it is there; gives how many they are then.
-    // By hand, as std's form is no plainer: its sort and search may call a closure with any index, and `order` takes a pick's; and equal picks would go in a
-    // second pass.
+    // By hand, no plainer by std: its sort calls a closure with any index, `order` takes a pick's; and equal picks would go in a second pass.
     fn insert(&self, order: &mut [usize], m: usize, i: usize) -> usize
         requires { (i < self.now.n) × (m < length order.old) × Below self.now.n (take m order.old) }
         ensures { (result ≤ m + 1) × Ordered (pick_in self.now.texts.now self.now.starts.now) self.now.n (insert (pick_in self.now.texts.now self.now.starts.now i) (map (pick_in self.now.texts.now self.now.starts.now) (take m order.old))) order.new result }

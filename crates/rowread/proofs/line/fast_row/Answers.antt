@@ -42,15 +42,6 @@ copy_line-requires-clause-block_size_in_bounds c =
     let k = ap (take n) (x.0.ends (omega (arith, w, m))) ∙ take-sets _ c' n z (omega (arith, w, m)) in
     (omega (arith, c.if-t-end-lt-BLOCK.false, x.0.inside), x.0.many, k)
 
-pub copy_line-requires-clause-n_in_bounds :
-    goal.copy_line-requires-clause-n_in_bounds
-copy_line-requires-clause-n_in_bounds c =
-    let x = rw c.in-Stop.is at c.search_line-found.ensures in
-    let n = c.in-Stop.commas in
-    let w : n + 1 ≡ c.args.width = c.if-commas-width.false in
-    let m : c.args.width ≤ 10 = c.if-width-gt-MAX_COLUMNS.false in
-    (omega (arith, w, m, x.0.same), c.if-out-size.false, omega (arith, w, c.if-ends-width.false))
-
 pub overflow_add-result : goal.overflow_add-result
 overflow_add-result c =
     let t = c.args.t.now in

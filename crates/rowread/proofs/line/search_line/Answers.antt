@@ -1,5 +1,5 @@
--- A word more was searched (`At`).
-use Rattle.std.proofs.Common.{◌≡◌, ◌+◌, ◌*◌, take, arith, length-take}
+-- Fewer commas than bytes were found.
+use Rattle.std.proofs.Common.{◌*◌, take, arith, length-take}
 use Rattle.rowread.proofs.line.search_line.Goals as goal
 use Rattle.rowread.proofs.Search.{at-start}
 use Rattle.rowread.proofs.Lines.{text-size}
@@ -13,9 +13,3 @@ search_word-requires-clause-commas_le_i c =
     let l = c.loop-k in
     let t = c.args.t.now in
     omega (arith, l.invariant.many, text-size (take (l.k * 8) t), length-take (l.k * 8) t)
-
-pub loop-k-preserved : goal.loop-k-preserved
-loop-k-preserved c =
-    let l = c.loop-k in
-    let z : l.k * 8 + 8 ≡ (l.k + 1) * 8 = omega arith in
-    rw z at (c.in-Commas.ensures c.args.marks.now l.invariant)
