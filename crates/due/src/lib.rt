@@ -223,7 +223,7 @@ pub fn due_parts(b: Beginning, p: Parts, tail: &[u8; TAIL_SIZE], region: &mut [u
     in_stage(b, p, tail, region)
 }
 
-// Does the operation that is due, one a call.
+// Does the operation that is due, one a call, on a whole state, of which the theorems speak; due_parts does the work, on what C lends.
 pub fn due(w: Writer, region: &mut [u8]) -> Step
     ensures { (result ≡ Due.due_step region.old w) × (region.new ≡ Due.due_region region.old w) }
 {

@@ -1,5 +1,7 @@
 // The lower layer's calls that do no flash operation, a module each, and what they test: whether bytes may be appended, whether a table is
 // open or may begin, and how much of the tail is free.
+// A call and a test have two forms: NAME_parts does the work on what C lends (bankcore::lower_calls: the sources and the tail stay where they
+// are), and NAME is it on a whole state, of which the upper layer and the theorems speak.
 #![tactic(auto)]
 
 pub mod append;

@@ -250,6 +250,8 @@ fn block_at(r: &[u8], at: usize) -> Block
     }
 }
 
+// Words and blocks are read by two functions, and written by two: one for both would need a trait of the element's size, reader, writer and
+// laws, which is longer than the four.
 fn words_at(r: &[u8], at: usize, n: usize) -> [u32; ORIGINAL_WORDS]
     requires { (n ≤ max_tables * table_words) × (at ≤ record_size) }
     ensures { result ≡ many word word_size r.now at n ++ fill 0 (max_tables * table_words - n) }

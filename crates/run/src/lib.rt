@@ -1,5 +1,5 @@
 // Runs of lower calls: what is due is done, bytes are appended. They leave the sources unchanged, so they work on the parts of a state and
-// its tail.
+// its tail: NAME_parts. NAME is the same on a whole state, of which the upper layer's theorems speak.
 #![tactic(auto)]
 
 ghost use Rattle.std.specs.Prelude.{◌≡◌, true, false, ◌+◌, ◌≤◌, ◌<◌, ◌∷◌, [], ◌++◌, length};

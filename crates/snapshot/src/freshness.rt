@@ -62,12 +62,9 @@ fn wanted_after(start: u32, end: u32, d: Day) -> Day
 fn gives_any(s: Source, d: Days) -> bool
     ensures { result ≡ Fresh.gives_any s (Fresh.days_of d) }
 {
-    let a = d.first;
-    let b = d.second;
-    let c = d.third;
-    (a.wanted & has_day(s.start, s.end, a.date))
-        | ((b.wanted & has_day(s.start, s.end, b.date))
-            | ((c.wanted & has_day(s.start, s.end, c.date)) | false))
+    (d.first.wanted & has_day(s.start, s.end, d.first.date))
+        | ((d.second.wanted & has_day(s.start, s.end, d.second.date))
+            | (d.third.wanted & has_day(s.start, s.end, d.third.date)))
 }
 
 fn three_wanted_after(s: Source, d: Days) -> Days
@@ -167,7 +164,7 @@ fn fresh_in(region: &[u8], b: Bank, days: Days, at: i64) -> Freshness
 fn are_days(d: Days) -> bool
     ensures { result ≡ each Fresh.is_day (Fresh.days_of d) }
 {
-    valid_date(d.first.date) & (valid_date(d.second.date) & (valid_date(d.third.date) & true))
+    valid_date(d.first.date) & (valid_date(d.second.date) & valid_date(d.third.date))
 }
 
 // How fresh a bank is at time `at`, for three days.
