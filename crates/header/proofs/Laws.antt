@@ -1,15 +1,13 @@
 -- What the tests of a header give. Tests 3 to 6 case by case, as the definition nests them; and what a header has that passes them: at most
 -- three sources, and all its records good.
 use mathlib.Core.Path.{◌≡◌, refl, ap, ◌∙◌, sym}
-use mathlib.Core.Bool.{Bool, true, false, ◌&&◌, false≢true, and-true, and_assoc}
-use mathlib.Core.List.{List, [], ◌∷◌, ◌++◌}
-use Prim.Native.Nat.{ℕ, zero, suc, ◌+◌, ◌*◌, ◌-◌, ◌<◌, ◌≤◌}
+use mathlib.Core.Bool.{Bool, true, false, ◌&&◌, false≢true}
+use mathlib.Core.List.{List, [], ◌∷◌}
+use Prim.Native.Nat.{ℕ, zero, suc, ◌+◌, ◌*◌, ◌-◌, ◌≤◌}
 use native.Mathlib.Omega.{arith}
 use native.Mathlib.Nat.{add-mul, one-mul}
 use Rattle.std.specs.List.{list_all, range_with_len}
 use lib.IntN.{ℤ, pos, negsuc}
-use lib.ListN.{length, take, get_or}
-use lib.Seq.{take-suc}
 use lib.Dec.{eqb, leb}
 use lib.Signed.{le_z}
 use borrow.Author.Tests.{eq-eqb, ne_eqb, eqb-true, eqb-false, leb-true}

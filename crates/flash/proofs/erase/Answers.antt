@@ -1,6 +1,6 @@
 -- Where the sector fits, filling its bytes with 255 in the region is the model's erase (`erased-is`); else the model changes nothing either
 -- (`after-not`).
-use Rattle.std.proofs.Common.{true, ◌+◌, ◌-◌, ◌*◌, false}
+use Rattle.std.proofs.Common.{◌+◌, ◌-◌, ◌*◌}
 use Rattle.region.specs.Region.{bank_size}
 use Rattle.flash.proofs.erase.Goals as goal
 use mathlib.Core.Path.{sym, ◌∙◌}

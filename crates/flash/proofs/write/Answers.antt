@@ -1,6 +1,6 @@
 -- Where the bytes fit, clearing bits in the region is the model's write (`written_is`); else the model changes nothing either
 -- (`after-not`).
-use Rattle.std.proofs.Common.{true, ◌+◌, length, ◌-◌, ◌*◌, false}
+use Rattle.std.proofs.Common.{◌+◌, length, ◌-◌, ◌*◌}
 use Rattle.region.specs.Region.{bank_size}
 use Rattle.flash.proofs.write.Goals as goal
 use mathlib.Core.Path.{sym, ◌∙◌}

@@ -1,6 +1,5 @@
 -- The first j blocks are written, one after the other from `at` on; j goes up to 8.
 use mathlib.Core.Path.{◌≡◌}
-use Prim.Native.Nat.{◌≤◌, ◌-◌}
 use lib.ListN.{length, take}
 use lib.Seq.{sets}
 use Rattle.base.specs.Lists.{puts}

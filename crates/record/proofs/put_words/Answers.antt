@@ -4,7 +4,6 @@ use Rattle.leaf.specs.Bytes.{le32}
 use Rattle.base.specs.Lists.{puts}
 use Rattle.record.proofs.put_words.Goals as goal
 use mathlib.Core.Path.{refl, ap, ◌∙◌}
-use lib.Seq.{length-sets}
 use Rattle.base.proofs.Lists.{puts-more}
 use Rattle.leaf.proofs.Laws.{length-le32, length-written, written-sets}
 

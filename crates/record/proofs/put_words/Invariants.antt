@@ -1,6 +1,5 @@
 -- The first j numbers are written, one after the other from `at` on; j goes up to 16.
 use mathlib.Core.Path.{◌≡◌}
-use Prim.Native.Nat.{◌≤◌, ◌-◌}
 use lib.ListN.{length, take}
 use lib.Seq.{sets}
 use Rattle.leaf.specs.Bytes.{le32}

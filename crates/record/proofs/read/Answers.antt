@@ -1,10 +1,8 @@
 -- Each field is read at its offset, which follows from the number of tables; together they are `source_of`.
-use Rattle.std.proofs.Common.{◌+◌, ◌*◌, w64}
-use Rattle.base.specs.Lists.{many, byte}
+use Rattle.std.proofs.Common.{w64}
 use Rattle.record.specs.Record.{source_of}
 use Rattle.record.proofs.read.Goals as goal
 use mathlib.Core.Path.{◌∙◌}
-use mathlib.Core.List.{append-nil}
 use mir.ValLaws.{to_z-of_z}
 
 pub returns : goal.returns

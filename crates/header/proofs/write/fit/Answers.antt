@@ -1,5 +1,5 @@
 -- The flags say whether the records below the count pass 6 and have texts of allowed length. Only those are looked at (`below-count`).
-use Rattle.std.proofs.Common.{◌≡◌, ◌∙◌, ap, take, length, rules, tests}
+use Rattle.std.proofs.Common.{◌≡◌, ◌∙◌, take, length, rules, tests}
 use Rattle.std.proofs.lemmas.Iterator.{YieldsList-from_slice}
 use Rattle.std.proofs.lemmas.Iterator.Search.{all_from_yields_List}
 use Rattle.base.specs.Lists.{each}
