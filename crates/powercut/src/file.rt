@@ -1,6 +1,6 @@
 // The picture's file. It is written under another name and gets its own once it is whole, so a write that fails leaves what was there. A
 // file that is there and isn't a picture, such as the image, is never written. No one can be told of a write to standard error that fails.
-use base::slice::{part, same_bytes};
+use base::slice::part;
 use program::bytes::{copy, read_full};
 use program::message::{unfinished, unwritten};
 use program::output::failed;
@@ -30,7 +30,7 @@ const NAME_SIZE: usize = PATH_SIZE + ENDING_SIZE;
 fn is_picture<F: Read>(file: &mut F) -> bool {
     let mut space = [0u8; MARK_SIZE];
     let n = read_full(file, &mut space).unwrap_or(0);
-    same_bytes(part(&space, 0, n), MARK)
+    part(&space, 0, n) == MARK
 }
 
 fn open_read<R: Files>(rt: &R, name: &[u8]) -> io::Result<R::File> {

@@ -8,7 +8,8 @@ use program::bytes::{fill, put8};
 use region::SECTOR_SIZE_32;
 use std::num::{wrapping_add_u32, wrapping_add_usize, wrapping_sub_u32};
 
-// What load gave: what was found, the new bank, something wrong. A cell that no cut was tried for is a mark too.
+// What load gave: what was found, the new bank, something wrong. A cell that no cut was tried for is a mark too. No enum: marks are bytes of the
+// scratch buffer, the worse of two is the larger, and the classes of the picture's style have these numbers.
 pub const OLD: u8 = 0;
 
 pub const NEW: u8 = 1;

@@ -43,7 +43,7 @@ pub fn count<R: Env>(rt: &R) -> usize {
 }
 
 // Writes the argument at an index to the start of a buffer and gives its length: 0 where it is missing or longer than the buffer. An argument
-// may have any bytes, and no contract can say which.
+// may have any bytes, and no contract can say which. No `Option`: the promise is about a length, and a missing argument is told as an empty one.
 pub fn read<R: Env>(rt: &R, index: usize, buffer: &mut [u8]) -> usize
     ensures { result ≤ length buffer.new }
 {

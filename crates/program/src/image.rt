@@ -5,8 +5,6 @@ ghost use Rattle.region.specs.Region.{region_size};
 use crate::bytes::large_buffer;
 use crate::message;
 use crate::text::path_of;
-use base::slice::same_bytes;
-use leaf::bytes::get8;
 use region::REGION_SIZE;
 use std::io::{Input, Read, Write};
 use std::num::wrapping_add_usize;
@@ -30,9 +28,7 @@ const MOST_READ: usize = LARGEST_DUMP + 1;
 const MOST_READS: u32 = MOST_READ as u32 + 1;
 
 // The first bytes of a gzip file.
-const GZIP_FIRST: u8 = 31;
-
-const GZIP_SECOND: u8 = 139;
+const GZIP: [u8; 2] = [31, 139];
 
 // What was read: a region, or the region in a dump of this size.
 #[derive(Clone, Copy, PartialEq, Eq)]
@@ -112,7 +108,7 @@ fn read_some<F: Read>(
 }
 
 fn is_compressed(region: &[u8]) -> bool {
-    (get8(region, 0) == GZIP_FIRST) & (get8(region, 1) == GZIP_SECOND)
+    region.starts_with(&GZIP)
 }
 
 // Reads the region of an open image that starts at an offset, and gives the image's length, at most one byte more than the largest dump.
@@ -186,11 +182,10 @@ fn read_named<R: Files + Input>(
     start: usize,
     region: &mut [u8],
 ) -> Result<usize, Unread> {
-    if same_bytes(name, b"-") {
-        return read_all(&mut rt.reader(), region, start);
+    match name {
+        b"-" => read_all(&mut rt.reader(), region, start),
+        _ => read_all(&mut fs::open(rt, path_of(name)?)?, region, start),
     }
-    let mut file = fs::open(rt, path_of(name)?)?;
-    read_all(&mut file, region, start)
 }
 
 // Reads the region of the named image: it starts at a given offset, or where the image's size says. None if nothing of use was read; then

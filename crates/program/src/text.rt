@@ -7,7 +7,7 @@ use base::slice::part;
 use std::io::ErrorKind;
 use std::{io, str};
 
-// What `digit` gives for a byte that is no digit.
+// What `digit` gives for a byte that is no digit. No `Option`: the definition `value_of`, which `digit` promises, has this number.
 const NO_DIGIT: u64 = 255;
 
 const TEN: u64 = 10;

@@ -11,7 +11,7 @@ const SHORT_VALUES: u64 = BYTE_VALUES * BYTE_VALUES;
 
 // Whether a yes or no is the list's 1 or 0.
 fn agrees(is: bool, want: u64) -> bool {
-    if is { want == 1 } else { want == 0 }
+    want == u64::from(is)
 }
 
 // `date NUMBER ANSWER`
@@ -89,36 +89,7 @@ fn put_time(l: &[u8]) -> bool {
     is_word(l, 4, part(bytes, 0, n))
 }
 
-// Whether the core's answer is that of a line on rows or the filter. An insertion changes the region.
-fn row_alike(k: Kind, l: &[u8], region: &mut [u8]) -> bool {
-    match k {
-        Kind::NamesLine => rows::names_line(l),
-        Kind::Row => rows::row(l),
-        Kind::ReadRow => rows::read_row(l, region),
-        Kind::Insert => filter::insert(l, region),
-        Kind::Query => filter::query(l, region),
-        Kind::Bytes => filter::holds(l, region),
-        Kind::Sum => filter::sum(l, region),
-        _ => false,
-    }
-}
-
-// The same for a line on banks, with the region, and for those after them.
-fn bank_alike(k: Kind, l: &[u8], region: &mut [u8]) -> bool {
-    match k {
-        Kind::Validate => banks::validate(l, region),
-        Kind::Header => banks::header(l, region),
-        Kind::Load => banks::load(l, region),
-        Kind::Source => banks::source(l, region),
-        Kind::Fresh => banks::fresh(l, region),
-        Kind::CheckStart => banks::check_start(l, region),
-        Kind::CheckTurn => banks::check_turn(l, region),
-        Kind::BankKey => banks::same_key(l, region),
-        _ => row_alike(k, l, region),
-    }
-}
-
-// Whether the core's answer is that of a line of this kind.
+// Whether the core's answer is that of a line of this kind. Those on banks, rows and the filter ask the region; an insertion changes it.
 pub fn is_alike(k: Kind, l: &[u8], region: &mut [u8]) -> bool {
     match k {
         Kind::ValidDate => date(l),
@@ -133,6 +104,21 @@ pub fn is_alike(k: Kind, l: &[u8], region: &mut [u8]) -> bool {
         Kind::Rotate => rotate(l),
         Kind::Key => keys::key(l),
         Kind::SameKey => keys::same_key(l),
-        _ => bank_alike(k, l, region),
+        Kind::Validate => banks::validate(l, region),
+        Kind::Header => banks::header(l, region),
+        Kind::Load => banks::load(l, region),
+        Kind::Source => banks::source(l, region),
+        Kind::Fresh => banks::fresh(l, region),
+        Kind::CheckStart => banks::check_start(l, region),
+        Kind::CheckTurn => banks::check_turn(l, region),
+        Kind::BankKey => banks::same_key(l, region),
+        Kind::NamesLine => rows::names_line(l),
+        Kind::Row => rows::row(l),
+        Kind::ReadRow => rows::read_row(l, region),
+        Kind::Insert => filter::insert(l, region),
+        Kind::Query => filter::query(l, region),
+        Kind::Bytes => filter::holds(l, region),
+        Kind::Sum => filter::sum(l, region),
+        Kind::Unknown => false,
     }
 }

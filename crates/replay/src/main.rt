@@ -112,7 +112,7 @@ fn report<W: Write>(out: &mut W, c: Counts) -> io::Result<()> {
     writeln!(out, "all        : {}", c.all)
 }
 
-// A buffer of zeros for the list.
+// A buffer of zeros for the list. No `Vec`: where there is no list, that is told before memory is asked for.
 fn list_buffer() -> [u8; LIST_SIZE]
     ensures { list_size ≡ length result }
 {

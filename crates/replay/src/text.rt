@@ -1,5 +1,5 @@
 // The words of a line, and the numbers and bytes in them.
-use base::slice::{part, same_bytes};
+use base::slice::part;
 use leaf::bytes::get8;
 use program::bytes;
 use program::number::{low32, signed as signed_of};
@@ -128,5 +128,5 @@ pub fn bytes_of<'a>(s: &[u8], k: u8, out: &'a mut [u8]) -> &'a [u8] {
 // Whether word k is these bytes in hexadecimal.
 pub fn is_word(l: &[u8], k: u8, bytes: &[u8]) -> bool {
     let mut space = bytes::large_buffer();
-    same_bytes(bytes, bytes_of(l, k, &mut space))
+    bytes == bytes_of(l, k, &mut space)
 }
