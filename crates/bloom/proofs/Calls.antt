@@ -1,27 +1,49 @@
--- What the code's calls return, from the results of the four single reads or sets, and from the test of the filter's size.
-use Rattle.std.proofs.Common.{◌≡◌, ℕ, Bool, true, false, ◌&&◌, List, [], ◌∷◌, length, Err, Result, Ok}
-use mathlib.Core.Bool.{and-true}
+-- What the code's calls return, from the results of the single reads or sets, and from the test of the filter's size.
+use Rattle.std.proofs.Common.{◌≡◌, ℕ, zero, suc, ◌+◌, ◌/◌, ◌<◌, ◌≤◌, Bool, true, false, ◌&&◌, List, [], ◌∷◌, length, drop, get_or, arith, ◌∙◌, add-one, drop-cons, Err, Result, Ok}
+use mathlib.Core.Bool.{and-true, and_assoc}
+use lib.ListN.{drop_of_length-le}
+use Rattle.bloom.specs.Positions.{Within}
 use Rattle.refusal.specs.declared.Refusal.TheVariants.{Argument}
 use Rattle.leaf.specs.Crc.{crc32}
 use Rattle.bloom.specs.Bloom.{positions, is_set, set_bit, all_set, seen, set_all, fits, query, insert_answer, inserted}
 use Rattle.refusal.specs.declared.Refusal.{Refusal}
 
--- four reads
-pub looked : (l : List ℕ) (a b c d : ℕ) (ra rb rc rd : Bool) → ra ≡ is_set l a → rb ≡ is_set l b → rc ≡ is_set l c → rd ≡ is_set l d
-    → (ra && (rb && (rc && rd))) ≡ all_set l (a ∷ b ∷ c ∷ d ∷ [])
-unfolding all_set
-looked l a b c d ra rb rc rd ea eb ec ed = rw (ea, eb, ec, ed, and-true (is_set l d))
+-- ---- a position of those left
 
--- four bits read and set, one after the other
-module _ (l l1 l2 l3 l4 : List ℕ) (a b c d : ℕ) (s1 : l1 ≡ set_bit l a) (s2 : l2 ≡ set_bit l1 b) (s3 : l3 ≡ set_bit l2 c) (s4 : l4 ≡ set_bit l3 d) where
-  pub visited : (ra rb rc rd : Bool) → ra ≡ is_set l a → rb ≡ is_set l1 b → rc ≡ is_set l2 c → rd ≡ is_set l3 d
-      → (ra && (rb && (rc && rd))) ≡ seen l (a ∷ b ∷ c ∷ d ∷ [])
+pub within-at : (n : ℕ) (ps : List ℕ) (i : ℕ) → Within n ps → i < length ps → get_or ps i 0 / 8 < n
+within-at n [] i w h = absurd (omega arith)
+within-at n (p ∷ ps) zero w h = w.0
+within-at n (p ∷ ps) (suc i) w h = within-at n ps i w.1 (omega arith)
+
+module _ (l ps : List ℕ) (i : ℕ) (h : i < length ps) where
+  pub looked : (all r : Bool) → r ≡ is_set l (get_or ps i 0) → (all && r) && all_set l (drop (i + 1) ps) ≡ all && all_set l (drop i ps)
+  unfolding all_set
+  looked all r e = and_assoc all r (all_set l (drop (i + 1) ps)) ∙ rw (e, add-one i, drop-cons ps i 0 h)
+
+  module _ (m : List ℕ) (s : m ≡ set_bit l (get_or ps i 0)) where
+    pub visited : (all r : Bool) → r ≡ is_set l (get_or ps i 0) → (all && r) && seen m (drop (i + 1) ps) ≡ all && seen l (drop i ps)
+    unfolding seen
+    visited all r e = and_assoc all r (seen m (drop (i + 1) ps)) ∙ rw (e, s, add-one i, drop-cons ps i 0 h)
+
+    pub all-visited : set_all m (drop (i + 1) ps) ≡ set_all l (drop i ps)
+    unfolding set_all
+    all-visited = rw (s, add-one i, drop-cons ps i 0 h)
+
+-- after the last none is left
+module _ (l ps : List ℕ) (i : ℕ) (h : length ps ≤ i) where
+  pub none-looked : (all : Bool) → all && all_set l (drop i ps) ≡ all
+  unfolding all_set
+  none-looked all = rw (drop_of_length-le ps h) (and-true all)
+
+  pub none-seen : (all : Bool) → all && seen l (drop i ps) ≡ all
   unfolding seen
-  visited ra rb rc rd ea eb ec ed = rw (ea, eb, ec, ed, and-true, s3, s2, s1)
+  none-seen all = rw (drop_of_length-le ps h) (and-true all)
 
-  pub all-visited : l4 ≡ set_all l (a ∷ b ∷ c ∷ d ∷ [])
+  pub none-set : set_all l (drop i ps) ≡ l
   unfolding set_all
-  all-visited = rw (s4, s3, s2, s1)
+  none-set = rw (drop_of_length-le ps h)
+
+-- ---- the calls
 
 module _ (bits id : List ℕ) where
   -- a filter of another size is refused and stays

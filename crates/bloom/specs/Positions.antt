@@ -1,11 +1,6 @@
 -- Positions as the code passes them.
 use Rattle.std.specs.Prelude.{ℕ, ◌/◌, ◌<◌, List, [], ◌∷◌}
 use Rattle.base.specs.Number.{byte_bits}
-use Rattle.bloom.specs.declared.Four.{Four}
-
--- four positions, in order
-abbrev pub four : Four → List ℕ
-four p = p.a ∷ p.b ∷ p.c ∷ p.d ∷ []
 
 -- each position is in a filter of `bytes` bytes
 abbrev pub Within : ℕ → List ℕ → Type 0

@@ -6,7 +6,7 @@ ghost use Rattle.std.specs.Prelude.{◌≡◌, ◌*◌, ◌/◌, ◌%◌, ◌<�
 ghost use Rattle.base.specs.Number.{byte_bits};
 ghost use Rattle.bloom.specs.Bloom as Bloom;
 ghost use Rattle.bloom.specs.Bloom.{max_filter};
-ghost use Rattle.bloom.specs.Positions.{four, Within};
+ghost use Rattle.bloom.specs.Positions.{Within};
 
 use base::number::{BYTE_BITS, BYTE_BITS_32, rotate13};
 use leaf::crc::crc32;
@@ -15,14 +15,8 @@ use refusal::Refusal;
 // The most bytes of a filter.
 pub const MAX_FILTER: usize = 65536;
 
-// Four positions, in order.
-#[derive(Clone, Copy)]
-struct Four {
-    a: u32,
-    b: u32,
-    c: u32,
-    d: u32,
-}
+// How many bits a trip id has.
+const POSITIONS: usize = 4;
 
 fn step_of(hash: u32) -> u32
     ensures { result ≡ Bloom.step_of hash }
@@ -38,20 +32,20 @@ fn position_in(sum: u32, bytes: usize) -> u32
     sum % ((BYTE_BITS * bytes) as u32)
 }
 
-fn positions(hash: u32, bytes: usize) -> Four
+fn positions(hash: u32, bytes: usize) -> [u32; POSITIONS]
     requires { (0 < bytes) × (bytes ≤ max_filter) }
-    ensures { (four result ≡ Bloom.positions hash bytes) × Within bytes (four result) }
+    ensures { (result ≡ Bloom.positions hash bytes) × Within bytes result }
 {
     let step = step_of(hash);
-    let second = std::num::wrapping_add_u32(hash, step);
-    let third = std::num::wrapping_add_u32(second, step);
-    let fourth = std::num::wrapping_add_u32(third, step);
-    Four {
-        a: position_in(hash, bytes),
-        b: position_in(second, bytes),
-        c: position_in(third, bytes),
-        d: position_in(fourth, bytes),
-    }
+    let second = hash.wrapping_add(step);
+    let third = second.wrapping_add(step);
+    let fourth = third.wrapping_add(step);
+    [
+        position_in(hash, bytes),
+        position_in(second, bytes),
+        position_in(third, bytes),
+        position_in(fourth, bytes),
+    ]
 }
 
 // Whether the bit at a position is set.
@@ -74,28 +68,28 @@ fn visit(bits: &mut [u8], p: u32) -> bool
     (before >> (p % BYTE_BITS_32)) % 2 == 1
 }
 
-// Whether the bits at four positions are set.
-fn all_set(bits: &[u8], p: Four) -> bool
-    requires { Within (length bits.now) (four p) }
-    ensures { result ≡ Bloom.all_set bits.now (four p) }
+// Whether the bits at positions are all set.
+fn all_set(bits: &[u8], positions: &[u32; POSITIONS]) -> bool
+    requires { Within (length bits.now) positions.now }
+    ensures { result ≡ Bloom.all_set bits.now positions.now }
 {
-    let a = is_set(bits, p.a);
-    let b = is_set(bits, p.b);
-    let c = is_set(bits, p.c);
-    let d = is_set(bits, p.d);
-    a & (b & (c & d))
+    let mut all = true;
+    for p in positions {
+        all &= is_set(bits, *p);
+    }
+    all
 }
 
-// Reads and sets the bits at four positions in order; whether all were set.
-fn set_all(bits: &mut [u8], p: Four) -> bool
-    requires { Within (length bits.old) (four p) }
-    ensures { (result ≡ Bloom.seen bits.old (four p)) × (bits.new ≡ Bloom.set_all bits.old (four p)) }
+// Reads and sets the bits at positions in order; whether all were set.
+fn set_all(bits: &mut [u8], positions: &[u32; POSITIONS]) -> bool
+    requires { Within (length bits.old) positions.now }
+    ensures { (result ≡ Bloom.seen bits.old positions.now) × (bits.new ≡ Bloom.set_all bits.old positions.now) }
 {
-    let a = visit(bits, p.a);
-    let b = visit(bits, p.b);
-    let c = visit(bits, p.c);
-    let d = visit(bits, p.d);
-    a & (b & (c & d))
+    let mut all = true;
+    for p in positions {
+        all &= visit(bits, *p);
+    }
+    all
 }
 
 // Whether a filter has 1 to 65,536 bytes.
@@ -113,7 +107,7 @@ pub fn query(bits: &[u8], id: &[u8]) -> Result<bool, Refusal>
         return Err(Refusal::Argument);
     }
     let p = positions(crc32(0, id), bits.len());
-    Ok(all_set(bits, p))
+    Ok(all_set(bits, &p))
 }
 
 // Sets the four bits of a trip id, and answers whether all were set before.
@@ -124,7 +118,7 @@ pub fn insert(bits: &mut [u8], id: &[u8]) -> Result<bool, Refusal>
         return Err(Refusal::Argument);
     }
     let p = positions(crc32(0, id), bits.len());
-    Ok(set_all(bits, p))
+    Ok(set_all(bits, &p))
 }
 
 // What holds of the filter, for every size. The function does nothing: its contract is what is proved of the definitions

@@ -1,4 +1,3 @@
-use Rattle.bloom.specs.Positions.{four}
 use Rattle.bloom.proofs.filter_holds.Goals as goal
 use Rattle.bloom.proofs.Found.{found, clears-none, sets-only-four, same_length, answers-as-query}
 use Rattle.bloom.proofs.Sums.{differ}

@@ -1,5 +1,4 @@
 -- A filter of another size is refused and unchanged; else the four positions of the id's CRC are read and set (`insert-is`, `insert-left`).
-use Rattle.std.proofs.Common.{true, false}
 use Rattle.bloom.proofs.insert.Goals as goal
 use Rattle.std.proofs.Common.{refl, sym, ◌∙◌}
 use Rattle.bloom.proofs.Calls.{insert-refused, insert-kept, insert-is, insert-left}

@@ -1,5 +1,5 @@
 -- Adding the step three times, wrapping, gives the positions of the definition (`summed`), and each is inside the filter.
-use Rattle.std.proofs.Common.{rules}
+use Rattle.std.proofs.Common.{ℕ, ◌+◌, ◌%◌, rules, refl}
 use Rattle.bloom.proofs.positions.Goals as goal
 use Rattle.bloom.proofs.Sums.{summed}
 
@@ -7,21 +7,13 @@ pub returns : goal.returns
 returns c =
     let a = c.args in
     let s = c.step_of-step in
-    let x = c.wrapping_add_u32-second in
-    let y = c.wrapping_add_u32-third in
-    let z = c.wrapping_add_u32-fourth in
+    let x : ℕ = (a.hash + s.result) % 4294967296 in
+    let y : ℕ = (x + s.result) % 4294967296 in
+    let z : ℕ = (y + s.result) % 4294967296 in
     let p = c.position_in in
     let q = c.position_in-2 in
     let u = c.position_in-3 in
     let v = c.position_in-4 in (
-      summed a.hash a.bytes s.result s.ensures x.result y.result z.result p.result q.result u.result v.result
-          (search rules)
-          x.ensures.value
-          y.ensures.value
-          z.ensures.value
-          p.ensures.0
-          q.ensures.0
-          u.ensures.0
-          v.ensures.0,
+      summed a.hash a.bytes s.result s.ensures x y z p.result q.result u.result v.result (search rules) refl refl refl p.ensures.0 q.ensures.0 u.ensures.0 v.ensures.0,
       (p.ensures.1, (q.ensures.1, (u.ensures.1, (v.ensures.1, tt)))),
     )

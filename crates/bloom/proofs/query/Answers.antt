@@ -1,5 +1,4 @@
 -- A filter of another size is refused; else the answer is whether the four positions of the id's CRC are all set (`query-is`).
-use Rattle.std.proofs.Common.{true, false}
 use Rattle.bloom.proofs.query.Goals as goal
 use Rattle.std.proofs.Common.{refl, sym, ◌∙◌}
 use Rattle.bloom.proofs.Calls.{query-refused, query-is}

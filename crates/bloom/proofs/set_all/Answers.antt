@@ -1,19 +1,26 @@
--- Four calls of `visit`, one after the other, are `seen` and `set_all` of the four positions (`visited`, `all-visited`).
+use Rattle.std.proofs.Common.{sym, ap, ◌∙◌, length, arith}
 use Rattle.bloom.proofs.set_all.Goals as goal
-use Rattle.bloom.proofs.Calls.{visited, all-visited}
+use Rattle.bloom.proofs.Bits.{length-bit}
+use Rattle.bloom.proofs.Calls.{within-at, visited, all-visited, none-seen, none-set}
+
+pub visit-all-requires : goal.visit-all-requires
+visit-all-requires c =
+    let h = within-at _ c.args.positions.now c.loop-p.p-index c.requires (omega arith) in
+    omega (arith, h, c.loop-p.invariant.same_length)
+
+pub loop-p-preserved : goal.loop-p-preserved
+loop-p-preserved c =
+    let l = c.loop-p in
+    let ps = c.args.positions.now in
+    let v = c.visit-all in
+    record {
+      same_length = ap length v.ensures.1 ∙ length-bit _ _ ∙ l.invariant.same_length;
+      answer = visited l.bits ps l.p-index (omega arith) v.new.bits v.ensures.1 l.all _ v.ensures.0 ∙ l.invariant.answer;
+      filter = all-visited l.bits ps l.p-index (omega arith) v.new.bits v.ensures.1 ∙ l.invariant.filter;
+    }
 
 pub returns : goal.returns
 returns c =
-    let x = c.args in
-    let v1 = c.visit-a in
-    let v2 = c.visit-b in
-    let v3 = c.visit-c in
-    let v4 = c.visit-d in
-    let s1 = v1.ensures.1 in
-    let s2 = v2.ensures.1 in
-    let s3 = v3.ensures.1 in
-    let s4 = v4.ensures.1 in (
-      visited x.bits.now v1.new.bits v2.new.bits v3.new.bits v4.new.bits x.p.a x.p.b x.p.c x.p.d s1 s2 s3 s4 _ _ _ _
-          v1.ensures.0 v2.ensures.0 v3.ensures.0 v4.ensures.0,
-      all-visited x.bits.now v1.new.bits v2.new.bits v3.new.bits v4.new.bits x.p.a x.p.b x.p.c x.p.d s1 s2 s3 s4,
-    )
+    let l = c.loop-p in
+    let ps = c.args.positions.now in
+    (sym (none-seen l.bits ps l.p-index (omega arith) l.all) ∙ l.invariant.answer, sym (none-set l.bits ps l.p-index (omega arith)) ∙ l.invariant.filter)
