@@ -1,7 +1,7 @@
 """The wrong programs of crates/CRATE/must-fail/*.edit, as the tools read them, and what a log says of one."""
 import re
 
-from sources import functions_of
+from sources import functions_of, impl_at
 
 # What an error says where a name is gone or a text can't be read: that is no fact.
 FORM = re.compile(r"can be named from here|is not in scope|has no field|is no name|has no `|error\[(?!proof)")
@@ -79,7 +79,8 @@ def alone(root, programs, name):
             path = root / "crates" / p.crate / file
             text = path.read_text(encoding="utf-8") if path.is_file() else ""
             at = text.find(old)
-            if file.endswith(f"{'/'.join(inner)}.rt") and any(b <= at < e and n == last for b, e, n, *_ in functions_of(text)):
+            there = file.endswith(f"{'/'.join(inner)}.rt") or (inner and inner[-1] == impl_at(text, at))
+            if there and any(b <= at < e and n == last for b, e, n, *_ in functions_of(text)):
                 return True
         return False
 

@@ -4,6 +4,13 @@ import re
 HEAD = re.compile(r'^ *(?P<pub>pub )?(?:pub\([^)]*\) )?(?:extern "C" )?fn (?P<name>\w+)', re.M)
 END = re.compile(r"^\{?\}", re.M)
 PAIRS = {"(": ")", "[": "]", "{": "}"}
+IMPL = re.compile(r"^impl(?:<[^>{]*>)? (?:(?P<trait>[^{]*?) for )?(?P<type>[^{]*?) \{$", re.M)
+
+
+def impl_at(text, at):
+    """The name that Rattle gives the impl that a place of a file is in, as KeyNumbersFromResultUsizeRefusal; none outside of one."""
+    before = [m for m in IMPL.finditer(text) if m.start() <= at < END.search(text, m.end()).end()]
+    return "".join(w[0].upper() + w[1:] for part in (before[0]["type"], before[0]["trait"] or "") for w in re.findall(r"(?<!')\b\w+", part)) if before else ""
 
 
 def functions_of(text):
