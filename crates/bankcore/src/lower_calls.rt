@@ -11,7 +11,7 @@ ghost use Rattle.bankcore.specs.Stamp.{stamp_of};
 ghost use Rattle.bankcore.specs.Operation as Operations;
 ghost use Rattle.bankcore.specs.Claims.{Claims};
 
-use cstate::{State, UpdateStep, after, after_parts, beginning_of, parts_of, writer_of};
+use cstate::{State, UpdateStep, after, after_parts};
 use due::due_parts;
 use header::Bank;
 use header::{COMMIT_OFFSET, HEADER_SIZE};
@@ -23,7 +23,9 @@ use lower::table::{end_parts, sources_ended, table_parts};
 use record::{VERSION, decode};
 use refusal::{Refusal, number_u32};
 use region::{SECTOR_SIZE, WRITE_UNIT};
-use writer::{Beginning, Contents, Operation, Stage, is_done, parts_in_range, target};
+use writer::{
+    Beginning, Contents, Operation, Parts, Stage, Writer, is_done, parts_in_range, target,
+};
 
 // The numbers of an update's operations.
 pub const OPERATION_NONE: u32 = 0;
@@ -79,8 +81,8 @@ pub extern "C" fn tt_update_source(state: State, bytes: &[u8]) -> UpdateStep
     ensures { result ≡ Answers.after (Lower.source_step (writer_of state) (decoded current_version bytes.now)) state }
 {
     let r = decode(bytes, VERSION);
-    let b = beginning_of(state);
-    let p = parts_of(state);
+    let b = Beginning::from(state);
+    let p = Parts::from(state);
     let s = source_parts(b, p);
     let answer = s.answer;
     let old = state.sources;
@@ -97,8 +99,8 @@ pub extern "C" fn tt_update_source(state: State, bytes: &[u8]) -> UpdateStep
 pub extern "C" fn tt_update_table(state: State, table: u32) -> UpdateStep
     ensures { result ≡ Answers.after (Lower.table_step (writer_of state) table) state }
 {
-    let b = beginning_of(state);
-    let p = parts_of(state);
+    let b = Beginning::from(state);
+    let p = Parts::from(state);
     let s = table_parts(b, p, table);
     let sources = state.sources;
     let tail = state.tail;
@@ -114,8 +116,8 @@ pub extern "C" fn tt_update_table(state: State, table: u32) -> UpdateStep
 pub extern "C" fn tt_update_bytes(state: State, bytes: &[u8]) -> UpdateStep
     ensures { result ≡ Answers.after (Lower.bytes_step (writer_of state) bytes.now) state }
 {
-    let b = beginning_of(state);
-    let p = parts_of(state);
+    let b = Beginning::from(state);
+    let p = Parts::from(state);
     let mut tail = state.tail;
     let s = append_parts(b, p, &mut tail, bytes);
     let sources = state.sources;
@@ -129,8 +131,8 @@ pub extern "C" fn tt_update_bytes(state: State, bytes: &[u8]) -> UpdateStep
 pub extern "C" fn tt_update_end(state: State) -> UpdateStep
     ensures { result ≡ Answers.after (Lower.end_step (writer_of state)) state }
 {
-    let b = beginning_of(state);
-    let p = parts_of(state);
+    let b = Beginning::from(state);
+    let p = Parts::from(state);
     let e = end_parts(b, p);
     let s = e.step;
     let answer = s.answer;
@@ -147,8 +149,8 @@ pub extern "C" fn tt_update_end(state: State) -> UpdateStep
 pub extern "C" fn tt_update_close(state: State) -> UpdateStep
     ensures { result ≡ Answers.after (Lower.close_step (writer_of state)) state }
 {
-    let b = beginning_of(state);
-    let p = parts_of(state);
+    let b = Beginning::from(state);
+    let p = Parts::from(state);
     let s = close_parts(b, p);
     let sources = state.sources;
     let tail = state.tail;
@@ -164,8 +166,8 @@ pub extern "C" fn tt_update_due(region: &mut [u8], state: State) -> UpdateStep
     ensures value { result ≡ Answers.after (Due.due_step region.old (writer_of state)) state }
     ensures region_after { region.new ≡ Due.due_region region.old (writer_of state) }
 {
-    let b = beginning_of(state);
-    let p = parts_of(state);
+    let b = Beginning::from(state);
+    let p = Parts::from(state);
     let tail = state.tail;
     let s = due_parts(b, p, &tail, region);
     let sources = state.sources;
@@ -281,8 +283,8 @@ fn next_operation(b: Beginning, t: Contents, s: Stage) -> OperationNumbers
 pub extern "C" fn tt_update_operation(state: State) -> OperationNumbers
     ensures { result ≡ Operations.operation_of (writer_of state) }
 {
-    let b = beginning_of(state);
-    let p = parts_of(state);
+    let b = Beginning::from(state);
+    let p = Parts::from(state);
     let t = p.contents;
     let x = p.tables;
     let s = p.stage;
@@ -300,7 +302,7 @@ pub extern "C" fn tt_update_operation(state: State) -> OperationNumbers
 pub extern "C" fn tt_update_unchanged(region: &[u8], state: State) -> UpdateStep
     ensures { result ≡ Answers.after (Unchanged.unchanged_step region.now (writer_of state)) state }
 {
-    let s = commit::unchanged::unchanged(writer_of(state), region);
+    let s = commit::unchanged::unchanged(Writer::from(state), region);
     after(s, state)
 }
 
@@ -332,7 +334,7 @@ pub extern "C" fn tt_update_commit(
     ensures region_after { region.new ≡ Commit.commit_region region.old (writer_of state) (stamp_of stamped stamp) current }
 {
     let m = stamp_of(stamped, stamp);
-    let s = commit::commit(writer_of(state), region, m, current);
+    let s = commit::commit(Writer::from(state), region, m, current);
     after(s, state)
 }
 
@@ -345,7 +347,7 @@ pub extern "C" fn tt_update_commit_word(region: &mut [u8], state: State) -> Upda
     ensures value { result ≡ Answers.after (Commit.word_step region.old (writer_of state)) state }
     ensures region_after { region.new ≡ Commit.word_region region.old (writer_of state) }
 {
-    let s = commit::commit_word(writer_of(state), region);
+    let s = commit::commit_word(Writer::from(state), region);
     after(s, state)
 }
 

@@ -5,9 +5,10 @@ ghost use Rattle.upper.specs.Upper as Upper;
 ghost use Rattle.cstate.specs.State.{writer_of};
 ghost use Rattle.cstate.specs.Answers as Answers;
 
-use cstate::{State, UpdateStep, after, after_parts, beginning_of, parts_of, writer_of};
+use cstate::{State, UpdateStep, after, after_parts};
 use record::{VERSION, decode};
 use upper::rows::row_parts;
+use writer::{Beginning, Parts, Writer};
 
 // Begins an update and appends the key of an identity and picks. Refused, it gives back the state that it was passed.
 //   region: the region, TT_REGION_SIZE bytes
@@ -46,7 +47,7 @@ pub extern "C" fn tt_upper_source(region: &mut [u8], state: State, bytes: &[u8])
     ensures region_after { region.new ≡ Upper.upper_region region.old (writer_of state) (Upper.source_with_dates (decoded current_version bytes.now)) }
 {
     let r = decode(bytes, VERSION);
-    let s = upper::source::source(writer_of(state), region, r);
+    let s = upper::source::source(Writer::from(state), region, r);
     after(s, state)
 }
 
@@ -60,7 +61,7 @@ pub extern "C" fn tt_upper_table(region: &mut [u8], state: State, table: u32) ->
     ensures value { result ≡ Answers.after (Upper.upper_step region.old (writer_of state) (Upper.table_with_names table)) state }
     ensures region_after { region.new ≡ Upper.upper_region region.old (writer_of state) (Upper.table_with_names table) }
 {
-    let s = upper::table::table(writer_of(state), region, table);
+    let s = upper::table::table(Writer::from(state), region, table);
     after(s, state)
 }
 
@@ -80,8 +81,8 @@ pub extern "C" fn tt_upper_row(
     ensures value { result ≡ Answers.after (Upper.upper_step region.old (writer_of state) (Upper.row texts.now lengths.now)) state }
     ensures region_after { region.new ≡ Upper.upper_region region.old (writer_of state) (Upper.row texts.now lengths.now) }
 {
-    let b = beginning_of(state);
-    let p = parts_of(state);
+    let b = Beginning::from(state);
+    let p = Parts::from(state);
     let mut tail = state.tail;
     let s = row_parts(b, p, &mut tail, region, texts, lengths);
     let sources = state.sources;
@@ -97,7 +98,7 @@ pub extern "C" fn tt_upper_end(region: &mut [u8], state: State) -> UpdateStep
     ensures value { result ≡ Answers.after (Upper.upper_step region.old (writer_of state) Upper.table_end) state }
     ensures region_after { region.new ≡ Upper.upper_region region.old (writer_of state) Upper.table_end }
 {
-    let s = upper::table::end(writer_of(state), region);
+    let s = upper::table::end(Writer::from(state), region);
     after(s, state)
 }
 
@@ -110,6 +111,6 @@ pub extern "C" fn tt_upper_close(region: &mut [u8], state: State) -> UpdateStep
     ensures value { result ≡ Answers.after (Upper.upper_step region.old (writer_of state) Upper.closing) state }
     ensures region_after { region.new ≡ Upper.upper_region region.old (writer_of state) Upper.closing }
 {
-    let s = upper::begin::close(writer_of(state), region);
+    let s = upper::begin::close(Writer::from(state), region);
     after(s, state)
 }

@@ -117,47 +117,53 @@ fn is_set(flag: u32) -> bool
 }
 
 // What the beginning of a state's update fixed.
-pub fn beginning_of(s: State) -> Beginning
-    ensures { result ≡ (Saved.writer_of s).beginning }
-{
-    let bank = s.bank;
-    let active = active_of(s.stage, s.active, bank);
-    Beginning {
-        active,
-        comparing: is_set(s.comparing),
-        now: s.now,
+impl From<State> for Beginning {
+    ghost from_gives = { λ s x. x ≡ (Saved.writer_of s).beginning };
+
+    fn from(s: State) -> Beginning {
+        let bank = s.bank;
+        let active = active_of(s.stage, s.active, bank);
+        Beginning {
+            active,
+            comparing: is_set(s.comparing),
+            now: s.now,
+        }
     }
 }
 
 // The parts of the writer that a state means.
-pub fn parts_of(s: State) -> Parts
-    ensures { result ≡ parts_of (Saved.writer_of s) }
-{
-    let stage = stage_of(s.stage, s.first, s.second);
-    let contents = Contents {
-        written: s.written,
-        fill: s.fill,
-        crc: s.crc,
-        different: is_set(s.different),
-        closed: is_set(s.closed),
-    };
-    let tables = s.tables;
-    Parts {
-        stage,
-        contents,
-        tables,
+impl From<State> for Parts {
+    ghost from_gives = { λ s x. x ≡ parts_of (Saved.writer_of s) };
+
+    fn from(s: State) -> Parts {
+        let stage = stage_of(s.stage, s.first, s.second);
+        let contents = Contents {
+            written: s.written,
+            fill: s.fill,
+            crc: s.crc,
+            different: is_set(s.different),
+            closed: is_set(s.closed),
+        };
+        let tables = s.tables;
+        Parts {
+            stage,
+            contents,
+            tables,
+        }
     }
 }
 
 // The writer that a state means.
-pub fn writer_of(s: State) -> Writer
-    ensures { result ≡ Saved.writer_of s }
-{
-    let b = beginning_of(s);
-    let p = parts_of(s);
-    let sources = s.sources;
-    let tail = s.tail;
-    whole(b, p, sources, tail)
+impl From<State> for Writer {
+    ghost from_gives = { λ s x. x ≡ Saved.writer_of s };
+
+    fn from(s: State) -> Writer {
+        let b = Beginning::from(s);
+        let p = Parts::from(s);
+        let sources = s.sources;
+        let tail = s.tail;
+        whole(b, p, sources, tail)
+    }
 }
 
 // A stage's number and the two numbers of its operation.
@@ -284,14 +290,16 @@ fn state_with(b: Beginning, p: Parts, sources: [Source; SOURCES], tail: [u8; TAI
 }
 
 // The state of a writer.
-pub fn state_of(w: Writer) -> State
-    ensures { result ≡ Saved.saved_of w }
-{
-    let b = w.beginning;
-    let p = writer::parts_of(w);
-    let sources = w.sources;
-    let tail = w.tail;
-    state_with(b, p, sources, tail)
+impl From<Writer> for State {
+    ghost from_gives = { λ w x. x ≡ Saved.saved_of w };
+
+    fn from(w: Writer) -> State {
+        let b = w.beginning;
+        let p = writer::parts_of(w);
+        let sources = w.sources;
+        let tail = w.tail;
+        state_with(b, p, sources, tail)
+    }
 }
 
 // What a call of an update answers: answer is one of TT_ANSWER_.., count the number of bytes appended.
@@ -400,7 +408,7 @@ pub fn after(s: Step, state: State) -> UpdateStep
     let numbers = UpdateNumbers::from(a);
     if is_answer(a) {
         let w = s.writer;
-        let v = state_of(w);
+        let v = State::from(w);
         return UpdateStep { numbers, state: v };
     }
     UpdateStep { numbers, state }

@@ -19,8 +19,8 @@ returns c =
     let w = c.sources_ended-sources in
     let d = c.is_done in
     let x = c.end_parts-e in
-    let p = c.parts_of-p in
-    let o = c.beginning_of-b in
+    let p = c.from-p in
+    let o = c.from-b in
     let s = c.args.state in
     let k : Bool → List Source = λ t. sources_ended t s.sources p.result.tables x.result.block in
     c.after_parts.ensures

@@ -12,8 +12,8 @@ pub returns-then-not-parts_in_range : goal.returns-then-not-parts_in_range
 unfolding in_range writer_of
 returns-then-not-parts_in_range c =
     let r = c in
-    let p = r.parts_of-p in
-    let o = r.beginning_of-b in
+    let p = r.from-p in
+    let o = r.from-b in
     let s = r.args.state in
     let h = sym r.parts_in_range.ensures ∙ c.if-not-parts_in_range.true in
     c.no_operation.ensures
@@ -24,8 +24,8 @@ pub returns : goal.returns
 unfolding in_range writer_of
 returns c =
     let r = c in
-    let p = r.parts_of-p in
-    let o = r.beginning_of-b in
+    let p = r.from-p in
+    let o = r.from-b in
     let s = r.args.state in
     let h = sym r.parts_in_range.ensures ∙ c.if-not-parts_in_range.false in
     c.next_operation.ensures

@@ -12,8 +12,8 @@ pub returns : goal.returns
 unfolding writer_of
 returns c =
     let x = c.table_parts-s in
-    let p = c.parts_of-p in
-    let o = c.beginning_of-b in
+    let p = c.from-p in
+    let o = c.from-b in
     let a = c.args in
     let s = a.state in
     c.after_parts.ensures

@@ -1,5 +1,5 @@
 use Rattle.writer.specs.Parts.{parts_of, whole_of}
-use Rattle.cstate.proofs.writer_of.Goals as goal
+use Rattle.cstate.proofs.WriterFromState.from.Goals as goal
 use mathlib.Core.Path.{◌∙◌}
 use Rattle.cstate.specs.State.{writer_of}
 
@@ -7,4 +7,4 @@ pub returns : goal.returns
 unfolding writer_of
 returns c =
     let s = c.args.s in
-    c.whole.ensures ∙ (λ i. whole_of (c.beginning_of-b.ensures i) (c.parts_of-p.ensures i) s.sources s.tail)
+    c.whole.ensures ∙ (λ i. whole_of (c.from-b.ensures i) (c.from-p.ensures i) s.sources s.tail)

@@ -1,6 +1,6 @@
 -- The active bank is read from its numbers by contract; the time is held as it is, since it fits an i64.
 use Rattle.std.proofs.Common.{w64}
-use Rattle.cstate.proofs.beginning_of.Goals as goal
+use Rattle.cstate.proofs.BeginningFromState.from.Goals as goal
 use mir.ValLaws.{to_z-of_z}
 use Rattle.cstate.specs.State.{writer_of}
 

@@ -1,4 +1,4 @@
-use Rattle.cstate.proofs.parts_of.Goals as goal
+use Rattle.cstate.proofs.PartsFromState.from.Goals as goal
 use Rattle.cstate.specs.State.{writer_of}
 
 pub returns : goal.returns
