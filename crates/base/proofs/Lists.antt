@@ -6,7 +6,7 @@ use Prim.Native.Nat.{ℕ, suc, zero, ◌+◌, ◌*◌, ◌-◌, ◌<◌, ◌≤�
 use native.Mathlib.Omega.{arith}
 use native.Mathlib.Nat.{add-zero, zero-add, suc-add, suc-mul, mul-suc, mul-zero, zero-sub, zero-mul}
 use native.Mathlib.Numerals.{add-one, unary_clauses}
-use lib.ListN.{length, set, get_or, drop, take, length-append, length-drop, replicate}
+use lib.ListN.{length, set, get_or, drop, take, length-append, replicate}
 use lib.Seq.{sets, sets-eq, take_at, drop_at, take-suc, length-take-le, set_at, drop-cons, append_snoc, drop-drop, take-take}
 use Rattle.std.proofs.lemmas.List.{drop-take}
 use Rattle.std.specs.Simd.{first_chunks}
@@ -34,9 +34,6 @@ module _ {A : Type 0} (f : List ℕ → ℕ → A) (step : ℕ) (l : List ℕ) w
       ∙ set_at (many f step l at n) (get_or d n z) (drop (suc n) d) x n (length-many at n)
       ∙ rw (add-one, many_more at n, e) (sym (append_snoc (many f step l at n) (f l (at + n * step)) (drop (suc n) d)))
 
-  pub many-length : (at n : ℕ) (d : List A) → n ≤ length d → length (many f step l at n ++ drop n d) ≡ length d
-  many-length at n d h = length-append (many f step l at n) (drop n d) ∙ omega (arith, length-many at n, length-drop n d)
-
 pub drop-fill : {A : Type 0} (d : A) (n k : ℕ) → drop k (fill d n) ≡ fill d (n - k)
 unfolding fill
 drop-fill d n zero = simp unary_clauses
@@ -58,9 +55,6 @@ clear-more l j h =
     ap (λ (t : List ℕ). set (fill {A = ℕ} 0 j ++ t) j 0) (drop-cons l j 0 h)
     ∙ set_at (fill {A = ℕ} 0 j) (get_or l j 0) (drop (suc j) l) 0 j (length-fill {A = ℕ} 0 j)
     ∙ rw (add-one, fill_more j) (sym (append_snoc (fill {A = ℕ} 0 j) 0 (drop (suc j) l)))
-
-pub clear-length : (l : List ℕ) (j : ℕ) → j ≤ length l → length (fill {A = ℕ} 0 j ++ drop j l) ≡ length l
-clear-length l j h = length-append (fill {A = ℕ} 0 j) (drop j l) ∙ omega (arith, length-fill {A = ℕ} 0 j, length-drop j l)
 
 -- one store after the other equals both at once
 pub sets-sets : (l a b : List ℕ) (i : ℕ) → sets (sets l i a) (i + length a) b ≡ sets l i (a ++ b)

@@ -1,12 +1,12 @@
 -- Bytes as one number, the first byte the lowest: joined parts, bounds, and eight bytes.
-use mathlib.Core.Path.{◌≡◌, refl, sym, ap, ◌∙◌}
+use mathlib.Core.Path.{◌≡◌, sym, ap, ◌∙◌}
 use mathlib.Core.List.{List, [], ◌∷◌, ◌++◌}
-use Prim.Native.Nat.{ℕ, zero, suc, ◌+◌, ◌*◌, ◌%◌, ◌^◌, ◌<◌, ◌≤◌}
-use native.Mathlib.Nat.{add-zero, add-suc, mod-lt, mul-suc, mul_assoc, lt_of_lt_of_le, min-le_left}
+use Prim.Native.Nat.{ℕ, suc, ◌+◌, ◌*◌, ◌%◌, ◌^◌, ◌<◌, ◌≤◌}
+use native.Mathlib.Nat.{mod-lt, mul-suc, mul_assoc, lt_of_lt_of_le, min-le_left}
 use native.Mathlib.Omega.{arith}
 use lib.Pow.{pow_pos, pow-add, pow_mono}
-use lib.ListN.{length, take, drop, get_or, length-take}
-use lib.Seq.{drop-cons, take-add, length-take-le}
+use lib.ListN.{length, take, drop, length-take}
+use lib.Seq.{take-add, length-take-le}
 use Rattle.base.specs.Little.{little}
 
 pub little-append : (s t : List ℕ) → little (s ++ t) ≡ little t * 2 ^ (8 * length s) + little s
@@ -37,22 +37,3 @@ pub part-lt : (n : ℕ) (s : List ℕ) → little (take n s) < 2 ^ (8 * n)
 part-lt n s =
     lt_of_lt_of_le (little-lt (take n s))
     (pow_mono {i = 8 * length (take n s)} {j = 8 * n} (omega (arith, length-take n s, min-le_left n (length s))))
-
--- ---- eight bytes
-
-gets : ℕ → List ℕ → ℕ → ℕ → List ℕ
-gets zero s i k = []
-gets (suc n) s i k = get_or s (i + k) 0 ∷ gets n s i (suc k)
-
-part : (n : ℕ) (s : List ℕ) (i k : ℕ) → i + k + n ≤ length s → take n (drop (i + k) s) ≡ gets n s i k
-unfolding gets
-part zero s i k h = refl
-part (suc n) s i k h =
-    ap (take (suc n)) (drop-cons s (i + k) 0 (omega arith))
-    ∙ ap (λ (l : List ℕ). get_or s (i + k) 0 ∷ l) (ap (λ (j : ℕ). take n (drop j s)) (sym (add-suc i k)) ∙ part n s i (suc k) (omega arith))
-
--- eight bytes of a list, one by one
-pub eight-bytes : (s : List ℕ) (i : ℕ) → i + 8 ≤ length s
-    → get_or s i 0 ∷ get_or s (i + 1) 0 ∷ get_or s (i + 2) 0 ∷ get_or s (i + 3) 0 ∷ get_or s (i + 4) 0 ∷ get_or s (i + 5) 0 ∷ get_or s (i + 6) 0 ∷ get_or s (i + 7) 0 ∷ [] ≡ take 8 (drop i s)
-unfolding gets
-eight-bytes s i h = sym (rw (add-zero i) at (part 8 s i 0 (omega arith)))

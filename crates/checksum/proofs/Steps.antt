@@ -3,12 +3,11 @@
 use mathlib.Core.Path.{◌≡◌, refl, sym, ap, ap₂, ◌∙◌}
 use mathlib.Core.List.{List, [], ◌∷◌, ◌++◌}
 use Prim.Native.Nat.{ℕ, zero, suc, ◌+◌, ◌*◌, ◌/◌, ◌%◌, ◌^◌, ◌<◌}
-use native.Mathlib.Nat.{mod-lt, mul-one, suc-add, zero-add, mul-suc, add_comm, mod-eq_of_lt, zero-lt-suc}
+use native.Mathlib.Nat.{mod-lt, mul-one, suc-add, zero-add, mul-suc, add_comm, zero-lt-suc}
 use native.Mathlib.Omega.{arith}
-use lib.Pow.{pow_pos, split, shr-shr, shr_lt}
+use lib.Pow.{pow_pos, split}
 use lib.Bits.{bit_xor, differ, xor_comm, xor_zero_r, xor_shifted, shifted_half, shifted_even, xor_lt}
-use lib.ListN.{length, take, drop}
-use lib.Seq.{take-add}
+use lib.ListN.{length}
 use Rattle.base.specs.Little.{little}
 use Rattle.checksum.specs.Register.{step, steps, run}
 use Rattle.checksum.proofs.Xor.{digit-ind, xor-odd, xor-half, xor_assoc, xor-four}
@@ -57,34 +56,12 @@ steps-split k m x =
     ∙ ap (λ (y : ℕ). bit_xor y (steps (k + m) (x % 2 ^ k))) (steps-add k m (x / 2 ^ k * 2 ^ k) ∙ ap (steps m) (steps-shift k (x / 2 ^ k)))
     ∙ xor_comm (steps m (x / 2 ^ k)) (steps (k + m) (x % 2 ^ k))
 
--- a register of 32 bits, byte by byte
-pub quad : (m x : ℕ) → x < 2 ^ 32
-    → bit_xor (bit_xor (steps (8 + (8 + (8 + (8 + m)))) (x % 256)) (steps (8 + (8 + (8 + m))) (x / 2 ^ 8 % 256)))
-    (bit_xor (steps (8 + (8 + m)) (x / 2 ^ 16 % 256)) (steps (8 + m) (x / 2 ^ 24 % 256)))
-    ≡ steps (8 + (8 + (8 + (8 + m)))) x
-quad m x h =
-    xor_assoc (steps (8 + (8 + (8 + (8 + m)))) (x % 256)) (steps (8 + (8 + (8 + m))) (x / 2 ^ 8 % 256))
-    (bit_xor (steps (8 + (8 + m)) (x / 2 ^ 16 % 256)) (steps (8 + m) (x / 2 ^ 24 % 256)))
-    ∙ sym
-    (steps-split 8 (8 + (8 + (8 + m))) x
-    ∙ ap (bit_xor (steps (8 + (8 + (8 + (8 + m)))) (x % 256)))
-    (steps-split 8 (8 + (8 + m)) (x / 2 ^ 8)
-    ∙ ap (bit_xor (steps (8 + (8 + (8 + m))) (x / 2 ^ 8 % 256)))
-    (ap (steps (8 + (8 + m))) (shr-shr x 8 8)
-    ∙ steps-split 8 (8 + m) (x / 2 ^ 16)
-    ∙ ap (bit_xor (steps (8 + (8 + m)) (x / 2 ^ 16 % 256)))
-    (ap (steps (8 + m)) (shr-shr x 16 8 ∙ sym (mod-eq_of_lt (shr_lt 8 24 h)))))))
-
 -- ---- bytes
 
 pub run-append : (r : ℕ) (s t : List ℕ) → run r (s ++ t) ≡ run (run r s) t
 unfolding run
 run-append r [] t = refl
 run-append r (b ∷ s) t = run-append (steps 8 (bit_xor r (b % 256))) s t
-
--- one more part of a list
-pub run-part : (r n m : ℕ) (s : List ℕ) → run (run r (take n s)) (take m (drop n s)) ≡ run r (take (n + m) s)
-run-part r n m s = sym (ap (run r) (take-add n m s) ∙ run-append r (take n s) (take m (drop n s)))
 
 -- a run over bytes is eight steps a byte, the bytes added at the start as one number
 pub run-steps : (s : List ℕ) (r : ℕ) → run r s ≡ steps (8 * length s) (bit_xor r (little s))

@@ -25,11 +25,6 @@ time-of l at x y p q =
     let e : x + y * 4294967296 ≡ word l at + word l (at + 4) * 4294967296 = rw (p, q, word-drop l at 0, word-drop l at 4, add-zero at) in
     ap (λ (n : ℕ). signed 64 n) e
 
--- fits-at: whether n bytes fit at i
-pub fits-at-by : (i n len : ℕ) → n ≤ len → (t : Bool) → leb (i + n) len ≡ t → leb i (len - n) ≡ t
-fits-at-by i n len h true e = let k = leb-true (i + n) len e in le-leb i (len - n) (omega arith)
-fits-at-by i n len h false e = let k = leb-false (i + n) len e in lt-leb i (len - n) (omega arith)
-
 -- month_days
 pub no_month : (y m : ℕ) → 12 < m → 0 ≡ get_or (0 ∷ month_days y) m 0
 unfolding month_days
