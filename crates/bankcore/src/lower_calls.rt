@@ -13,8 +13,7 @@ ghost use Rattle.bankcore.specs.Claims.{Claims};
 
 use cstate::{State, UpdateStep, after, after_parts};
 use due::due_parts;
-use header::Bank;
-use header::{COMMIT_OFFSET, HEADER_SIZE};
+use header::{Bank, COMMIT_OFFSET, HEADER_SIZE};
 use leaf::bytes::WORD_SIZE;
 use lower::append::append_parts;
 use lower::begin::close_parts;

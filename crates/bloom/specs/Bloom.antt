@@ -1,5 +1,5 @@
 -- The trip filter: 01, "cache.rs, bloom". The filter is a list of bytes.
-use Rattle.std.specs.Prelude.{ℕ, ◌+◌, ◌*◌, ◌/◌, ◌%◌, ◌^◌, Bool, true, false, ◌&&◌, List, [], ◌∷◌, length, ◌==◌, bit_or, nat_le, slice_set, Ok, Err, Result}
+use Rattle.std.specs.Prelude.{ℕ, ◌+◌, ◌*◌, ◌/◌, ◌%◌, ◌^◌, Bool, true, ◌&&◌, List, [], ◌∷◌, length, ◌==◌, bit_or, nat_le, slice_set, Ok, Err, Result}
 use Rattle.base.specs.Number.{pick, byte_bits, rotation, wrap32, rotate_left32}
 use Rattle.base.specs.Lists.{byte}
 use Rattle.leaf.specs.Crc.{crc32}

@@ -75,7 +75,12 @@ fn differs_from(region: &[u8], b: Bank, t: Contents, tail: &[u8; TAIL_SIZE]) -> 
 }
 
 #[tactic(auto, unfolding(crate::specs::Due::differs))]
-fn differs(region: &[u8], l: Result<Option<Bank>, Refusal>, t: Contents, tail: &[u8; TAIL_SIZE]) -> bool
+fn differs(
+    region: &[u8],
+    l: Result<Option<Bank>, Refusal>,
+    t: Contents,
+    tail: &[u8; TAIL_SIZE],
+) -> bool
     requires { t.fill ≤ tail_size }
     ensures { result ≡ Due.differs region.now l t tail.now }
 {

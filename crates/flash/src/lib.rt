@@ -2,7 +2,7 @@
 #![tactic(auto)]
 
 ghost use Rattle.std.specs.Prelude.{◌≡◌, true, ◌+◌, ◌≤◌, length};
-ghost use Rattle.flash.specs.Flash.{blank, clear, within, erased_in, written_in};
+ghost use Rattle.flash.specs.Flash.{clear, within, erased_in, written_in};
 ghost use Rattle.flash.specs.Claims.{Claims};
 ghost use Rattle.region.specs.Region.{region_size, bank_size, last_bank};
 

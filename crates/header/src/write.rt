@@ -1,27 +1,16 @@
 // A bank's header as commit writes it, and whether a bank is fit to be committed.
 ghost use Rattle.std.specs.Prelude.{◌≡◌, ◌*◌, ◌≤◌, min, length, take};
 ghost use Rattle.std.proofs.lemmas.List.Edits.{sets};
-ghost use Rattle.record.specs.Types.{Sized};
-ghost use Rattle.record.specs.Record.{record_size, table_words, source_bytes, stamp_size, id_size, validator_size};
+ghost use Rattle.record.specs.Record.{record_size, source_bytes};
 ghost use Rattle.base.specs.Lists.{puts, fill};
 ghost use Rattle.header.specs.Header.{header_size, max_sources, data_crc_offset, records_offset};
-ghost use Rattle.header.specs.WriteHeader.{
-  magic_to_length,
-  crc_to_checked,
-  header_bytes,
-  blank_word,
-  commit_bytes,
-  text_ok,
-  is_fit,
-};
-ghost use Rattle.base.specs.Table.{max_tables};
+ghost use Rattle.header.specs.WriteHeader.{magic_to_length, crc_to_checked, header_bytes, blank_word, commit_bytes, text_ok, is_fit};
 
 use crate::{
     BLANK_WORD, Bank, CHECKED_OFFSET, COMMIT_OFFSET, COUNT_OFFSET, CRC_OFFSET, DATA_CRC_OFFSET,
     GENERATION_OFFSET, HEADER_SIZE, KEY_OFFSET, LENGTH_OFFSET, MAGIC, MAGIC_OFFSET, RECORDS_OFFSET,
     SOURCES, SOURCES_32, VERSION_OFFSET, ZERO_OFFSET, source_ok, span_ok,
 };
-use base::table::TABLES;
 use leaf::bytes::{WORD_SIZE, put, put_time};
 use leaf::crc::crc32;
 use record::{

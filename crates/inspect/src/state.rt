@@ -1,7 +1,11 @@
 // What happened to a bank, from its bytes.
 use base::slice::part;
 use base::table::TABLES;
-use header::{Bank, CHECKED_OFFSET, COMMIT_OFFSET, COMMIT_WORD, COUNT_OFFSET, CRC_OFFSET, DATA_CRC_OFFSET, GENERATION_OFFSET, KEY_OFFSET, LENGTH_OFFSET, MAGIC, MAGIC_OFFSET, RECORDS_OFFSET, SOURCES, VERSION_OFFSET, seal};
+use header::{
+    Bank, CHECKED_OFFSET, COMMIT_OFFSET, COMMIT_WORD, COUNT_OFFSET, CRC_OFFSET, DATA_CRC_OFFSET,
+    GENERATION_OFFSET, KEY_OFFSET, LENGTH_OFFSET, MAGIC, MAGIC_OFFSET, RECORDS_OFFSET, SOURCES,
+    VERSION_OFFSET, seal,
+};
 use leaf::bytes::{get, get_time};
 use leaf::crc::crc32;
 use record::{Block, FIRST_VERSION, VERSION, source_size};

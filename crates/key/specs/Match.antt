@@ -1,5 +1,5 @@
 -- The call `same_key`: a stored key against the key of an identity and picks.
-use Rattle.std.specs.Prelude.{List, ℕ, length, leb, Ok, Err, Result, true, false, Bool}
+use Rattle.std.specs.Prelude.{List, ℕ, length, leb, Ok, Err, Result, Bool}
 use Rattle.base.specs.Number.{pick}
 use Rattle.base.specs.Same.{same}
 use Rattle.refusal.specs.declared.Refusal.TheVariants.{Argument, Identity}

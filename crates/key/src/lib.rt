@@ -62,7 +62,12 @@ pub fn key(identity: &[u8], texts: &[u8], lengths: &[u32], out: &mut [u8]) -> Re
 }
 
 // Whether the stored key is the key of the identity and the picks.
-pub fn same_key(stored: &[u8], identity: &[u8], texts: &[u8], lengths: &[u32]) -> Result<bool, Refusal>
+pub fn same_key(
+    stored: &[u8],
+    identity: &[u8],
+    texts: &[u8],
+    lengths: &[u32],
+) -> Result<bool, Refusal>
     ensures { result ≡ match_answer stored.now identity.now texts.now lengths.now }
 {
     let mut starts: [usize; STARTS] = [0; STARTS];

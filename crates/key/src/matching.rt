@@ -1,10 +1,9 @@
 // A stored key compared with the key of an identity and picks, part by part; no key is built.
-ghost use Rattle.std.specs.Prelude.{◌≡◌, [], ◌∷◌, map, ◌+◌, ◌*◌, ◌≤◌, ◌<◌, length};
+ghost use Rattle.std.specs.Prelude.{◌≡◌, [], ◌∷◌, map, ◌<◌};
 ghost use Rattle.key.specs.Picks.{firsts};
-ghost use Rattle.key.specs.Layout.{field as field_of, entry, joined, key_of, prefix, max_picks};
+ghost use Rattle.key.specs.Layout.{field as field_of, entry, joined, key_of, prefix};
 ghost use Rattle.base.specs.Same.{same};
-ghost use Rattle.key.specs.Steps.{Rising, pick_in, Below, Left};
-ghost use Rattle.key.specs.Order.{field_count};
+ghost use Rattle.key.specs.Steps.{pick_in, Below, Left};
 
 use crate::picks::Picks;
 use crate::{FIELDS, IDENTITY_MARK, MAX_PICKS};

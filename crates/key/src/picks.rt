@@ -1,5 +1,5 @@
 // Picks: their texts cut at the lengths and tested, their order, and the distinct ones sorted.
-ghost use Rattle.std.specs.Prelude.{◌≡◌, true, [], ◌∷◌, ◌++◌, map, ◌+◌, ◌-◌, ◌*◌, ◌≤◌, ◌<◌, length, take, drop, get_or};
+ghost use Rattle.std.specs.Prelude.{◌≡◌, true, [], map, ◌+◌, ◌-◌, ◌*◌, ◌≤◌, ◌<◌, length, take, get_or};
 ghost use Rattle.key.specs.Order.{pick_order, field_count};
 ghost use Rattle.key.specs.Picks.{firsts, insert, distinct};
 ghost use Rattle.key.specs.Layout.{sized, every, entry, joined, max_picks, longest_entry};

@@ -1,10 +1,9 @@
 // The key's bytes: how many they are, and written into a buffer.
-ghost use Rattle.std.specs.Prelude.{◌≡◌, map, ◌+◌, ◌-◌, ◌*◌, ◌≤◌, ◌<◌, length};
+ghost use Rattle.std.specs.Prelude.{◌≡◌, map, ◌+◌, ◌≤◌, ◌<◌, length};
 ghost use Rattle.leaf.specs.Bytes.{written};
 ghost use Rattle.key.specs.Picks.{firsts};
-ghost use Rattle.key.specs.Layout.{field as field_of, entry, joined, key_of, prefix, max_identity, prefix_size, within, after, max_picks, longest_entry};
-ghost use Rattle.key.specs.Steps.{Rising, pick_in, Below, Small};
-ghost use Rattle.key.specs.Order.{field_count};
+ghost use Rattle.key.specs.Layout.{field as field_of, entry, joined, key_of, prefix, max_identity, prefix_size, within, after, max_picks};
+ghost use Rattle.key.specs.Steps.{pick_in, Below, Small};
 
 use crate::picks::Picks;
 use crate::{FIELDS, IDENTITY_MARK, MAX_PICKS, PREFIX_SIZE};

@@ -50,9 +50,7 @@ impl Date {
     {
         let days = month_days(year, month);
         if (1 <= year) & (year <= LAST_YEAR) & (1 <= day) & (day <= days) {
-            Some(Date(
-                (year as u32) * YEAR_WEIGHT + (month as u32) * MONTH_WEIGHT + (day as u32),
-            ))
+            Some(Date((year as u32) * YEAR_WEIGHT + (month as u32) * MONTH_WEIGHT + (day as u32)))
         } else {
             None
         }

@@ -2,37 +2,12 @@
 #![tactic(auto)]
 
 ghost use Rattle.record.specs.Claims.{Claims};
-ghost use Rattle.std.specs.Prelude.{◌≡◌, ◌++◌, ◌+◌, ◌-◌, ◌*◌, ◌≤◌, length, drop, take, set};
+ghost use Rattle.std.specs.Prelude.{◌≡◌, ◌++◌, ◌+◌, ◌-◌, ◌*◌, ◌≤◌, length};
 ghost use Rattle.std.proofs.lemmas.List.Edits.{sets};
-ghost use Rattle.leaf.specs.Bytes.{word, le32, le64, written, word_size, time_size};
+ghost use Rattle.leaf.specs.Bytes.{word, le32, written, word_size};
 ghost use Rattle.base.specs.Lists.{many, puts, fill, byte};
-ghost use Rattle.record.specs.Record.{
-  source_size,
-  table_count,
-  no_block,
-  no_source,
-  block_at,
-  block_bytes,
-  source_of,
-  decoded,
-  head_bytes,
-  table_bytes,
-  tail_bytes,
-  source_bytes,
-};
-ghost use Rattle.record.specs.Record.{
-  record_size,
-  block_size,
-  table_words,
-  original_size,
-  table_size,
-  tables_offset,
-  stamp_offset,
-  validator_offset,
-  stamp_size,
-  id_size,
-  validator_size,
-};
+ghost use Rattle.record.specs.Record.{source_size, table_count, no_block, no_source, block_at, block_bytes, source_of, decoded, head_bytes, table_bytes, tail_bytes, source_bytes};
+ghost use Rattle.record.specs.Record.{record_size, block_size, table_words, original_size, table_size, tables_offset, stamp_offset, validator_offset, stamp_size, id_size, validator_size};
 ghost use Rattle.record.specs.Types.{Sized};
 ghost use Rattle.base.specs.Table.{max_tables};
 

@@ -12,7 +12,7 @@ use Rattle.leaf.proofs.Laws.{written-sets}
 use Rattle.rfc4180.specs.Read as Csv
 use Rattle.rfc4180.proofs.Grammar.{sound, complete}
 use Rattle.refusal.specs.declared.Refusal.TheVariants.{Small, Row}
-use Rattle.std.proofs.Common.{None, Ok, Err, Some, Result, Option}
+use Rattle.std.proofs.Common.{None, Ok, Err, Result, Option}
 use Rattle.rowread.specs.Stored.{stored, part_at, row_at, values_of, values_at, joined, ends_of, found, read_answer, after}
 use Rattle.rowread.proofs.Spans.{span-parts}
 use Rattle.rowread.specs.Steps.{spanned, scan_from, scan_of, IsRow, Holds}

@@ -1,5 +1,5 @@
 -- What is proved of the reading, beside the call's promise (proofs/Table.antt).
-use Rattle.std.specs.Prelude.{ℕ, ◌+◌, ◌-◌, ◌≤◌, ◌≡◌, List, [], ◌∷◌, ◌++◌, length, drop, Ok, Err, Some, None}
+use Rattle.std.specs.Prelude.{ℕ, ◌+◌, ◌-◌, ◌≤◌, ◌≡◌, List, [], ◌∷◌, ◌++◌, length, drop, Ok, Err, None}
 use Rattle.rfc4180.specs.Csv.{Record, LoneCr, max_row}
 use Rattle.rfc4180.specs.Write.{row_of}
 use Rattle.refusal.specs.declared.Refusal.TheVariants.{Small, Row}

@@ -1,5 +1,5 @@
 -- What is proved of the rows of a bank, beside the call's promise (proofs/Tables.antt, proofs/Data.antt).
-use Rattle.std.specs.Prelude.{ℕ, ◌≤◌, ◌<◌, ◌≡◌, List, [], ◌∷◌, ◌++◌, take, drop, get_or, Ok, Some, None}
+use Rattle.std.specs.Prelude.{ℕ, ◌≤◌, ◌<◌, ◌≡◌, List, [], ◌∷◌, ◌++◌, take, drop, get_or, Ok, None}
 use Rattle.record.specs.declared.Block.{Block}
 use Rattle.record.specs.Record.{no_block}
 use Rattle.header.specs.declared.Bank.{Bank}

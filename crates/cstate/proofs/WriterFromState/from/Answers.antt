@@ -1,4 +1,4 @@
-use Rattle.writer.specs.Parts.{parts_of, whole_of}
+use Rattle.writer.specs.Parts.{whole_of}
 use Rattle.cstate.proofs.WriterFromState.from.Goals as goal
 use mathlib.Core.Path.{◌∙◌}
 use Rattle.cstate.specs.State.{writer_of}

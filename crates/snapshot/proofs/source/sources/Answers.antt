@@ -1,5 +1,5 @@
 -- A header that fails is refused; else the records below the count are read, at most three.
-use Rattle.std.proofs.Common.{true, Ok, sym, ap, ◌∙◌}
+use Rattle.std.proofs.Common.{true, sym, ◌∙◌}
 use Rattle.base.proofs.Passed.{passed-on}
 use Rattle.snapshot.proofs.source.sources.Goals as goal
 use Rattle.snapshot.proofs.Laws.{few, named-fits, sources-done, sources-bad}
