@@ -1,15 +1,15 @@
 """The functions of a .rt file and their contracts, as the tools read them."""
 import re
 
-HEAD = re.compile(r'^ *(?P<pub>pub )?(?:pub\([^)]*\) )?(?:extern "C" )?fn (?P<name>\w+)', re.M)
-END = re.compile(r"^\{?\}", re.M)
+HEAD = re.compile(r'^(?P<indent> *)(?P<pub>pub )?(?:pub\([^)]*\) )?(?:extern "C" )?fn (?P<name>\w+)', re.M)
+END = re.compile(r"^(?P<indent> *)\{?\}", re.M)
 PAIRS = {"(": ")", "[": "]", "{": "}"}
 IMPL = re.compile(r"^impl(?:<[^>{]*>)? (?:(?P<trait>[^{]*?) for )?(?P<type>[^{]*?) \{$", re.M)
 
 
 def impl_at(text, at):
     """The name that Rattle gives the impl that a place of a file is in, as KeyNumbersFromResultUsizeRefusal; none outside of one."""
-    before = [m for m in IMPL.finditer(text) if m.start() <= at < END.search(text, m.end()).end()]
+    before = [m for m in IMPL.finditer(text) if m.start() <= at < text.index("\n}", m.end())]
     return "".join(w[0].upper() + w[1:] for part in (before[0]["type"], before[0]["trait"] or "") for w in re.findall(r"(?<!')\b\w+", part)) if before else ""
 
 
@@ -17,8 +17,18 @@ def functions_of(text):
     """Each function of a file: where it begins and ends, its name, whether it is public, its text."""
     out = []
     for m in HEAD.finditer(text):
-        end = END.search(text, m.end())
+        end = next((e for e in END.finditer(text, m.end()) if e["indent"] == m["indent"]), None)
         out.append((m.start(), end.end() if end else len(text), m["name"], bool(m["pub"]), text[m.start() : end.end() if end else len(text)]))
+    return out
+
+
+def conversions_of(text):
+    """Each function of an impl that promises by a ghost member, as `From` does: where it begins and ends, and its name with the impl's."""
+    out = []
+    for m in IMPL.finditer(text):
+        end = text.index("\n}", m.end())
+        if m["trait"] and re.search(r"^    ghost \w+ = ", text[m.end() : end], re.M):
+            out += [(m.start(), e, f"{impl_at(text, b)}::{name}") for b, e, name, *_ in functions_of(text) if m.end() <= b < end]
     return out
 
 
