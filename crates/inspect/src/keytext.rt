@@ -1,7 +1,7 @@
 // A stored key taken apart: the identity, if it has one, then how many picks follow, and the five texts of each after their lengths.
 ghost use Rattle.std.specs.Iterator.{at_most};
 
-use base::number::{BYTE_VALUES, u8_to_u32};
+use base::number::u8_to_u32;
 use base::slice::part;
 use key::{FIELDS, IDENTITY_MARK, PREFIX_SIZE};
 use leaf::bytes::get8;
@@ -23,10 +23,7 @@ pub struct Parts {
 }
 
 fn identity_size(key: &[u8]) -> usize {
-    wrapping_add_usize(
-        get8(key, LENGTH_LOW) as usize,
-        get8(key, LENGTH_HIGH) as usize * BYTE_VALUES,
-    )
+    u16::from_le_bytes([get8(key, LENGTH_LOW), get8(key, LENGTH_HIGH)]) as usize
 }
 
 // The offset after the field at an offset.

@@ -90,11 +90,9 @@ fn not_trusted<W: Write>(out: &mut W, f: Found) -> io::Result<()> {
 
 // The lines of a key's bytes.
 fn key_bytes<W: Write>(out: &mut W, key: &[u8]) -> io::Result<()> {
-    let mut at: usize = 0;
-    for bytes in key.chunks(BYTES_IN_LINE) {
-        write!(out, "key {at}:")?;
+    for (line, bytes) in key.chunks(BYTES_IN_LINE).enumerate() {
+        write!(out, "key {}:", line.wrapping_mul(BYTES_IN_LINE))?;
         hex_line(out, bytes)?;
-        at = at.wrapping_add(BYTES_IN_LINE);
     }
     Ok(())
 }

@@ -94,12 +94,10 @@ fn sector_bytes(l: &[u8], k: u32) -> &[u8] {
 
 // The last sector that isn't erased; 0 if there is none.
 fn last_written(l: &[u8]) -> u32 {
-    for k in (0..SECTORS).rev() {
-        if !is_erased(sector_bytes(l, k)) {
-            return k;
-        }
-    }
-    0
+    (0..SECTORS)
+        .rev()
+        .find(|k| !is_erased(sector_bytes(l, *k)))
+        .unwrap_or(0)
 }
 
 fn numbers_of(l: &[u8], number: u32) -> Bank {

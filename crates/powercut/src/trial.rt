@@ -10,7 +10,7 @@ use crate::update::{
 };
 use crate::{kinds, strips};
 use bank::load;
-use base::slice::{part, same_bytes};
+use base::slice::part;
 use header::Bank;
 use leaf::bytes::get8;
 use leaf::crc::crc32;
@@ -149,10 +149,7 @@ fn is_found(l: Result<Option<Bank>, Refusal>, b: Bank) -> bool {
 }
 
 fn is_nothing(l: Result<Option<Bank>, Refusal>) -> bool {
-    match l {
-        Ok(None) => true,
-        _ => false,
-    }
+    matches!(l, Ok(None))
 }
 
 fn same_loaded(l: Result<Option<Bank>, Refusal>, e: Result<Option<Bank>, Refusal>) -> bool {
@@ -173,14 +170,14 @@ fn is_good(v: Result<Bank, Refusal>, b: Bank) -> bool {
 fn is_whole(region: &[u8], data: &[u8], b: Bank, n: usize) -> bool {
     let v = bank::validate(region, b.number);
     let held = part(bank_of(region, b.number), SECTOR_SIZE, n);
-    is_good(v, b) & same_bytes(held, part(data, 0, n))
+    is_good(v, b) & (held == part(data, 0, n))
 }
 
 // Whether the bank that isn't written has the bytes it had.
 fn is_kept(region: &[u8], before: &[u8], p: Plan) -> bool {
     let b = p.fresh;
     let other = if b.number == 0 { 1 } else { 0 };
-    same_bytes(bank_of(region, other), bank_of(before, other))
+    bank_of(region, other) == bank_of(before, other)
 }
 
 // Whether load gives what must be there after a cut.

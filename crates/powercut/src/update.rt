@@ -63,10 +63,7 @@ fn the_source() -> Source {
 }
 
 fn done(a: Result<Answer, Refusal>) -> bool {
-    match a {
-        Ok(Answer::Done) => true,
-        _ => false,
-    }
+    matches!(a, Ok(Answer::Done))
 }
 
 // Begins an update and its one source. `same` is the answer that a comparison must give.

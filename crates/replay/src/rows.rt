@@ -1,6 +1,5 @@
 // The lines on rows. Lengths and ends are 16-bit numbers in hexadecimal.
 use crate::text::{bytes_of, is_word, number32, offset, word, words};
-use base::number::{SECOND_BYTE, u8_to_u32};
 use base::slice::part;
 use leaf::bytes::get8;
 use program::{bytes, lengths};
@@ -25,7 +24,7 @@ pub fn names_line(l: &[u8]) -> bool {
 
 // The 16-bit number at an offset.
 fn pair(bytes: &[u8], at: usize) -> u32 {
-    u8_to_u32(get8(bytes, at)) + u8_to_u32(get8(bytes, wrapping_add_usize(at, 1))) * SECOND_BYTE
+    u16::from_le_bytes([get8(bytes, at), get8(bytes, wrapping_add_usize(at, 1))]) as u32
 }
 
 // The 16-bit numbers of bytes, 0 past the end.
@@ -69,15 +68,9 @@ pub fn row(l: &[u8]) -> bool {
 
 // Whether the first n ends are the 16-bit numbers of bytes.
 fn same_ends(ends: &[usize], bytes: &[u8], n: usize) -> bool {
-    if ends.len() < n {
-        return false;
-    }
-    for (i, end) in ends.iter().take(n).enumerate() {
-        if *end != pair(bytes, wrapping_add_usize(i, i)) as usize {
-            return false;
-        }
-    }
-    true
+    (n <= ends.len())
+        & ends.iter().take(n).enumerate().all(|(i, end)| *end
+            == pair(bytes, wrapping_add_usize(i, i)) as usize)
 }
 
 // Whether these are the ends of word 6, as many as the row has values.
