@@ -91,7 +91,7 @@ def alone(root, programs, name):
 
 def line_of(said, crate, name):
     """What is told of a function, named as in an '# each:' line or by its whole path."""
-    path = name if name.startswith(f"{crate}::") else rf"{crate}::(?:\w+::)*{name}"
+    path = name if name.startswith(f"{crate}::") else rf"{crate}::(?:\w+::)*" + name.replace("::", r"::(?:[A-Z]\w*::)?")  # of a type's method, the type too
     found = re.search(rf"^fn {path}: (.*)", said, re.M)
     return found[1] if found else ""
 
@@ -166,7 +166,8 @@ def function_refused(said, crate, name):
         return "is not refused"
     if CALLEE.match(line):
         return "is refused for a callee's sake"
-    own = re.findall(rf"proofs/(?:\w+/)*{name.replace('::', '/')}/(?:Answers|Invariants|Proof)\.antt:\S+ error: (.*)", said)
+    folder = name.replace("::", r"/(?:[A-Z]\w*/)?")
+    own = re.findall(rf"proofs/(?:\w+/)*{folder}/(?:Answers|Invariants|Proof)\.antt:\S+ error: (.*)", said)
     if own and all(FORM.search(e) for e in own) and "did not prove" not in line:
         return f"is refused for its form: {own[0][:120]}"
     return ""
