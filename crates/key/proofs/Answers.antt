@@ -2,7 +2,7 @@
 -- the definitions do, so its tests are theirs.
 use mathlib.Core.Path.{◌≡◌, refl, ap, ◌∙◌, sym}
 use mathlib.Core.Bool.{Bool, true, false}
-use mathlib.Core.List.{List, [], ◌∷◌, ◌++◌, map}
+use mathlib.Core.List.{List, ◌∷◌, ◌++◌, map}
 use Prim.Native.Nat.{ℕ, suc, ◌+◌, ◌-◌, ◌*◌, ◌%◌, ◌≤◌, ◌<◌}
 use native.Mathlib.Omega.{arith}
 use lib.ListN.{length, take, set, length-append, length-map}
@@ -22,8 +22,7 @@ use Rattle.key.specs.Steps.{Offsets, Rising, between, Ordered, Left, starts_size
 use Rattle.key.proofs.TextOffsets.{between_is, rising, pick_same, firsts_same}
 use Rattle.key.proofs.Sizes.{every-same, entry-small}
 use Rattle.key.proofs.Put.{put-put, put_first}
-use Rattle.key.proofs.Left.{then_left, not_left}
-use Rattle.std.proofs.Common.{Option, None, Ok, Err}
+use Rattle.std.proofs.Common.{Option, Ok, Err}
 use denote.Ref.{Bor}
 
 -- ---- fit
@@ -185,19 +184,11 @@ match-refused x id b l r =
     (λ h. ap Err h.0 ∙ match-unfit x id b l h.1)
     (λ h. ap Err h.0 ∙ match-identity x id b l h.1 h.2)
 
--- prefix, count byte and picks, compared one after the other
+-- prefix, count byte and picks, one after the other, are the key
 module _ (x : List ℕ) (id : Text) (ps : List Pick) (n : ℕ) (e : n ≡ length (distinct ps)) where
   parts : prefix id ++ (n % 256 ∷ joined entry (distinct ps)) ≡ key_of id ps
   unfolding key_of
   parts = ap (λ (m : ℕ). prefix id ++ (m % 256 ∷ joined entry (distinct ps))) e
 
-  pub no_prefix : Left x (prefix id) None → Left x (key_of id ps) None
-  no_prefix h = rw (← parts) (not_left x (prefix id) (n % 256 ∷ joined entry (distinct ps)) h)
-
-  module _ (a : List ℕ) (p : x ≡ prefix id ++ a) where
-    pub no_count : Left a (n % 256 ∷ []) None → Left x (key_of id ps) None
-    no_count h = rw (← parts) (then_left x (prefix id) (n % 256 ∷ joined entry (distinct ps)) a p None (not_left a (n % 256 ∷ []) (joined entry (distinct ps)) h))
-
-    pub then_picks : (b : List ℕ) → a ≡ n % 256 ∷ b → (r : Option (Bor (List ℕ))) → Left b (joined entry (distinct ps)) r → Left x (key_of id ps) r
-    then_picks b q r h =
-        rw (← parts) (then_left x (prefix id) (n % 256 ∷ joined entry (distinct ps)) a p r (then_left a (n % 256 ∷ []) (joined entry (distinct ps)) b q r h))
+  pub left_key : (r : Option (Bor (List ℕ))) → Left x (prefix id ++ (n % 256 ∷ joined entry (distinct ps))) r → Left x (key_of id ps) r
+  left_key r h = rw (← parts) h

@@ -8,7 +8,7 @@ use native.Mathlib.Omega.{arith}
 use lib.Dec.{eqb}
 use borrow.Author.Tests.{ne_eqb}
 use lib.ListN.{length, length-append, take, drop, get_or, take-append-drop}
-use Rattle.std.proofs.Common.{Option, Some, None}
+use Rattle.std.proofs.Common.{Option, Some, None, is_some}
 use Rattle.std.proofs.lemmas.List.{append_cancel_left}
 use denote.Ref.{Bor}
 use Rattle.base.specs.Same.{same}
@@ -65,3 +65,10 @@ whole x k (y ∷ r) e b h =
     let n : length x ≡ length k + suc (length r) = ap length e ∙ length-append k (y ∷ r) in
     let f : b ≡ false = h ∙ ne_eqb (suc (length r)) 0 (λ z. omega arith) in
     f ∙ not_same x k (λ q. omega (arith, n, ap length q))
+
+-- keys of one length are the same if one begins with the other
+pub told : (x k : List ℕ) → length x ≡ length k → (r : Option (Bor (List ℕ))) → Left x k r → (b : Bool) → b ≡ is_some r → b ≡ same x k
+told x k e (Some r) h b q =
+    let n : length r.now ≡ 0 = omega (arith, e, ap length h ∙ length-append k r.now) in
+    q ∙ whole x k r.now h true (rw n refl)
+told x k e None h b q = q ∙ differs x k h

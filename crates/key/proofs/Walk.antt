@@ -14,6 +14,7 @@ use Rattle.std.specs.Ordering.{nat_cmp, ordering_then, is_ne}
 use mathlib.Core.Bool.{true, false, false≢true}
 use Rattle.std.specs.Cmp.Lexicographic.{slice_cmp}
 use Rattle.std.proofs.lemmas.Cmp.{ranked, by_ranked}
+use Rattle.std.proofs.cmp.SliceLoops.{Rest}
 use Rattle.key.specs.Order.{or_else, lex, Text, Pick, text_order, pick_order}
 use Rattle.key.specs.Steps.{answer_of}
 use Rattle.key.proofs.Linear.{flip, numbers}
@@ -33,6 +34,9 @@ number-answer m n =
     (λ e h. e ∙ sym (ap answer_of {x = compare m n} {y = Ordering.eq} (rw h (numbers.self n))))
     (λ e h. e ∙ sym (ap answer_of (n-gt m n h)))
 
+pub more_is : (m n : ℕ) → n < m → Greater ≡ nat_cmp m n
+more_is m n h = sym (number-answer m n ∙ ap answer_of (n-gt m n h))
+
 then-answer : (o r : Ordering) → ordering_then (answer_of o) (answer_of r) ≡ answer_of (or_else o r)
 then-answer Ordering.lt r = refl
 then-answer Ordering.eq r = refl
@@ -47,6 +51,19 @@ text-lex (a ∷ s) (b ∷ t) = rw (number-answer a b, text-lex s t) (then-answer
 pub text-answer : (s t : Text) → slice_cmp nat_cmp s t ≡ answer_of (text_order s t)
 unfolding text_order
 text-answer s t = text-lex s t
+
+-- a byte that differs decides
+differing : (o r : Answer) → (o ≡ Equal → ⊥) → ordering_then o r ≡ o
+differing Less r h = refl
+differing Equal r h = absurd (h refl)
+differing Greater r h = refl
+
+pub byte_decides : (s t : Text) (i : ℕ) → i < length s → i < length t → Rest (slice_cmp nat_cmp) s t i → (o : Answer) → o ≡ nat_cmp (get_or s i 0) (get_or t i 0)
+    → (o ≡ Equal → ⊥) → o ≡ answer_of (text_order s t)
+byte_decides s t i hs ht so_far o here h =
+    let rest = slice_cmp nat_cmp (drop (i + 1) s) (drop (i + 1) t) in
+    let heads : slice_cmp nat_cmp (drop i s) (drop i t) ≡ ordering_then (nat_cmp (get_or s i 0) (get_or t i 0)) rest = rw (add-one, drop-cons s i 0 hs, drop-cons t i 0 ht) in
+    sym (differing o rest h) ∙ ap (λ (k : Answer). ordering_then k rest) here ∙ sym heads ∙ so_far ∙ text-answer s t
 
 -- ---- picks, text by text
 

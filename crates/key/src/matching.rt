@@ -1,11 +1,13 @@
 // A stored key compared with the key of an identity and picks, part by part; no key is built.
-ghost use Rattle.std.specs.Prelude.{◌≡◌, [], ◌∷◌, map, ◌<◌};
+ghost use Rattle.std.specs.Prelude.{◌≡◌, [], ◌∷◌, ◌++◌, map, ◌%◌, ◌≤◌, ◌<◌, length};
+ghost use Rattle.base.specs.Number.{byte_values};
 ghost use Rattle.key.specs.Picks.{firsts};
-ghost use Rattle.key.specs.Layout.{field as field_of, entry, joined, key_of, prefix};
+ghost use Rattle.key.specs.Layout.{field as field_of, entry, joined, key_of, prefix, max_identity};
 ghost use Rattle.base.specs.Same.{same};
 ghost use Rattle.key.specs.Steps.{pick_in, Below, Left};
 
 use crate::picks::Picks;
+use crate::write::key_length;
 use crate::{FIELDS, IDENTITY_MARK, MAX_PICKS};
 use base::number::BYTE_VALUES;
 
@@ -59,23 +61,31 @@ fn match_prefix<'a>(stored: &'a [u8], identity: &[u8]) -> Option<&'a [u8]>
     rest.strip_prefix(identity)
 }
 
-// The whole key: the prefix, the count byte and the sorted picks.
-fn match_parts<'a>(stored: &'a [u8], identity: &[u8], picks: &Picks) -> Option<&'a [u8]>
-    ensures { Left stored.now (key_of identity.now (firsts picks.now.n (pick_in picks.now.texts.now picks.now.starts.now))) result }
+// The prefix, the count byte and the sorted picks.
+fn match_parts<'a>(
+    stored: &'a [u8],
+    identity: &[u8],
+    picks: &Picks,
+    sorted: &[usize],
+) -> Option<&'a [u8]>
+    requires { Below picks.now.n sorted.now }
+    ensures { Left stored.now (prefix identity.now ++ length sorted.now % byte_values ∷ joined entry (map (pick_in picks.now.texts.now picks.now.starts.now) sorted.now)) result }
+{
+    let rest = match_prefix(stored, identity)?;
+    let rest = match_byte(rest, (sorted.len() % BYTE_VALUES) as u8)?;
+    match_picks(rest, picks, sorted)
+}
+
+// Whether the stored key is the key of an identity and the picks. A key of another length is told by that alone.
+pub(crate) fn match_key(stored: &[u8], identity: &[u8], picks: &Picks) -> bool
+    requires { length identity.now ≤ max_identity }
+    ensures { result ≡ same stored.now (key_of identity.now (firsts picks.now.n (pick_in picks.now.texts.now picks.now.starts.now))) }
 {
     let mut order: [usize; MAX_PICKS] = [0; MAX_PICKS];
     let m = picks.sort(&mut order);
-    let rest = match_prefix(stored, identity)?;
-    let rest = match_byte(rest, (m % BYTE_VALUES) as u8)?;
-    match_picks(rest, picks, &order[0..m])
-}
-
-// Whether the stored key is the key of an identity and the picks.
-pub(crate) fn match_key(stored: &[u8], identity: &[u8], picks: &Picks) -> bool
-    ensures { result ≡ same stored.now (key_of identity.now (firsts picks.now.n (pick_in picks.now.texts.now picks.now.starts.now))) }
-{
-    match match_parts(stored, identity, picks) {
-        Some(rest) => rest.is_empty(),
-        None => false,
+    let sorted = &order[0..m];
+    if stored.len() != key_length(identity, picks, sorted) {
+        return false;
     }
+    match_parts(stored, identity, picks, sorted).is_some()
 }

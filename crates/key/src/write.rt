@@ -22,20 +22,21 @@ fn prefix_length(identity: &[u8]) -> usize
 }
 
 // How many bytes the key of an identity and the sorted picks has.
-fn key_length(identity: &[u8], picks: &Picks, sorted: &[usize]) -> usize
+pub(crate) fn key_length(identity: &[u8], picks: &Picks, sorted: &[usize]) -> usize
     requires { Below picks.now.n sorted.now × (length sorted.now ≤ max_picks) × (length identity.now ≤ max_identity) }
     ensures { result ≡ length (prefix identity.now) + 1 + length (joined entry (map (pick_in picks.now.texts.now picks.now.starts.now) sorted.now)) }
 {
     prefix_length(identity) + 1 + picks.entries_length(sorted)
 }
 
-// Copies s to out at an offset.
+// Copies s to out at an offset, byte by byte: copy_from_slice would be a call of C's memmove, which the archive doesn't need otherwise.
 fn put_bytes(out: &mut [u8], at: usize, s: &[u8])
     requires { at + length s.now ≤ length out.old }
     ensures { out.new ≡ written out.old at s.now }
 {
-    let end = at + s.len();
-    out[at..end].copy_from_slice(s);
+    for (i, b) in s.iter().enumerate() {
+        out[at + i] = *b;
+    }
 }
 
 // Writes a text after its length byte.

@@ -1,9 +1,9 @@
 -- The first different field decides (`found`).
-use Rattle.std.proofs.Common.{◌∙◌, arith}
+use Rattle.std.proofs.Common.{arith}
 use Rattle.key.specs.Steps.{pick_in, between}
 use Rattle.key.proofs.picks.Picks.order.Goals as goal
 use Rattle.key.proofs.TextOffsets.{five}
-use Rattle.key.proofs.Walk.{text-answer, ne-true, ne-false, found, further, all_same}
+use Rattle.key.proofs.Walk.{ne-true, ne-false, found, further, all_same}
 
 pub returns-then-is_ne : goal.returns-then-is_ne
 returns-then-is_ne c =
@@ -11,10 +11,10 @@ returns-then-is_ne c =
     let a = c.args in
     let p = pick_in a.self.now.texts.now a.self.now.starts.now a.i in
     let q = pick_in a.self.now.texts.now a.self.now.starts.now a.j in
-    let o = c.cmp-o in
+    let o = c.bytes_order-o in
     let hp = five (between a.self.now.texts.now a.self.now.starts.now) a.i in
     let hq = five (between a.self.now.texts.now a.self.now.starts.now) a.j in
-    let e = rw (c.field-a.ensures, c.field-b.ensures) at (o.ensures ∙ text-answer c.field-a.result.now c.field-b.result.now) in
+    let e = rw (c.field-a.ensures, c.field-b.ensures) at o.ensures in
     found p q l.f o.result (omega arith) (omega arith) l.invariant e (ne-true o.result c.if-is_ne.ensures)
 
 pub loop-f-preserved : goal.loop-f-preserved
@@ -23,10 +23,10 @@ loop-f-preserved c =
     let a = c.args in
     let p = pick_in a.self.now.texts.now a.self.now.starts.now a.i in
     let q = pick_in a.self.now.texts.now a.self.now.starts.now a.j in
-    let o = c.cmp-o in
+    let o = c.bytes_order-o in
     let hp = five (between a.self.now.texts.now a.self.now.starts.now) a.i in
     let hq = five (between a.self.now.texts.now a.self.now.starts.now) a.j in
-    let e = rw (c.field-a.ensures, c.field-b.ensures) at (o.ensures ∙ text-answer c.field-a.result.now c.field-b.result.now) in
+    let e = rw (c.field-a.ensures, c.field-b.ensures) at o.ensures in
     further p q l.f o.result (omega arith) (omega arith) l.invariant e (ne-false o.result c.if-is_ne.ensures)
 
 pub returns : goal.returns
