@@ -17,12 +17,14 @@ use writer::{
     parts_of, stage_of, step_with,
 };
 
-// Puts bytes into the tail at an offset.
+// Puts bytes into the tail at an offset, one by one: copy_from_slice would be a call of C's memmove, which the archive doesn't need otherwise.
 fn put_tail(tail: &mut [u8; TAIL_SIZE], at: usize, bytes: &[u8])
     requires { at + length bytes.now ≤ tail_size }
     ensures { tail.new ≡ sets tail.old at bytes.now }
 {
-    tail[at..at + bytes.len()].copy_from_slice(bytes);
+    for (i, b) in bytes.iter().enumerate() {
+        tail[at + i] = *b;
+    }
 }
 
 // The answer, how many bytes are appended and at which offset of the tail, and what else they change.

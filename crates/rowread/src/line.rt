@@ -59,21 +59,24 @@ fn search_line(t: &[u8], marks: &mut [usize]) -> Found
     Found::Commas(commas)
 }
 
-// Copies the bytes of t from one offset to another to out.
+// Copies the bytes of t from one offset to another to out, byte by byte: copy_from_slice would be a call of C's memmove, which the archive doesn't need otherwise.
 pub(crate) fn copy_part(t: &[u8], from: usize, end: usize, out: &mut [u8], to: usize)
     requires { (from ≤ end) × (end ≤ length t.now) × (to + (end - from) ≤ length out.old) }
     ensures { out.new ≡ sets out.old to (take (end - from) (drop from t.now)) }
 {
-    let until = to + (end - from);
-    out[to..until].copy_from_slice(&t[from..end]);
+    for (i, b) in t[from..end].iter().enumerate() {
+        out[to + i] = *b;
+    }
 }
 
-// Copies a block.
+// Copies a block at once, since its length is a constant.
 pub(crate) fn copy_block(t: &[u8], from: usize, out: &mut [u8], to: usize)
     requires { (from + block_size ≤ length t.now) × (to + block_size ≤ length out.old) }
     ensures { out.new ≡ sets out.old to (take block_size (drop from t.now)) }
 {
-    copy_part(t, from, from + BLOCK, out, to);
+    let until = to + BLOCK;
+    let end = from + BLOCK;
+    out[to..until].copy_from_slice(&t[from..end]);
 }
 
 // Copies n bytes by blocks; up to a block after them is overwritten too.
