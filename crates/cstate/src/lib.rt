@@ -400,7 +400,8 @@ pub fn after_parts(
     UpdateStep { numbers, state: v }
 }
 
-// What a call on a state gives back; on a refusal the state is unchanged.
+// What a call on a state gives back; on a refusal the state is unchanged. Inlined, so that neither the step nor the state is copied for a call.
+#[inline(always)]
 pub fn after(s: Step, state: State) -> UpdateStep
     ensures { result ≡ Answers.after s state }
 {
