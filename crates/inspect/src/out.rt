@@ -1,4 +1,5 @@
 // Pieces of a line on standard output.
+use crate::text::digits;
 use program::output::put;
 use refusal::Refusal;
 use region::CAPACITY_64;
@@ -7,6 +8,11 @@ use std::{fmt, io};
 
 // How many bytes a line in hexadecimal has at most.
 pub const BYTES_IN_LINE: usize = 32;
+
+// What a byte takes in it: a space and two digits.
+const SPELLED: usize = 3;
+
+const LINE_SIZE: usize = SPELLED * BYTES_IN_LINE;
 
 // A refusal's word.
 pub fn word(r: Refusal) -> &'static str {
@@ -58,10 +64,14 @@ impl fmt::Display for Share {
     }
 }
 
-// Bytes in hexadecimal, each after a space, and the line's end.
+// At most 32 bytes in hexadecimal, each after a space, and the line's end. They are written at once.
 pub fn hex_line<W: Write>(out: &mut W, bytes: &[u8]) -> io::Result<()> {
-    for b in bytes {
-        write!(out, " {:02x}", *b)?;
+    let mut line = [b' '; LINE_SIZE];
+    let (cells, _) = line.as_chunks_mut::<SPELLED>();
+    for (cell, b) in cells.iter_mut().zip(bytes) {
+        let [high, low] = digits(*b);
+        *cell = [b' ', high, low];
     }
+    put(out, &line[..SPELLED * bytes.len().min(BYTES_IN_LINE)])?;
     put(out, b"\n")
 }

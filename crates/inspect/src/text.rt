@@ -6,6 +6,11 @@ use std::{io, str};
 // A character has at most so many bytes.
 const LONGEST: usize = 4;
 
+// The hexadecimal digits, and how many they are.
+const HEX: u8 = 16;
+
+static DIGITS: [u8; HEX as usize] = *b"0123456789abcdef";
+
 // Whether a character isn't for the eye: controls, the soft hyphen, marks and overrides of the direction, joiners, separators of lines, the
 // byte order mark and what is after it, tags.
 fn is_hidden(c: char) -> bool {
@@ -32,24 +37,31 @@ fn is_shown(c: char, json: bool) -> bool {
     }
 }
 
+// The two hexadecimal digits of a byte. A `write!` for each byte is two to five times the work of what prints it.
+pub fn digits(b: u8) -> [u8; 2] {
+    [DIGITS[usize::from(b / HEX)], DIGITS[usize::from(b % HEX)]]
+}
+
 // Prints bytes as \xNN, in JSON as \u00NN.
 fn put_escaped<W: Write>(out: &mut W, bytes: &[u8], json: bool) -> io::Result<()> {
     for b in bytes {
+        let [high, low] = digits(*b);
         if json {
-            write!(out, "\\u00{:02x}", *b)?;
+            put(out, &[b'\\', b'u', b'0', b'0', high, low])?;
         } else {
-            write!(out, "\\x{:02x}", *b)?;
+            put(out, &[b'\\', b'x', high, low])?;
         }
     }
     Ok(())
 }
 
 fn put_char<W: Write>(out: &mut W, c: char, json: bool) -> io::Result<()> {
-    if is_shown(c, json) {
-        return write!(out, "{c}");
-    }
     let mut space = [0u8; LONGEST];
-    put_escaped(out, c.encode_utf8(&mut space).as_bytes(), json)
+    let bytes = c.encode_utf8(&mut space).as_bytes();
+    if is_shown(c, json) {
+        return put(out, bytes);
+    }
+    put_escaped(out, bytes, json)
 }
 
 // Prints a text, without quotes.
@@ -66,7 +78,7 @@ pub fn put_text<W: Write>(out: &mut W, s: &[u8], json: bool) -> io::Result<()> {
 // Prints bytes in hexadecimal.
 pub fn put_hex<W: Write>(out: &mut W, s: &[u8]) -> io::Result<()> {
     for b in s {
-        write!(out, "{:02x}", *b)?;
+        put(out, &digits(*b))?;
     }
     Ok(())
 }
