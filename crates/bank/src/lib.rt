@@ -83,5 +83,8 @@ pub fn load(region: &[u8]) -> Result<Option<Bank>, Refusal>
     if let Ok(b) = validate(region, first) {
         return Ok(Some(b));
     }
-    Ok(validate(region, LAST_BANK - first).ok())
+    if let Ok(other) = validate(region, LAST_BANK - first) {
+        return Ok(Some(other));
+    }
+    Ok(None)
 }

@@ -1,9 +1,9 @@
--- By cases: no region, the first bank passes, or the answer is the second bank's. `validate` answers for each bank, and the bank tried first is
+-- By cases: no region, the first bank passes, the second does, neither does. `validate` answers for each bank, and the bank tried first is
 -- the definition's.
 use Rattle.std.proofs.Common.{◌≡◌, ◌-◌, ℕ, Ok, sym, ap, ◌∙◌}
 use Rattle.bank.proofs.load.Goals as goal
 use Rattle.bank.specs.Bank.{validated, first_tried}
-use Rattle.bank.proofs.Laws.{load-no-region, load-first, load-other}
+use Rattle.bank.proofs.Laws.{load-no-region, load-first, load-second, load-none}
 use borrow.Author.Tests.{eq-eqb, ne_eqb}
 
 pub returns-then-region-ne-REGION_SIZE : goal.returns-then-region-ne-REGION_SIZE
@@ -15,9 +15,16 @@ returns-in-Ok c =
     let e : validated r (first_tried r) ≡ _ = ap (validated r) (sym c.first_tried-first.ensures.0) ∙ sym c.in-Ok.ensures in
     load-first r _ (eq-eqb _ _ c.if-region-ne-REGION_SIZE.false) e
 
+pub returns-in-Ok-validate : goal.returns-in-Ok-validate
+returns-in-Ok-validate c =
+    let r = c.args.region.now in
+    let e : validated r (first_tried r) ≡ _ = ap (validated r) (sym c.first_tried-first.ensures.0) ∙ sym c.in_default.ensures in
+    let g : validated r (1 - first_tried r) ≡ _ = ap (λ (k : ℕ). validated r (1 - k)) (sym c.first_tried-first.ensures.0) ∙ sym c.in-Ok-validate.ensures in
+    load-second r _ _ (eq-eqb _ _ c.if-region-ne-REGION_SIZE.false) e g
+
 pub returns : goal.returns
 returns c =
     let r = c.args.region.now in
     let e : validated r (first_tried r) ≡ _ = ap (validated r) (sym c.first_tried-first.ensures.0) ∙ sym c.in_default.ensures in
-    let g : validated r (1 - first_tried r) ≡ _ = ap (λ (k : ℕ). validated r (1 - k)) (sym c.first_tried-first.ensures.0) ∙ sym c.validate-2.ensures in
-    ap Ok c.ok.ensures.value ∙ load-other r _ _ (eq-eqb _ _ c.if-region-ne-REGION_SIZE.false) e g
+    let g : validated r (1 - first_tried r) ≡ _ = ap (λ (k : ℕ). validated r (1 - k)) (sym c.first_tried-first.ensures.0) ∙ sym c.in_default-validate.ensures in
+    load-none r _ _ (eq-eqb _ _ c.if-region-ne-REGION_SIZE.false) e g
