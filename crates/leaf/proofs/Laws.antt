@@ -171,6 +171,13 @@ module _ (l : List ℕ) (at : ℕ) (v : List ℕ) (k : ℕ) where
         outside (k + 3) (omega arith) (omega arith) o,
       )
 
+pub time-other : (l : List ℕ) (at : ℕ) (v : List ℕ) (k : ℕ) → (k + 8 ≤ at) ⊎ (at + length v ≤ k) → time (written l at v) k ≡ time l k
+unfolding time
+time-other l at v k o =
+    let e : word (written l at v) k ≡ word l k = word-other l at v k (⊎_elim (λ p. inl (omega arith)) (λ p. inr (omega arith)) o) in
+    let f : word (written l at v) (k + 4) ≡ word l (k + 4) = word-other l at v (k + 4) (⊎_elim (λ p. inl (omega arith)) (λ p. inr (omega arith)) o) in
+    rw (e, f)
+
 -- generations
 
 newer-is : (a b : ℕ) → newer a b ≡ (ltb 0 (wrapping_sub32 a b) && ltb (wrapping_sub32 a b) 2147483648)
