@@ -37,6 +37,9 @@ number-answer m n =
 pub more_is : (m n : ℕ) → n < m → Greater ≡ nat_cmp m n
 more_is m n h = sym (number-answer m n ∙ ap answer_of (n-gt m n h))
 
+pub less_is : (m n : ℕ) → m < n → Less ≡ nat_cmp m n
+less_is m n h = sym (number-answer m n ∙ ap answer_of (n-lt m n h))
+
 then-answer : (o r : Ordering) → ordering_then (answer_of o) (answer_of r) ≡ answer_of (or_else o r)
 then-answer Ordering.lt r = refl
 then-answer Ordering.eq r = refl

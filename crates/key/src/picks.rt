@@ -26,8 +26,11 @@ fn bytes_order(a: &[u8], b: &[u8]) -> Ordering
         if i == b.len() {
             return Ordering::Greater;
         }
-        if a[i] != b[i] {
-            return a[i].cmp(&b[i]);
+        if a[i] < b[i] {
+            return Ordering::Less;
+        }
+        if b[i] < a[i] {
+            return Ordering::Greater;
         }
     }
     a[FEW..].cmp(&b[FEW..])

@@ -1,11 +1,10 @@
 -- A byte that differs decides (`byte_decides`). Where none has and one text ends, the lengths decide (`ended`); else the rests do.
-use Rattle.std.proofs.Common.{◌≡◌, ◌∙◌, ◌-◌, ◌<◌, List, ℕ, sym, length, take, drop, get_or, arith, length-drop}
+use Rattle.std.proofs.Common.{◌≡◌, ◌∙◌, ◌-◌, ◌<◌, List, ℕ, length, take, drop, get_or, arith, length-drop}
 use Rattle.std.specs.Ordering.{nat_cmp}
-use Rattle.std.specs.declared.cmp.Ordering.TheVariants.{Greater}
-use Rattle.std.specs.FinMap.{nat_cmp-IsAntisymmetric}
+use Rattle.std.specs.declared.cmp.Ordering.TheVariants.{Less, Greater}
 use Rattle.std.proofs.lemmas.List.{take_all}
 use Rattle.std.proofs.cmp.SliceLoops.{ended}
-use Rattle.key.proofs.Walk.{byte_decides, more_is, text-answer}
+use Rattle.key.proofs.Walk.{byte_decides, less_is, more_is, text-answer}
 use Rattle.key.proofs.picks.bytes_order.Goals as goal
 
 pub returns-then-i-a : goal.returns-then-i-a
@@ -28,9 +27,16 @@ returns-then-a-i c =
     let a = c.args.a.now in
     let b = c.args.b.now in
     let l = c.loop-i in
-    let o = c.cmp-then-a-i in
-    byte_decides a b l.i (omega (arith, l.invariant.0, c.if-i-a.false, c.if-i-b.false)) (omega (arith, l.invariant.0, c.if-i-a.false, c.if-i-b.false)) l.invariant.1 o.result o.ensures
-    (λ e. c.if-a-i.true (nat_cmp-IsAntisymmetric (get_or a l.i 0) (get_or b l.i 0) (sym o.ensures ∙ e)))
+    byte_decides a b l.i (omega (arith, l.invariant.0, c.if-i-a.false, c.if-i-b.false)) (omega (arith, l.invariant.0, c.if-i-a.false, c.if-i-b.false)) l.invariant.1 Less
+    (less_is (get_or a l.i 0) (get_or b l.i 0) c.if-a-i.true) (λ e. cc)
+
+pub returns-then-b-i : goal.returns-then-b-i
+returns-then-b-i c =
+    let a = c.args.a.now in
+    let b = c.args.b.now in
+    let l = c.loop-i in
+    byte_decides a b l.i (omega (arith, l.invariant.0, c.if-i-a.false, c.if-i-b.false)) (omega (arith, l.invariant.0, c.if-i-a.false, c.if-i-b.false)) l.invariant.1 Greater
+    (more_is (get_or a l.i 0) (get_or b l.i 0) c.if-b-i.true) (λ e. cc)
 
 pub returns : goal.returns
 returns c =
