@@ -37,7 +37,7 @@ fn is_shown(c: char, json: bool) -> bool {
     }
 }
 
-// The two hexadecimal digits of a byte. A `write!` for each byte is two to five times the work of what prints it.
+// The two hexadecimal digits of a byte; a `write!` for each byte took up to five times the instructions.
 pub fn digits(b: u8) -> [u8; 2] {
     [DIGITS[usize::from(b / HEX)], DIGITS[usize::from(b % HEX)]]
 }

@@ -40,6 +40,9 @@ more_is m n h = sym (number-answer m n ∙ ap answer_of (n-gt m n h))
 pub less_is : (m n : ℕ) → m < n → Less ≡ nat_cmp m n
 less_is m n h = sym (number-answer m n ∙ ap answer_of (n-lt m n h))
 
+pub same_is : (n : ℕ) → Equal ≡ nat_cmp n n
+same_is n = sym (number-answer n n ∙ ap answer_of (numbers.self n))
+
 then-answer : (o r : Ordering) → ordering_then (answer_of o) (answer_of r) ≡ answer_of (or_else o r)
 then-answer Ordering.lt r = refl
 then-answer Ordering.eq r = refl
@@ -67,6 +70,14 @@ byte_decides s t i hs ht so_far o here h =
     let rest = slice_cmp nat_cmp (drop (i + 1) s) (drop (i + 1) t) in
     let heads : slice_cmp nat_cmp (drop i s) (drop i t) ≡ ordering_then (nat_cmp (get_or s i 0) (get_or t i 0)) rest = rw (add-one, drop-cons s i 0 hs, drop-cons t i 0 ht) in
     sym (differing o rest h) ∙ ap (λ (k : Answer). ordering_then k rest) here ∙ sym heads ∙ so_far ∙ text-answer s t
+
+-- equal bytes leave the rests to compare
+pub byte_goes_on : (s t : Text) → 0 < length s → 0 < length t → get_or s 0 0 ≡ get_or t 0 0 → answer_of (text_order (drop 1 s) (drop 1 t)) ≡ answer_of (text_order s t)
+byte_goes_on s t hs ht e =
+    let rest = slice_cmp nat_cmp (drop 1 s) (drop 1 t) in
+    let heads : slice_cmp nat_cmp s t ≡ ordering_then (nat_cmp (get_or s 0 0) (get_or t 0 0)) rest = rw (drop-cons s 0 0 hs, drop-cons t 0 0 ht) in
+    let equal : ordering_then (nat_cmp (get_or s 0 0) (get_or t 0 0)) rest ≡ rest = rw (e, ← same_is (get_or t 0 0)) in
+    sym (text-answer (drop 1 s) (drop 1 t)) ∙ sym equal ∙ sym heads ∙ text-answer s t
 
 -- ---- picks, text by text
 

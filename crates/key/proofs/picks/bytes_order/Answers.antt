@@ -43,6 +43,6 @@ returns c =
     let a = c.args.a.now in
     let b = c.args.b.now in
     let l = c.loop-i in
-    let i : l.i ≡ 16 = omega (arith, c.loop-i-test.false, l.auto.i-end) in
-    let all : (s : List ℕ) → take (length s - 16) (drop 16 s) ≡ drop 16 s = λ s. take_all (length s - 16) (drop 16 s) (omega (arith, length-drop 16 s)) in
+    let i : l.i ≡ 4 = omega (arith, c.loop-i-test.false, l.auto.i-end) in
+    let all : (s : List ℕ) → take (length s - 4) (drop 4 s) ≡ drop 4 s = λ s. take_all (length s - 4) (drop 4 s) (omega (arith, length-drop 4 s)) in
     c.cmp-2.ensures ∙ rw (all a, all b) (rw i at l.invariant.1) ∙ text-answer a b
