@@ -64,12 +64,21 @@ fn put_char<W: Write>(out: &mut W, c: char, json: bool) -> io::Result<()> {
     put_escaped(out, bytes, json)
 }
 
+// Prints characters; most texts have none that is hidden, and are written at once.
+fn put_characters<W: Write>(out: &mut W, text: &str, json: bool) -> io::Result<()> {
+    if text.chars().all(|c| is_shown(c, json)) {
+        return put(out, text.as_bytes());
+    }
+    for c in text.chars() {
+        put_char(out, c, json)?;
+    }
+    Ok(())
+}
+
 // Prints a text, without quotes.
 pub fn put_text<W: Write>(out: &mut W, s: &[u8], json: bool) -> io::Result<()> {
     for chunk in s.utf8_chunks() {
-        for c in chunk.valid().chars() {
-            put_char(out, c, json)?;
-        }
+        put_characters(out, chunk.valid(), json)?;
         put_escaped(out, chunk.invalid(), json)?;
     }
     Ok(())
