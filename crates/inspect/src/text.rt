@@ -78,7 +78,9 @@ fn put_characters<W: Write>(out: &mut W, text: &str, json: bool) -> io::Result<(
 // Prints a text, without quotes.
 pub fn put_text<W: Write>(out: &mut W, s: &[u8], json: bool) -> io::Result<()> {
     for chunk in s.utf8_chunks() {
-        put_characters(out, chunk.valid(), json)?;
+        if !chunk.valid().is_empty() {
+            put_characters(out, chunk.valid(), json)?;
+        }
         put_escaped(out, chunk.invalid(), json)?;
     }
     Ok(())
