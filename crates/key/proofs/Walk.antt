@@ -72,12 +72,13 @@ byte_decides s t i hs ht so_far o here h =
     sym (differing o rest h) ∙ ap (λ (k : Answer). ordering_then k rest) here ∙ sym heads ∙ so_far ∙ text-answer s t
 
 -- equal bytes leave the rests to compare
-pub byte_goes_on : (s t : Text) → 0 < length s → 0 < length t → get_or s 0 0 ≡ get_or t 0 0 → answer_of (text_order (drop 1 s) (drop 1 t)) ≡ answer_of (text_order s t)
-byte_goes_on s t hs ht e =
-    let rest = slice_cmp nat_cmp (drop 1 s) (drop 1 t) in
-    let heads : slice_cmp nat_cmp s t ≡ ordering_then (nat_cmp (get_or s 0 0) (get_or t 0 0)) rest = rw (drop-cons s 0 0 hs, drop-cons t 0 0 ht) in
-    let equal : ordering_then (nat_cmp (get_or s 0 0) (get_or t 0 0)) rest ≡ rest = rw (e, ← same_is (get_or t 0 0)) in
-    sym (text-answer (drop 1 s) (drop 1 t)) ∙ sym equal ∙ sym heads ∙ text-answer s t
+pub byte_goes_on : (s t : Text) (i : ℕ) → i < length s → i < length t → Rest (slice_cmp nat_cmp) s t i → get_or s i 0 ≡ get_or t i 0
+    → answer_of (text_order (drop (i + 1) s) (drop (i + 1) t)) ≡ answer_of (text_order s t)
+byte_goes_on s t i hs ht so_far e =
+    let rest = slice_cmp nat_cmp (drop (i + 1) s) (drop (i + 1) t) in
+    let heads : slice_cmp nat_cmp (drop i s) (drop i t) ≡ ordering_then (nat_cmp (get_or s i 0) (get_or t i 0)) rest = rw (add-one, drop-cons s i 0 hs, drop-cons t i 0 ht) in
+    let equal : ordering_then (nat_cmp (get_or s i 0) (get_or t i 0)) rest ≡ rest = rw (e, ← same_is (get_or t i 0)) in
+    sym (text-answer (drop (i + 1) s) (drop (i + 1) t)) ∙ sym equal ∙ sym heads ∙ so_far ∙ text-answer s t
 
 -- ---- picks, text by text
 
@@ -105,6 +106,13 @@ agree Ordering.lt r h = cc
 agree Ordering.eq r h = refl
 agree Ordering.gt r h = cc
 
+pub all_same : (p q : Pick) (f : ℕ) → length p ≤ f → length q ≤ f → lex text_order p q ≡ lex text_order (drop f p) (drop f q)
+    → Equal ≡ answer_of (pick_order p q)
+unfolding pick_order
+all_same p q f hp hq e =
+    let ended : lex text_order (drop f p) (drop f q) ≡ Ordering.eq = rw (drop_of_length-le p hp, drop_of_length-le q hq) in
+    sym (ap answer_of (e ∙ ended))
+
 module _ (p q : Pick) (f : ℕ) (o : Answer) (hp : f < length p) (hq : f < length q)
     (so_far : lex text_order p q ≡ lex text_order (drop f p) (drop f q)) (here : o ≡ answer_of (text_order (get_or p f []) (get_or q f []))) where
   pub found : (o ≡ Equal → ⊥) → o ≡ answer_of (pick_order p q)
@@ -115,9 +123,11 @@ module _ (p q : Pick) (f : ℕ) (o : Answer) (hp : f < length p) (hq : f < lengt
   pub further : o ≡ Equal → lex text_order p q ≡ lex text_order (drop (f + 1) p) (drop (f + 1) q)
   further h = so_far ∙ heads p q f hp hq ∙ agree (text_order (get_or p f []) (get_or q f [])) _ (sym here ∙ h)
 
-pub all_same : (p q : Pick) (f : ℕ) → length p ≤ f → length q ≤ f → lex text_order p q ≡ lex text_order (drop f p) (drop f q)
-    → Equal ≡ answer_of (pick_order p q)
-unfolding pick_order
-all_same p q f hp hq e =
-    let ended : lex text_order (drop f p) (drop f q) ≡ Ordering.eq = rw (drop_of_length-le p hp, drop_of_length-le q hq) in
-    sym (ap answer_of (e ∙ ended))
+  -- the last texts decide where all before them are equal
+  pub last_decides : length p ≤ f + 1 → length q ≤ f + 1 → o ≡ answer_of (pick_order p q)
+  last_decides ep eq = go o refl
+    where
+      go : (k : Answer) → o ≡ k → o ≡ answer_of (pick_order p q)
+      go Less e = found (λ h. let d : Less ≡ Equal = sym e ∙ h in cc)
+      go Equal e = e ∙ all_same p q (f + 1) ep eq (further e)
+      go Greater e = found (λ h. let d : Greater ≡ Equal = sym e ∙ h in cc)

@@ -11,19 +11,27 @@ use std::cmp::Ordering;
 
 const SIZES: [usize; FIELDS] = [8, 32, 16, 32, 64];
 
-// How many bytes of two texts are compared one by one before std's cmp goes on in groups.
-const FEW: usize = 4;
+// A text of more bytes than SHORT is compared byte by byte up to byte LAST_SINGLE, and by std's cmp from there on: in groups, but by a call.
+const SHORT: usize = 16;
 
-// Bytewise order. Not inlined: LLVM would unroll this loop in place of the one over the fields.
+const LAST_SINGLE: usize = 3;
+
+// Bytewise order of what is left of two texts. Cold: few picks get here, and LLVM keeps the fields' loop unrolled.
+#[cold]
 #[inline(never)]
-fn bytes_order(a: &[u8], b: &[u8]) -> Ordering
+fn rests_order(a: &[u8], b: &[u8]) -> Ordering
     ensures { result ≡ answer_of (text_order a.now b.now) }
 {
-    for i in 0..FEW {
-        if i == a.len() {
-            return a.len().cmp(&b.len());
-        }
-        if i == b.len() {
+    a.cmp(b)
+}
+
+// Bytewise order.
+#[inline(always)]
+fn order(a: &[u8], b: &[u8]) -> Ordering
+    ensures { result ≡ answer_of (text_order a.now b.now) }
+{
+    for i in 0..a.len() {
+        if b.len() <= i {
             return Ordering::Greater;
         }
         if a[i] < b[i] {
@@ -32,32 +40,14 @@ fn bytes_order(a: &[u8], b: &[u8]) -> Ordering
         if b[i] < a[i] {
             return Ordering::Greater;
         }
+        if i == LAST_SINGLE && SHORT < a.len() {
+            return rests_order(&a[i + 1..], &b[i + 1..]);
+        }
     }
-    a[FEW..].cmp(&b[FEW..])
-}
-
-// Bytewise order. Most texts are empty or differ in the first byte: that is told here, which costs no call.
-#[inline(always)]
-fn order(a: &[u8], b: &[u8]) -> Ordering
-    ensures { result ≡ answer_of (text_order a.now b.now) }
-{
-    if a.len() == 0 {
-        return if b.len() == 0 {
-            Ordering::Equal
-        } else {
-            Ordering::Less
-        };
-    }
-    if b.len() == 0 {
-        return Ordering::Greater;
-    }
-    if a[0] < b[0] {
+    if a.len() < b.len() {
         return Ordering::Less;
     }
-    if b[0] < a[0] {
-        return Ordering::Greater;
-    }
-    bytes_order(&a[1..], &b[1..])
+    Ordering::Equal
 }
 
 // The offsets of texts 0 to m: each after the texts before it, at most the end.
@@ -126,12 +116,12 @@ impl<'a> Picks<'a> {
         text(self.texts, self.starts, first + NAME_FIELD)
     }
 
-    // The order of two picks.
+    // The order of two picks. The name stands apart: so the loop asks of no field whether it is the name.
     fn order(&self, i: usize, j: usize) -> Ordering
         requires { (i < self.now.n) × (j < self.now.n) }
         ensures { result ≡ answer_of (pick_order (pick_in self.now.texts.now self.now.starts.now i) (pick_in self.now.texts.now self.now.starts.now j)) }
     {
-        for f in 0..FIELDS {
+        for f in 0..NAME_FIELD {
             let a = self.field(i, f);
             let b = self.field(j, f);
             let o = order(a, b);
@@ -139,7 +129,9 @@ impl<'a> Picks<'a> {
                 return o;
             }
         }
-        Ordering::Equal
+        let a = self.field(i, NAME_FIELD);
+        let b = self.field(j, NAME_FIELD);
+        order(a, b)
     }
 
     // The index at which pick i is inserted among the sorted ones, None if it is among them.
